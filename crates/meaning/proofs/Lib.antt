@@ -1,0 +1,10 @@
+pub mod Events
+pub mod Runs
+pub mod Binding
+pub mod Comparing
+pub mod Keeping
+pub mod Doing
+pub mod Looping
+pub mod Moving
+pub mod Numbers
+pub mod Rows

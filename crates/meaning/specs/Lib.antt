@@ -1,0 +1,9 @@
+pub mod Answer
+pub mod Event
+pub mod Tree
+pub mod Number
+pub mod Meaning
+pub mod Place
+pub mod Each
+pub mod Compare
+pub mod Rule

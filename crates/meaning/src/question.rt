@@ -1,0 +1,8 @@
+// "A question has a kind and four numbers", wide enough that a caller can hand in anything.
+pub struct Question {
+    pub kind: u32,
+    pub datasource: u32,
+    pub parameter: u32,
+    pub record: u32,
+    pub entry: u32,
+}

@@ -1,0 +1,54 @@
+-- "set, add, subtract, multiply, divide". Assumes nothing.
+use Prim.Native.Nat.{ℕ, _*_}
+use mathlib.Core.Bool.{cond, _&&_}
+use lib.Dec.{eqb}
+use lib.IntN.{ℤ, pos, natAbs, _+ℤ_, _-ℤ_, _*ℤ_}
+use lib.Signed.{quotZ}
+use Rattle.numbers.specs.declared.Quantity.the-variants.{Integer}
+use Rattle.numbers.specs.Sign.{signed, opposed}
+use Rattle.numbers.specs.Range.{integerLimit, decimalLimit, within, millionths}
+use Rattle.numbers.specs.Outcome.{Outcome, success, refused}
+use Rattle.numbers.specs.Rounding.{rounded}
+
+-- "A result is out of range"
+unfoldable pub checked : ℕ → ℤ → Outcome
+checked limit z = cond (within limit z) (success z) (refused 13)
+
+-- variables and cells hold values in range; of any other operand a result is refused too
+unfoldable pub operands : ℕ → ℤ → ℤ → Outcome → Outcome
+operands limit a b o = cond (within limit a && within limit b) o (refused 13)
+
+-- "The divisor is zero"
+unfoldable pub dividedBy : ℤ → Outcome → Outcome
+dividedBy b o = cond (eqb (natAbs b) 0) (refused 12) o
+
+-- of integers and, with their limit, of decimals
+unfoldable pub sumOf : ℕ → ℤ → ℤ → Outcome
+sumOf limit a b = operands limit a b (checked limit (a +ℤ b))
+
+unfoldable pub differenceOf : ℕ → ℤ → ℤ → Outcome
+differenceOf limit a b = operands limit a b (checked limit (a -ℤ b))
+
+-- "IV takes an integer and divides toward zero"
+unfoldable pub integerProduct : ℤ → ℤ → Outcome
+integerProduct a b = operands integerLimit a b (checked integerLimit (a *ℤ b))
+
+unfoldable pub integerQuotient : ℤ → ℤ → Outcome
+integerQuotient a b = operands integerLimit a b (dividedBy b (checked integerLimit (quotZ a b)))
+
+-- "products and quotients are rounded to the nearest millionth, halves away from zero, then checked for range"
+unfoldable pub decimalProduct : ℤ → ℤ → Outcome
+decimalProduct a b =
+    operands decimalLimit a b (checked decimalLimit (signed (opposed a b) (rounded (natAbs a * natAbs b) 1000000)))
+
+unfoldable pub decimalQuotient : ℤ → ℤ → Outcome
+decimalQuotient a b =
+    operands decimalLimit a b (dividedBy b (checked decimalLimit (signed (opposed a b) (rounded (natAbs a * 1000000) (natAbs b)))))
+
+-- "|ABS"
+unfoldable pub absoluteOf : ℕ → ℤ → Outcome
+absoluteOf limit z = checked limit (pos (natAbs z))
+
+-- an integer where a decimal is taken
+unfoldable pub inMillionths : ℤ → Outcome
+inMillionths n = checked decimalLimit (millionths (Integer n))

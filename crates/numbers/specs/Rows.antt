@@ -1,0 +1,63 @@
+-- Rows of document 01, with the ends of the range and halves of either sign: antt computes each. Assumes nothing.
+use mathlib.Core.Path.{_≡_, refl}
+use mathlib.Core.List.{List, [], _∷_, map}
+use Prim.Native.Nat.{ℕ}
+use lib.IntN.{ℤ, pos, negℤ}
+use Rattle.numbers.specs.Sign.{opposed}
+use Rattle.numbers.specs.Range.{integerLimit, decimalLimit, within}
+use Rattle.numbers.specs.Outcome.{Outcome, success, refused}
+use Rattle.numbers.specs.Rounding.{rounded}
+use Rattle.numbers.specs.Arithmetic.{checked, operands, dividedBy, sumOf, differenceOf, integerProduct, integerQuotient, decimalProduct, decimalQuotient, absoluteOf, inMillionths}
+
+-- what a definition computes, and what is expected
+pub record Row : Type 0 where
+  pub computed : Outcome
+  pub expected : Outcome
+
+infix 70 _gives_
+abbrev _gives_ : Outcome → Outcome → Row
+c gives e = record { computed = c; expected = e }
+
+abbrev minus : ℕ → ℤ
+minus n = negℤ (pos n)
+
+unfoldable pub rows : List Row
+rows =
+    -- 0.000001 × 0.5 = 0.000001, and with the other sign
+    decimalProduct (pos 1) (pos 500000) gives success (pos 1)
+    ∷ decimalProduct (minus 1) (pos 500000) gives success (minus 1)
+    -- just below a half
+    ∷ decimalProduct (pos 1) (pos 499999) gives success (pos 0)
+    -- −1 ÷ 3 in FV = −0.333333, and 2 ÷ −3
+    ∷ decimalQuotient (minus 1000000) (pos 3000000) gives success (minus 333333)
+    ∷ decimalQuotient (pos 2000000) (minus 3000000) gives success (minus 666667)
+    -- IV −7 ÷ 2 = −3, and 7 ÷ −2
+    ∷ integerQuotient (minus 7) (pos 2) gives success (minus 3)
+    ∷ integerQuotient (pos 7) (minus 2) gives success (minus 3)
+    -- 2,000,000,000 × 2: 13, in both kinds
+    ∷ integerProduct (pos 2000000000) (pos 2) gives refused 13
+    ∷ decimalProduct (pos 2000000000000000) (pos 2000000) gives refused 13
+    -- a millionth divided by 2 and by −2 is a half, away from zero
+    ∷ decimalQuotient (pos 1) (pos 2000000) gives success (pos 1)
+    ∷ decimalQuotient (pos 1) (minus 2000000) gives success (minus 1)
+    -- the ends of the range
+    ∷ integerQuotient (minus 2000000000) (minus 1) gives success (pos 2000000000)
+    ∷ decimalProduct (pos 2000000000000000) (pos 1000000) gives success (pos 2000000000000000)
+    ∷ decimalProduct (pos 2000000000000000) (pos 1000001) gives refused 13
+    -- 1,999,998,000.002 × 1.000001 is past the limit only before it is rounded
+    ∷ decimalProduct (pos 1999998000002000) (pos 1000001) gives success (pos 2000000000000000)
+    -- sums, differences and the rest, at the ends
+    ∷ sumOf integerLimit (minus 2000000000) (pos 1) gives success (minus 1999999999)
+    ∷ sumOf integerLimit (pos 2000000000) (pos 1) gives refused 13
+    ∷ differenceOf decimalLimit (minus 2000000000000000) (pos 1) gives refused 13
+    ∷ absoluteOf integerLimit (minus 2000000000) gives success (pos 2000000000)
+    ∷ inMillionths (minus 2000000000) gives success (minus 2000000000000000)
+    -- zero divisors, in both kinds, and after an operand that is out of range
+    ∷ integerQuotient (pos 1) (pos 0) gives refused 12
+    ∷ decimalQuotient (pos 0) (pos 0) gives refused 12
+    ∷ integerQuotient (pos 2000000001) (pos 0) gives refused 13
+    ∷ []
+
+pub rows-hold : map (λ (r : Row). r .computed) rows ≡ map (λ (r : Row). r .expected) rows
+unfolding rows opposed within rounded checked operands dividedBy sumOf differenceOf integerProduct integerQuotient decimalProduct decimalQuotient absoluteOf inMillionths
+rows-hold = refl

@@ -1,0 +1,36 @@
+/* The calls of libstation.a. Nothing checks these declarations against the Rattle source: keep them beside it. */
+#ifndef STATION_H
+#define STATION_H
+
+#include <stdbool.h>
+#include <stddef.h>
+#include <stdint.h>
+
+/* A byte slice is passed as a pointer and then a length. Kinds are those of a cell: 0x49 integer, 0x46 decimal
+   (a count of millionths); any other kind is taken for a decimal. */
+
+/* operation: 0 add, 1 subtract, 2 multiply, any other divide. 0 and the value in *result, or 12 or 13. */
+uint32_t station_integers(uint32_t operation, int64_t a, int64_t b, int64_t *result);
+uint32_t station_decimals(uint32_t operation, int64_t a, int64_t b, int64_t *result);
+
+/* operation: 0 magnitude of an integer, 1 of a decimal, any other an integer as a decimal. */
+uint32_t station_one(uint32_t operation, int64_t a, int64_t *result);
+
+/* The integer next to a number, toward zero. */
+int64_t station_whole(uint8_t kind, int64_t n);
+
+/* test: 0 a < b, 1 a <= b, any other a = b; by value, whatever the kinds. */
+bool station_compare(uint32_t test, uint8_t kind, int64_t a, uint8_t other, int64_t b);
+
+/* The magnitude of a number, rounded, in units of the last of 0 to 6 places, in *units; false where there is none. */
+bool station_rounded(uint8_t kind, int64_t n, size_t places, uint64_t *units);
+
+/* A value in the `width` bytes of a field at `at`; places count only where said. False, and nothing written, where
+   width, places or number is out of its limits or the buffer has no room. */
+bool station_number_field(uint8_t *buffer, size_t length, size_t at, size_t width, bool said, size_t places,
+                          uint8_t kind, int64_t n);
+bool station_string_field(uint8_t *buffer, size_t length, size_t at, size_t width, const uint8_t *bytes,
+                          size_t bytes_length);
+bool station_missing_field(uint8_t *buffer, size_t length, size_t at, size_t width);
+
+#endif

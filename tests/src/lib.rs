@@ -1,0 +1,5 @@
+//! The calls of libstation.a, as crates/station/include/station.h declares them, and what the tests share.
+
+pub mod arithmetic;
+pub mod field;
+pub mod random;
