@@ -1,24 +1,23 @@
 -- What callers use of the definitions, by name. Assumes nothing.
 use mathlib.Core.Path.{_≡_, refl, sym, ap, _∙_}
-use mathlib.Core.Bool.{true, false, _&&_}
-use Prim.Native.Nat.{ℕ, _+_, _*_, _-_, _/_, _^_, _≤_, _<_}
+use mathlib.Core.Bool.{Bool, true, false, not, _&&_}
+use Prim.Native.Nat.{ℕ, _*_, _-_, _^_, _≤_, _<_}
 use native.Mathlib.Omega.{arith}
 use lib.Dec.{leb, eqb}
 use lib.IntN.{ℤ, pos, natAbs}
 use mir.Syntax.{w64}
 use mir.Val.{SFits}
-use borrow.Author.Tests.{le-leb, lt-leb, leb-true, leb-false, ne-eqb}
+use borrow.Author.Tests.{le-leb, lt-leb, leb-true, leb-false, ne-eqb, not-true, not-false}
 use Rattle.numbers.specs.declared.Number.{Number}
 use Rattle.numbers.specs.declared.Number.the-variants as number
 use Rattle.numbers.specs.declared.Quantity.{Quantity}
 use Rattle.numbers.specs.declared.Quantity.the-variants.{Integer}
-use Rattle.numbers.specs.declared.Rounded.{Rounded}
 use Rattle.numbers.specs.declared.Rounded.the-variants.{Units, OutOfRange}
 use Rattle.numbers.specs.Range.{integerLimit, decimalLimit, within, millionths}
 use Rattle.numbers.specs.Outcome.{Outcome, success, refused, outcome}
 use Rattle.numbers.specs.Rounding.{rounded}
 use Rattle.numbers.specs.Arithmetic.{checked, operands, dividedBy, sumOf, differenceOf, integerProduct, integerQuotient, decimalProduct, decimalQuotient, absoluteOf, inMillionths}
-use Rattle.numbers.specs.Order.{wholeOf}
+use Rattle.numbers.specs.Parts.{wholeOf}
 use Rattle.numbers.specs.Places.{roundedTo, scaleOf}
 use Rattle.numbers.proofs.Tests.{first-case, second-case, other-case, and-true}
 use Rattle.numbers.proofs.Machine.{back, read, read₂, abs-mul, abs-quot, abs-fits}
@@ -42,8 +41,10 @@ pub within-false : (limit : ℕ) (z : ℤ) → within limit z ≡ false → limi
 unfolding within
 within-false limit z e = leb-false _ _ e
 
-pub both-in : (limit : ℕ) (a b : ℤ) → within limit a && within limit b ≡ true → (natAbs a ≤ limit) × (natAbs b ≤ limit)
-both-in limit a b e = let t = and-true _ _ e in (within-true limit a (t .0), within-true limit b (t .1))
+-- two operands in range
+pub record Inside (limit : ℕ) (a b : ℤ) : Type 0 where
+  pub left : natAbs a ≤ limit
+  pub right : natAbs b ≤ limit
 
 -- ---- outcomes
 
@@ -55,18 +56,27 @@ pub checked-out : (limit : ℕ) (z : ℤ) → limit < natAbs z → checked limit
 unfolding checked
 checked-out limit z h = rw (within-out limit z h)
 
-pub operands-in : (limit : ℕ) (a b : ℤ) (o : Outcome) → within limit a && within limit b ≡ true → operands limit a b o ≡ o
+pub operands-in : (limit : ℕ) (a b : ℤ) (o : Outcome) → Inside limit a b → operands limit a b o ≡ o
 unfolding operands
-operands-in limit a b o e = rw e
+operands-in limit a b o h = rw (within-in limit a (h .left), within-in limit b (h .right))
 
-pub operands-out : (limit : ℕ) (a b : ℤ) (o : Outcome) → within limit a && within limit b ≡ false → operands limit a b o ≡ refused 13
+-- the code's test of two operands that it holds in 64 bits: passed, and failed
+pub inside : (limit : ℕ) {a b : ℤ} → SFits w64 a → SFits w64 b → {r : Bool} → r ≡ within limit (back a) && within limit (back b) → not r ≡ false → Inside limit a b
+inside limit {a} {b} sa sb {r} e t =
+    let w = sym (read₂ (λ (x y : ℤ). within limit x && within limit y) sa sb e) ∙ not-false r t in
+    let p = and-true _ _ w in
+    record { left = within-true limit a (p .0); right = within-true limit b (p .1) }
+
+pub outside : (limit : ℕ) {a b : ℤ} → SFits w64 a → SFits w64 b → {r : Bool} → r ≡ within limit (back a) && within limit (back b) → not r ≡ true → (o : Outcome) → refused 13 ≡ operands limit a b o
 unfolding operands
-operands-out limit a b o e = rw e
+outside limit {a} {b} sa sb {r} e t o =
+    let w = sym (read₂ (λ (x y : ℤ). within limit x && within limit y) sa sb e) ∙ not-true r t in
+    rw w
 
 -- a result that is computed in 64 bits from operands in range, then checked
-pub calculated : (f : ℤ → ℤ → ℤ) (limit : ℕ) {a b : ℤ} → SFits w64 a → SFits w64 b → SFits w64 (f a b) → within limit a && within limit b ≡ true → {o : Outcome} → o ≡ checked limit (back (f (back a) (back b))) → o ≡ operands limit a b (checked limit (f a b))
-calculated f limit {a} {b} sa sb s t e =
-    read (checked limit) s (read₂ (λ (x y : ℤ). checked limit (back (f x y))) sa sb e) ∙ sym (operands-in limit a b _ t)
+pub calculated : (f : ℤ → ℤ → ℤ) (limit : ℕ) {a b : ℤ} → SFits w64 a → SFits w64 b → SFits w64 (f a b) → Inside limit a b → {o : Outcome} → o ≡ checked limit (back (f (back a) (back b))) → o ≡ operands limit a b (checked limit (f a b))
+calculated f limit {a} {b} sa sb s h e =
+    read (checked limit) s (read₂ (λ (x y : ℤ). checked limit (back (f x y))) sa sb e) ∙ sym (operands-in limit a b _ h)
 
 pub by-zero : (b : ℤ) (o : Outcome) → natAbs b ≡ 0 → dividedBy b o ≡ refused 12
 unfolding dividedBy
@@ -88,37 +98,37 @@ checked-bound limit z v e =
     let q : z ≡ v = cc in
     rw q at (within-true limit z (p .0))
 
-operands-bound : (limit : ℕ) (a b : ℤ) (o : Outcome) (v : ℤ) → operands limit a b o ≡ success v → o ≡ success v
+operands-success : (limit : ℕ) (a b : ℤ) (o : Outcome) (v : ℤ) → operands limit a b o ≡ success v → o ≡ success v
 unfolding operands
-operands-bound limit a b o v e = first-case (within limit a && within limit b) e unequal .1
+operands-success limit a b o v e = first-case (within limit a && within limit b) e unequal .1
 
-divided-bound : (b : ℤ) (o : Outcome) (v : ℤ) → dividedBy b o ≡ success v → o ≡ success v
+divided-success : (b : ℤ) (o : Outcome) (v : ℤ) → dividedBy b o ≡ success v → o ≡ success v
 unfolding dividedBy
-divided-bound b o v e = other-case (eqb (natAbs b) 0) e unequal
+divided-success b o v e = other-case (eqb (natAbs b) 0) e unequal
 
 pub sum-bound : (limit : ℕ) (a b v : ℤ) → sumOf limit a b ≡ success v → natAbs v ≤ limit
 unfolding sumOf
-sum-bound limit a b v e = checked-bound limit _ v (operands-bound limit a b _ v e)
+sum-bound limit a b v e = checked-bound limit _ v (operands-success limit a b _ v e)
 
 pub difference-bound : (limit : ℕ) (a b v : ℤ) → differenceOf limit a b ≡ success v → natAbs v ≤ limit
 unfolding differenceOf
-difference-bound limit a b v e = checked-bound limit _ v (operands-bound limit a b _ v e)
+difference-bound limit a b v e = checked-bound limit _ v (operands-success limit a b _ v e)
 
 pub integer-product-bound : (a b v : ℤ) → integerProduct a b ≡ success v → natAbs v ≤ integerLimit
 unfolding integerProduct
-integer-product-bound a b v e = checked-bound integerLimit _ v (operands-bound integerLimit a b _ v e)
+integer-product-bound a b v e = checked-bound integerLimit _ v (operands-success integerLimit a b _ v e)
 
 pub integer-quotient-bound : (a b v : ℤ) → integerQuotient a b ≡ success v → natAbs v ≤ integerLimit
 unfolding integerQuotient
-integer-quotient-bound a b v e = checked-bound integerLimit _ v (divided-bound b _ v (operands-bound integerLimit a b _ v e))
+integer-quotient-bound a b v e = checked-bound integerLimit _ v (divided-success b _ v (operands-success integerLimit a b _ v e))
 
 pub decimal-product-bound : (a b v : ℤ) → decimalProduct a b ≡ success v → natAbs v ≤ decimalLimit
 unfolding decimalProduct
-decimal-product-bound a b v e = checked-bound decimalLimit _ v (operands-bound decimalLimit a b _ v e)
+decimal-product-bound a b v e = checked-bound decimalLimit _ v (operands-success decimalLimit a b _ v e)
 
 pub decimal-quotient-bound : (a b v : ℤ) → decimalQuotient a b ≡ success v → natAbs v ≤ decimalLimit
 unfolding decimalQuotient
-decimal-quotient-bound a b v e = checked-bound decimalLimit _ v (divided-bound b _ v (operands-bound decimalLimit a b _ v e))
+decimal-quotient-bound a b v e = checked-bound decimalLimit _ v (divided-success b _ v (operands-success decimalLimit a b _ v e))
 
 pub absolute-bound : (limit : ℕ) (z v : ℤ) → absoluteOf limit z ≡ success v → natAbs v ≤ limit
 unfolding absoluteOf
@@ -145,10 +155,6 @@ integer-inside n h = omega (arith, abs-mul n (pos 1000000))
 pub millionths-in : (n : ℤ) → natAbs n ≤ integerLimit → inMillionths n ≡ success (millionths (Integer n))
 unfolding inMillionths
 millionths-in n h = checked-in decimalLimit _ (integer-inside n h)
-
--- operands in range leave the result to the calculation
-pub operands-inside : (limit : ℕ) (a b : ℤ) (o : Outcome) → natAbs a ≤ limit → natAbs b ≤ limit → operands limit a b o ≡ o
-operands-inside limit a b o ha hb = operands-in limit a b o (rw (within-in limit a ha) (within-in limit b hb))
 
 -- an answer is known by its number and value
 pub same-answer : (r s : Number) → outcome r ≡ outcome s → r ≡ s

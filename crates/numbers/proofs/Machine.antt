@@ -7,6 +7,7 @@ use lib.IntN.{ℤ, pos, negsuc, negℤ, natAbs, subℕ, _+ℤ_, _-ℤ_, _*ℤ_}
 use lib.Signed.{mag, ltZ, nonNeg, quotZ, natAbs-le}
 use lib.Dec.{T, ltb}
 use borrow.Author.Tests.{le-ltb, ltb-true}
+use native.Mathlib.Nat.{div-lt-iff-lt-mul}
 use mir.Syntax.{w64}
 use mir.Val.{SFits, toZ, ofZ}
 use mir.ValLaws.{toZ-ofZ}
@@ -89,9 +90,11 @@ pub abs-fits : (z : ℤ) → natAbs z < 2 ^ 63 → SFits w64 z
 abs-fits (pos n) h = record { sfits = h }
 abs-fits (negsuc n) h = record { sfits = omega arith }
 
--- a count of millionths, divided by a million
-pub quot-fits : (m : ℤ) → SFits w64 m → SFits w64 (quotZ m (pos 1000000))
-quot-fits m f = abs-fits _ (omega (arith, abs-quot m (pos 1000000), natAbs-le m (f .sfits)))
+-- a quotient by more than 1 fits, of the least number too
+pub quot-fits : (z : ℤ) (k : ℕ) → 1 < k → SFits w64 z → SFits w64 (quotZ z (pos k))
+quot-fits z k h f =
+    let b : natAbs z / k < 2 ^ 63 = div-lt-iff-lt-mul {k = k} {x = natAbs z} {y = 2 ^ 63} (omega arith) .1 (omega (arith, natAbs-le z (f .sfits))) in
+    abs-fits _ (omega (arith, abs-quot z (pos k)))
 
 -- a number is 0 where its bits are
 pub zero-bits : (z : ℤ) → SFits w64 z → ofZ w64 z ≡ 0 → natAbs z ≡ 0

@@ -1,5 +1,5 @@
 -- The rounded quotient of magnitudes, and the table of powers of ten. Assumes nothing.
-use mathlib.Core.Path.{_≡_, refl, sym, ap, _∙_}
+use mathlib.Core.Path.{_≡_, sym, ap, _∙_}
 use mathlib.Core.List.{List, [], _∷_}
 use Prim.Native.Nat.{ℕ, zero, suc, _+_, _*_, _-_, _/_, _^_, _≤_, _<_}
 use native.Mathlib.Nat.{mul-div-le, lt-mul-div-succ, div-div-eq-div-mul, div-lt-iff-lt-mul, mul-le-mul, pow-succ', mul-assoc, mul-one, pow-le-pow-right, mul-add-div-right, div-eq-of-lt}

@@ -3,6 +3,7 @@ pub mod Range
 pub mod Outcome
 pub mod Rounding
 pub mod Arithmetic
+pub mod Parts
 pub mod Order
 pub mod Places
 pub mod Rows

@@ -2,7 +2,7 @@
 use mathlib.Core.Bool.{Bool, false}
 use lib.Dec.{eqb}
 use lib.IntN.{ℤ, pos, negsuc}
-use lib.Signed.{ltZ, leZ, quotZ, remZ}
+use lib.Signed.{ltZ, leZ}
 use Rattle.numbers.specs.declared.Quantity.{Quantity}
 use Rattle.numbers.specs.Range.{millionths}
 
@@ -25,10 +25,3 @@ atMost p q = leZ (millionths p) (millionths q)
 -- "one number, non-zero or zero"
 abbrev pub isZero : Quantity → Bool
 isZero q = eqZ (millionths q) (pos 0)
-
--- "|INT (an integer, toward zero)", and the millionths that it leaves
-abbrev pub wholeOf : Quantity → ℤ
-wholeOf q = quotZ (millionths q) (pos 1000000)
-
-abbrev pub restOf : Quantity → ℤ
-restOf q = remZ (millionths q) (pos 1000000)

@@ -5,7 +5,7 @@
 // decimal::add, subtract, multiply, divide    of two decimals; products and quotients are rounded
 // decimal::absolute                           of a decimal
 // order::less, at_most, equal, is_zero        of quantities, by value
-// order::whole                                a quantity's integer, toward zero
+// parts::whole, rest                          a quantity's integer, toward zero, and the millionths left
 // places::rounded                             a quantity's magnitude, rounded to some places
 // places::scale                               units of the last place in one whole
 // sign::negative, opposite, magnitude         a number's sign and magnitude
@@ -14,7 +14,8 @@ mod range; // range.rt: what is out of range
 pub mod sign; // sign.rt: sign and magnitude
 pub mod integer; // integer.rt: integers
 pub mod decimal; // decimal.rt: decimals
-pub mod order; // order.rt: comparison and whole parts
+pub mod parts; // parts.rt: whole parts
+pub mod order; // order.rt: comparison
 pub mod places; // places.rt: rounding to places
 
 // What a calculation answers.

@@ -1,28 +1,10 @@
 // "two numbers, by value": by their whole parts and, where those are equal, by the millionths left.
 // Nothing is multiplied, so the order is exact for all numbers.
 use crate::Quantity;
+use crate::parts::rest;
+use crate::parts::whole;
 ghost use mathlib.Core.Path.{_≡_};
-ghost use Rattle.numbers.specs.Order.{wholeOf, restOf, lessThan, atMost, equalTo, isZero};
-
-// The integer next to a quantity, toward zero.
-pub fn whole(q: Quantity) -> i64
-    ensures { λ r. ⌜ r ≡ wholeOf q ⌝ }
-{
-    match q {
-        Quantity::Integer(n) => n,
-        Quantity::Decimal(m) => m / 1_000_000,
-    }
-}
-
-// The millionths that the whole part leaves, with the quantity's sign.
-fn rest(q: Quantity) -> i64
-    ensures { λ r. ⌜ r ≡ restOf q ⌝ }
-{
-    match q {
-        Quantity::Integer(_) => 0,
-        Quantity::Decimal(m) => m % 1_000_000,
-    }
-}
+ghost use Rattle.numbers.specs.Order.{lessThan, atMost, equalTo, isZero};
 
 pub fn less(p: Quantity, q: Quantity) -> bool
     ensures { λ r. ⌜ r ≡ lessThan p q ⌝ }

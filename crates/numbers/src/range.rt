@@ -3,7 +3,7 @@ use crate::Number;
 use crate::sign;
 ghost use mathlib.Core.Path.{_≡_};
 ghost use mathlib.Core.Bool.{_&&_};
-ghost use Prim.Native.Nat.{_≤_, _<_, _^_};
+ghost use Prim.Native.Nat.{_≤_};
 ghost use Rattle.numbers.specs.Sign.{signed};
 ghost use Rattle.numbers.specs.Range.{within, decimalLimit};
 ghost use Rattle.numbers.specs.Outcome.{outcome};

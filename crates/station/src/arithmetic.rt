@@ -4,7 +4,7 @@ use numbers::Quantity;
 use numbers::Rounded;
 ghost use mathlib.Core.Path.{_≡_};
 ghost use Rattle.numbers.specs.Outcome.{outcome};
-ghost use Rattle.numbers.specs.Order.{wholeOf};
+ghost use Rattle.numbers.specs.Parts.{wholeOf};
 ghost use Rattle.numbers.specs.Places.{roundedTo};
 ghost use Rattle.station.specs.Codes.{onIntegers, onDecimals, onOne, quantityOf, compared, Told, ToldUnits};
 
@@ -119,7 +119,7 @@ pub extern "C" fn station_compare(test: u32, kind: u8, a: i64, other: u8, b: i64
 pub extern "C" fn station_whole(kind: u8, n: i64) -> i64
     ensures { λ r. ⌜ r ≡ wholeOf (quantityOf kind n) ⌝ }
 {
-    numbers::order::whole(quantity(kind, n))
+    numbers::parts::whole(quantity(kind, n))
 }
 
 // Whether there is a rounded magnitude; it goes to `units`.

@@ -1,6 +1,6 @@
 -- `order::equal` meets its contract: neither number is less than the other. Assumes nothing.
 use borrow.Author.Needs.{needs}
-use mathlib.Core.Path.{_≡_, sym, ap, _∙_}
+use mathlib.Core.Path.{sym, ap, _∙_}
 use mathlib.Core.Bool.{Bool, false, not, cond}
 use Rattle.numbers.specs.Range.{millionths}
 use Rattle.numbers.specs.Order.{lessThan}

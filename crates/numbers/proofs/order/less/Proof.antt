@@ -1,13 +1,11 @@
 -- `order::less` meets its contract: whole parts decide where they differ, else the rests do. Assumes nothing.
 use borrow.Author.Needs.{needs}
 use mathlib.Core.Path.{_≡_, sym, ap, _∙_}
-use lib.IntN.{ℤ}
-use lib.Signed.{ltZ}
 use mir.Syntax.{w64}
 use mir.Val.{SFits, ofZ}
 use mir.ValLaws.{toZ-ofZ}
 use Rattle.numbers.specs.Range.{millionths}
-use Rattle.numbers.specs.Order.{wholeOf, restOf}
+use Rattle.numbers.specs.Parts.{wholeOf}
 use Rattle.numbers.proofs.Comparison.{by-whole, by-rest, same-bits}
 use Rattle.numbers.proofs.order.less.Statement.{statement}
 use Rattle.numbers.proofs.order.less.Tie as tie

@@ -12,9 +12,6 @@ use Rattle.numbers.proofs.Machine.{read, abs-mul}
 use Rattle.numbers.proofs.Laws.{places-out, sixth}
 use Rattle.numbers.proofs.places.millionths.Statement.{statement}
 use Rattle.numbers.proofs.places.millionths.Tie as tie
-use Rattle.numbers.proofs.places.millionths.Reads as reads
-use Rattle.numbers.proofs.places.millionths.Lts as lts
-use Rattle.numbers.proofs.sign.magnitude.Reads as magnitude-reads
 
 enum-known-q : tie.Need-enum-known-q
 enum-known-q c = search needs

@@ -1,7 +1,6 @@
 -- `places::power` meets its contract: the table is the one that `rising` makes. Assumes nothing.
 use borrow.Author.Needs.{needs}
 use mathlib.Core.Path.{_∙_}
-use Prim.Native.Nat.{_^_}
 use native.Mathlib.Nat.{one-mul}
 use Rattle.numbers.proofs.Rounding.{power-at}
 use Rattle.numbers.proofs.places.power.Statement.{statement}

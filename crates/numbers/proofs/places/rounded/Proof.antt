@@ -2,17 +2,12 @@
 use borrow.Author.Needs.{needs}
 use native.Mathlib.Omega.{arith}
 use mathlib.Core.Path.{_≡_, sym, ap, _∙_}
-use Prim.Native.Nat.{_^_, _-_, _≤_}
 use Rattle.numbers.specs.declared.Rounded.the-variants.{Units, OutOfRange}
 use Rattle.numbers.specs.Places.{roundedTo}
 use Rattle.numbers.proofs.Rounding.{rounded-half, power-above}
 use Rattle.numbers.proofs.Laws.{places-many, coarser, refused-all, units-bound}
 use Rattle.numbers.proofs.places.rounded.Statement.{statement}
 use Rattle.numbers.proofs.places.rounded.Tie as tie
-use Rattle.numbers.proofs.places.rounded.Reads as reads
-use Rattle.numbers.proofs.places.rounded.Lts as lts
-use Rattle.numbers.proofs.places.millionths.Reads as millionths-reads
-use Rattle.numbers.proofs.places.power.Reads as power-reads
 
 returns : tie.Need-returns
 returns c = sym (places-many _ _ (omega arith))

@@ -1,7 +1,6 @@
 -- `range::both_in_range` meets its contract. Assumes nothing.
 use borrow.Author.Needs.{needs}
 use mathlib.Core.Path.{_≡_, sym, _∙_}
-use mathlib.Core.Bool.{true, false}
 use Rattle.numbers.specs.Range.{within}
 use Rattle.numbers.proofs.Machine.{read}
 use Rattle.numbers.proofs.range.both_in_range.Statement.{statement}

@@ -14,8 +14,6 @@ use Rattle.numbers.proofs.Machine.{abs-signed, abs-fits}
 use Rattle.numbers.proofs.Laws.{checked-in, checked-out}
 use Rattle.numbers.proofs.range.check_signed.Statement.{statement}
 use Rattle.numbers.proofs.range.check_signed.Tie as tie
-use Rattle.numbers.proofs.range.check_signed.Reads as reads
-use Rattle.numbers.proofs.range.check_signed.Lts as lts
 
 returns : tie.Need-returns
 returns c = sym (checked-out _ _ (omega (arith, abs-signed (c .before .args .negative) (c .before .args .m))))

@@ -1,7 +1,7 @@
 use mathlib.Core.Path.{ap, _∙_}
 use mir.Syntax.{w64}
 use mir.ValLaws.{toZ-ofZ}
-use Rattle.numbers.specs.Order.{wholeOf}
+use Rattle.numbers.specs.Parts.{wholeOf}
 use Rattle.numbers.proofs.Machine.{read}
 use Rattle.station.specs.Codes.{quantityOf}
 use borrow.Author.Needs.{needs}

@@ -1,17 +1,18 @@
--- `order::rest` meets its contract: an integer leaves no millionths. Assumes nothing.
+-- `parts::rest` meets its contract: an integer leaves no millionths. Assumes nothing.
 use borrow.Author.Needs.{needs}
 use native.Mathlib.Omega.{arith}
-use mathlib.Core.Path.{_≡_, sym, ap, _∙_}
+use mathlib.Core.Path.{sym, ap, _∙_}
 use lib.IntN.{pos}
 use lib.Signed.{remZ, mag-rem}
+use lib.Dec.{lit<}
 use mir.Syntax.{w64}
 use mir.Val.{SFits}
 use mir.ValLaws.{toZ-ofZ, sfits-le}
-use Rattle.numbers.specs.Order.{restOf}
+use Rattle.numbers.specs.Parts.{restOf}
 use Rattle.numbers.proofs.Machine.{quot-fits}
 use Rattle.numbers.proofs.Comparison.{rest-integer}
-use Rattle.numbers.proofs.order.rest.Statement.{statement}
-use Rattle.numbers.proofs.order.rest.Tie as tie
+use Rattle.numbers.proofs.parts.rest.Statement.{statement}
+use Rattle.numbers.proofs.parts.rest.Tie as tie
 
 enum-told : tie.Need-enum-told
 enum-told c = search needs
@@ -23,7 +24,7 @@ rem-result : tie.Need-rem-result
 rem-result c =
     let v = c .before .q .given in
     let f : SFits w64 (v .0 .0) = search needs in
-    (omega arith, rw (toZ-ofZ w64 (v .0 .0) f) (quot-fits (v .0 .0) f))
+    (omega arith, rw (toZ-ofZ w64 (v .0 .0) f) (quot-fits (v .0 .0) _ (lit< tt) f))
 
 returns : tie.Need-returns
 returns c = let v = c .enum-told .given in sym (ap restOf (v .1) ∙ rest-integer (v .0 .0))

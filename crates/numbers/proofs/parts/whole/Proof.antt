@@ -1,17 +1,16 @@
--- `order::whole` meets its contract: an integer is the quotient of its millionths. Assumes nothing.
+-- `parts::whole` meets its contract: an integer is the quotient of its millionths. Assumes nothing.
 use borrow.Author.Needs.{needs}
 use native.Mathlib.Omega.{arith}
-use mathlib.Core.Path.{_≡_, sym, ap, _∙_}
-use lib.IntN.{pos}
-use lib.Signed.{quotZ}
+use mathlib.Core.Path.{sym, ap, _∙_}
+use lib.Dec.{lit<}
 use mir.Syntax.{w64}
 use mir.Val.{SFits}
 use mir.ValLaws.{toZ-ofZ}
-use Rattle.numbers.specs.Order.{wholeOf}
+use Rattle.numbers.specs.Parts.{wholeOf}
 use Rattle.numbers.proofs.Machine.{quot-fits}
 use Rattle.numbers.proofs.Comparison.{whole-integer}
-use Rattle.numbers.proofs.order.whole.Statement.{statement}
-use Rattle.numbers.proofs.order.whole.Tie as tie
+use Rattle.numbers.proofs.parts.whole.Statement.{statement}
+use Rattle.numbers.proofs.parts.whole.Tie as tie
 
 enum-known-q : tie.Need-enum-known-q
 enum-known-q c = search needs
@@ -23,7 +22,7 @@ div-result : tie.Need-div-result
 div-result c =
     let v = c .before .q2 .given in
     let f : SFits w64 (v .0 .0) = search needs in
-    (omega arith, rw (toZ-ofZ w64 (v .0 .0) f) (quot-fits (v .0 .0) f))
+    (omega arith, rw (toZ-ofZ w64 (v .0 .0) f) (quot-fits (v .0 .0) _ (lit< tt) f))
 
 returns : tie.Need-returns
 returns c =
@@ -35,7 +34,7 @@ returns-2 : tie.Need-returns-2
 returns-2 c =
     let v = c .before .q2 .given in
     let f : SFits w64 (v .0 .0) = search needs in
-    rw (toZ-ofZ w64 (v .0 .0) f) (toZ-ofZ w64 _ (quot-fits (v .0 .0) f) ∙ sym (ap wholeOf (v .1)))
+    rw (toZ-ofZ w64 (v .0 .0) f) (toZ-ofZ w64 _ (quot-fits (v .0 .0) _ (lit< tt) f) ∙ sym (ap wholeOf (v .1)))
 
 pub whole-spec : {M : Type 1} → statement M
 whole-spec = tie.close (tie.spec enum-known-q enum-known-q-2 div-result returns returns-2)
