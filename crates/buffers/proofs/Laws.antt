@@ -1,15 +1,15 @@
 -- Laws of `sets`, of room, and of the loops that copy, fill and move: d is what the buffer b holds after j steps.
 use mathlib.Core.Path.{_≡_, refl, sym, ap, _∙_}
 use mathlib.Core.List.{List, [], _∷_, _++_}
-use mathlib.Core.Bool.{Bool, true, false, cond, _&&_}
-use Prim.Native.Nat.{ℕ, zero, suc, _+_, _-_, _≤_, _<_}
-use native.Mathlib.Nat.{add-zero, add-suc, suc-add, le-antisymm}
+use mathlib.Core.Bool.{Bool, true, false, cond}
+use Prim.Native.Nat.{ℕ, suc, _+_, _-_, _≤_, _<_}
+use native.Mathlib.Nat.{add-zero, add-suc, le-antisymm}
 use native.Mathlib.Numerals.{add-one}
 use native.Mathlib.Omega.{arith}
 use borrow.Author.Tests.{le-leb, lt-leb, leb-true, leb-false}
 use lib.Dec.{leb}
-use lib.ListN.{length, getD, take, drop, set, replicate, length-append, length-replicate, replicate-append-replicate, length-drop, drop-of-length-le}
-use lib.Seq.{sets, sets-eq, length-sets, take-suc, drop-cons, length-take-le, take-all, set-comm, getD-set-other, getD-take, getD-drop}
+use lib.ListN.{length, getD, take, drop, set, replicate, length-replicate, replicate-append-replicate, length-drop, drop-of-length-le}
+use lib.Seq.{sets, length-sets, take-suc, drop-cons, length-take-le, take-all, set-comm, getD-set-other, getD-take, getD-drop}
 use Rattle.buffers.specs.Buffer.{room, part, stored, shifted, Stored, Shifted}
 
 module _ {A : Type 0} where

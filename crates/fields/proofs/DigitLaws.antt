@@ -1,14 +1,14 @@
 -- Laws of digits, and of the loops that count and write them.
 use mathlib.Core.Path.{_≡_, refl, sym, ap, _∙_}
 use mathlib.Core.Bool.{Bool, true, false}
-use mathlib.Core.List.{List, [], _∷_, _++_}
+use mathlib.Core.List.{List, [], _∷_}
 use Prim.Native.Nat.{ℕ, zero, suc, _+_, _-_, _/_, _%_, _^_, _≤_, _<_}
-use native.Mathlib.Nat.{add-suc, suc-add, pow-suc, div-lt-iff-lt-mul}
+use native.Mathlib.Nat.{pow-suc, div-lt-iff-lt-mul}
 use native.Mathlib.Omega.{arith}
 use borrow.Author.Tests.{lt-ltb, le-ltb, ltb-true, ltb-false}
 use lib.Dec.{ltb}
 use lib.ListN.{length, set, length-append}
-use lib.Seq.{sets, length-sets}
+use lib.Seq.{sets}
 use Rattle.buffers.proofs.Laws.{sets-append, sets-behind}
 use Rattle.fields.specs.Digits.{digits, countWithin, digitCount}
 

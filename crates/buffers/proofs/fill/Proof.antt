@@ -1,3 +1,4 @@
+-- Where there is room the bytes are filled in, else nothing is done.
 use mathlib.Core.Path.{sym, _∙_}
 use lib.ListN.{length-replicate}
 use Rattle.buffers.proofs.Laws.{room-fits, stored-told, stored-refused}

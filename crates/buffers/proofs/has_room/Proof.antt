@@ -1,3 +1,4 @@
+-- The sum of the test would overflow; the difference does not.
 use mathlib.Core.Path.{sym}
 use native.Mathlib.Omega.{arith}
 use Rattle.buffers.proofs.Laws.{room-tail, room-false}

@@ -1,3 +1,4 @@
+-- Both stretches lie in the buffer where the tests pass; either way of moving gives the same buffer.
 use mathlib.Core.Path.{_≡_, sym, _∙_}
 use mathlib.Core.Bool.{true}
 use denote.Ref.{now}

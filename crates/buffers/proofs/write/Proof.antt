@@ -1,3 +1,4 @@
+-- Where there is room the bytes are copied in, else nothing is done.
 use mathlib.Core.Path.{refl, sym, _∙_}
 use Rattle.buffers.proofs.Laws.{room-fits, stored-told, stored-refused}
 use borrow.Author.Needs.{needs}

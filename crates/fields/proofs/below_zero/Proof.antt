@@ -1,3 +1,4 @@
+-- By the cases of the definition: the sign is that of the number bound.
 use mathlib.Core.Path.{sym, ap, _∙_}
 use lib.IntN.{ℤ, pos}
 use lib.Signed.{ltZ}

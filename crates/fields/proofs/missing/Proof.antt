@@ -1,3 +1,4 @@
+-- A missing value is the string `???`.
 use Rattle.fields.proofs.FieldLaws.{missing-string}
 use borrow.Author.Needs.{needs}
 use Rattle.fields.proofs.missing.Statement.{statement}

@@ -1,3 +1,4 @@
+-- The width, the range and the room are tested first; then the field is the rounded number.
 use mathlib.Core.Path.{_≡_, refl, sym, _∙_}
 use mathlib.Core.Bool.{true}
 use borrow.Author.Tests.{not-true, not-false}

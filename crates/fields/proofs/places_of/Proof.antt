@@ -1,3 +1,4 @@
+-- By the cases of the definition.
 use Rattle.fields.specs.Field.{placesOf}
 use borrow.Author.Needs.{needs}
 use Rattle.fields.proofs.places_of.Statement.{statement}

@@ -1,3 +1,4 @@
+-- The width and the room are tested first; then the field is the string, cut or filled.
 use mathlib.Core.Path.{_≡_, sym, _∙_}
 use mathlib.Core.Bool.{true}
 use borrow.Author.Tests.{not-true, not-false}

@@ -1,5 +1,5 @@
+-- The two tests are those of "w 1–32".
 use mathlib.Core.Path.{sym}
-use native.Mathlib.Omega.{arith}
 use Rattle.fields.proofs.FieldLaws.{narrow, at-least-one}
 use Rattle.fields.proofs.width_allowed.Statement.{statement}
 use Rattle.fields.proofs.width_allowed.Tie as tie

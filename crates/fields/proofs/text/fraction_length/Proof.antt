@@ -1,3 +1,4 @@
+-- By the cases of `fraction`.
 use mathlib.Core.Path.{sym, ap}
 use lib.ListN.{length}
 use Rattle.fields.proofs.FieldLaws.{fraction-none, length-fraction}

@@ -1,3 +1,4 @@
+-- The point, and the digits behind it, are the fraction.
 use mathlib.Core.Path.{sym, ap, _∙_}
 use lib.Seq.{sets, length-sets}
 use lib.ListN.{length, length-set}

@@ -1,5 +1,5 @@
+-- A short string and its spaces, or the front of a long one.
 use mathlib.Core.Path.{sym}
-use native.Mathlib.Omega.{arith}
 use lib.Seq.{length-take-le}
 use Rattle.fields.proofs.FieldLaws.{filled, cut-off}
 use borrow.Author.Needs.{needs}

@@ -1,3 +1,4 @@
+-- Three pieces, one behind the other, are one.
 use native.Mathlib.Omega.{arith}
 use Rattle.fields.proofs.FieldLaws.{text-put}
 use borrow.Author.Needs.{needs}

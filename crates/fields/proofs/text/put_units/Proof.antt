@@ -1,3 +1,4 @@
+-- The lengths of the three pieces add up to the length of the text, which decides between asterisks and spaces.
 use mathlib.Core.Path.{_≡_, ap, _∙_}
 use Prim.Native.Nat.{ℕ, _/_, _^_, _≤_}
 use native.Mathlib.Omega.{arith}

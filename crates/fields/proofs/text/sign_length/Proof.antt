@@ -1,3 +1,4 @@
+-- By the cases of `minus`.
 use mathlib.Core.Path.{sym, ap}
 use lib.ListN.{length}
 use borrow.Author.Tests.{not-true, not-false}

@@ -1,6 +1,5 @@
 -- `places::scale` meets its contract.
 use borrow.Author.Tests.{le-leb, lt-leb}
-use native.Mathlib.Omega.{arith}
 use Rattle.numbers.specs.Places.{scaleOf}
 use borrow.Author.Needs.{needs}
 use Rattle.numbers.proofs.places.scale.Statement.{statement}

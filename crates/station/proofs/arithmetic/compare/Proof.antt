@@ -1,3 +1,4 @@
+-- By the codes.
 use borrow.Author.Tests.{eq-eqb, ne-eqb}
 use Rattle.station.specs.Codes.{compared}
 use borrow.Author.Needs.{needs}

@@ -1,4 +1,4 @@
-use mathlib.Core.Path.{sym, ap, _∙_}
+-- By the cases of `outcome`.
 use mir.Syntax.{w64}
 use mir.Val.{SFits}
 use mir.ValLaws.{toZ-ofZ}

@@ -1,3 +1,4 @@
+-- By the codes, each with the contract of its calculation.
 use borrow.Author.Tests.{eq-eqb, ne-eqb}
 use Rattle.numbers.specs.Range.{decimalLimit}
 use Rattle.numbers.specs.Arithmetic.{sumOf, differenceOf, decimalProduct, decimalQuotient}

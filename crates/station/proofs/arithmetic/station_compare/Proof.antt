@@ -1,3 +1,4 @@
+-- What `compare` says of the two quantities.
 use mathlib.Core.Path.{ap₂, _∙_}
 use Rattle.numbers.proofs.Machine.{read}
 use Rattle.station.specs.Codes.{quantityOf, compared}

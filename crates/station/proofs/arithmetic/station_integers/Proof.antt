@@ -1,5 +1,6 @@
+-- What `hand_back` says of what `of_integers` answers.
 use Rattle.numbers.proofs.Machine.{read₂}
-use Rattle.station.specs.Codes.{Told, onIntegers}
+use Rattle.station.specs.Codes.{onIntegers}
 use Rattle.station.proofs.Laws.{told-of}
 use borrow.Author.Needs.{needs}
 use Rattle.station.proofs.arithmetic.station_integers.Statement.{statement}

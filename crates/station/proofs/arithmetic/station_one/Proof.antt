@@ -1,5 +1,6 @@
+-- What `hand_back` says of what `of_one` answers.
 use Rattle.numbers.proofs.Machine.{read}
-use Rattle.station.specs.Codes.{Told, onOne}
+use Rattle.station.specs.Codes.{onOne}
 use Rattle.station.proofs.Laws.{told-of}
 use borrow.Author.Needs.{needs}
 use Rattle.station.proofs.arithmetic.station_one.Statement.{statement}

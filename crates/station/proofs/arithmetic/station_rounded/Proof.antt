@@ -1,3 +1,4 @@
+-- By the cases of what `rounded` answers.
 use mathlib.Core.Path.{_≡_, sym, ap, _∙_}
 use Rattle.numbers.specs.declared.Quantity.{Quantity}
 use Rattle.numbers.specs.Places.{roundedTo}

@@ -1,3 +1,4 @@
+-- What `whole` says of the quantity.
 use mathlib.Core.Path.{ap, _∙_}
 use mir.Syntax.{w64}
 use mir.ValLaws.{toZ-ofZ}

@@ -1,4 +1,4 @@
-use Rattle.station.specs.Codes.{placesSaid}
+-- By the flag.
 use Rattle.station.proofs.field.places_of.Statement.{statement}
 use Rattle.station.proofs.field.places_of.Tie as tie
 

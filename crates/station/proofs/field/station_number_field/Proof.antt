@@ -1,3 +1,4 @@
+-- What `number` says of the places and the quantity.
 use Rattle.numbers.proofs.Machine.{read}
 use Rattle.station.specs.Codes.{quantityOf}
 use borrow.Author.Needs.{needs}
