@@ -33,4 +33,26 @@ bool station_string_field(uint8_t *buffer, size_t length, size_t at, size_t widt
                           size_t bytes_length);
 bool station_missing_field(uint8_t *buffer, size_t length, size_t at, size_t width);
 
+/* Questions and edits of a store: a buffer, and the store's length in it. `answered` is 0 for missing, the kind of a
+   cell (0x49 and 0x46 with *value; 0x53 with *place and *count, a part of the buffer), or 1 for the highest number of
+   kinds 2 and 3, in *count. The number that document 01 gives is returned. */
+uint32_t station_ask(const uint8_t *buffer, size_t buffer_length, size_t length, uint32_t kind, uint32_t datasource,
+                     uint32_t parameter, uint32_t record, uint32_t entry, uint8_t *answered, int64_t *value,
+                     size_t *place, size_t *count);
+
+/* The places of the store's cells, at most 5,461 of them, and their count; 1 where the store is out of form. */
+uint32_t station_index(const uint8_t *buffer, size_t buffer_length, size_t length, uint16_t *places,
+                       size_t places_length, size_t *count);
+
+/* A question over the first `known` places, which station_index wrote for this store. */
+void station_look_up(const uint8_t *buffer, size_t buffer_length, const uint16_t *places, size_t places_length,
+                     size_t known, uint32_t kind, uint32_t datasource, uint32_t parameter, uint32_t record,
+                     uint32_t entry, uint8_t *answered, int64_t *value, size_t *place, size_t *count);
+
+/* A cell as the store holds it, or a key's seven bytes. *left is the store's length afterwards. */
+uint32_t station_put(uint8_t *buffer, size_t buffer_length, size_t length, const uint8_t *cell, size_t cell_length,
+                     size_t *left);
+uint32_t station_remove(uint8_t *buffer, size_t buffer_length, size_t length, const uint8_t *key, size_t key_length,
+                        size_t *left);
+
 #endif

@@ -1,3 +1,5 @@
 // The calls for C and Rust, declared in include/station.h: numbers and byte slices only.
 mod arithmetic; // arithmetic.rt: calculations, comparison, rounding
 mod field; // field.rt: fields
+mod question; // question.rt: questions to a store
+mod edit; // edit.rt: puts and removes

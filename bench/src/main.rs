@@ -1,0 +1,9 @@
+//! Times of the proved calls beside the second interpreter and plain Rust, in one run, as ratios; and their stack use.
+
+mod stack;
+mod store;
+mod time;
+
+fn main() {
+    store::run();
+}

@@ -1,0 +1,5 @@
+pub mod Literal
+pub mod Index
+pub mod Operand
+pub mod Argument
+pub mod Rows

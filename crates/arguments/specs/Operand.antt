@@ -1,0 +1,106 @@
+-- What stands before a filter. Assumes nothing.
+use mathlib.Core.Bool.{cond}
+use mathlib.Core.List.{List, [], _∷_}
+use Prim.Native.Nat.{ℕ, _+_}
+use lib.Dec.{ltb, eqb}
+use lib.ListN.{length}
+use Rattle.scan.specs.declared.run.Class.the-variants.{InString}
+use Rattle.scan.specs.declared.digits.Numeral.{Numeral}
+use Rattle.scan.specs.declared.digits.Numeral.the-variants.{Value, NoNumeral}
+use Rattle.scan.specs.declared.words.WordRead.{WordRead}
+use Rattle.scan.specs.declared.words.WordRead.the-variants.{Word, NoWord}
+use Rattle.scan.specs.Run.{span}
+use Rattle.scan.specs.Line.{byteAt, window}
+use Rattle.scan.specs.Digits.{numberAt}
+use Rattle.scan.specs.Words.{wordAt}
+use Rattle.arguments.specs.declared.index.Index.{Index}
+use Rattle.arguments.specs.declared.index.IndexRead.{IndexRead}
+use Rattle.arguments.specs.declared.index.IndexRead.the-variants.{IndexTo, NoIndex}
+use Rattle.arguments.specs.declared.literal.LiteralRead.{LiteralRead}
+use Rattle.arguments.specs.declared.literal.LiteralRead.the-variants.{LiteralTo, NoLiteral}
+use Rattle.arguments.specs.declared.operand.Operand.{Operand}
+use Rattle.arguments.specs.declared.operand.Operand.the-variants.{Number, Text, IntegerVariable, DecimalVariable, StringVariable, PageNumber, LineNumber, LoopCounter, RecordElement, EntryElement, Parameter, Record, Entry}
+use Rattle.arguments.specs.declared.operand.OperandRead.{OperandRead}
+use Rattle.arguments.specs.declared.operand.OperandRead.the-variants.{OperandTo, NoOperand}
+use Rattle.arguments.specs.Literal.{literalAt}
+use Rattle.arguments.specs.Index.{indexAt}
+
+-- where the string that starts at a place ends: "0–16 bytes without a quote"
+abbrev pub stringEnd : List ℕ → ℕ → ℕ
+stringEnd l at = at + length (span InString (window l at 16))
+
+-- "a string in double quotes", behind the first; 34 is the quote
+unfoldable pub stringAt : List ℕ → ℕ → OperandRead
+stringAt l at = cond (eqb (byteAt l (stringEnd l at)) 34) (OperandTo (Text at (stringEnd l at)) (stringEnd l at + 1)) NoOperand
+
+-- "a cell Pn, Pn.r or Pn.r.e, n 1–65,535", behind the P; 46 is the point
+unfoldable pub entryOf : ℕ → Index → IndexRead → OperandRead
+entryOf n r (IndexTo e next) = OperandTo (Entry n r e) next
+entryOf n r NoIndex = NoOperand
+
+unfoldable pub recordOf : List ℕ → ℕ → IndexRead → OperandRead
+recordOf l n (IndexTo r next) = cond (eqb (byteAt l next) 46) (entryOf n r (indexAt l (next + 1))) (OperandTo (Record n r) next)
+recordOf l n NoIndex = NoOperand
+
+unfoldable pub cellOf : List ℕ → Numeral → OperandRead
+cellOf l (Value n next) = cond (eqb (byteAt l next) 46) (recordOf l n (indexAt l (next + 1))) (OperandTo (Parameter n) next)
+cellOf l NoNumeral = NoOperand
+
+unfoldable pub cellAt : List ℕ → ℕ → OperandRead
+cellAt l at = cellOf l (numberAt l at 65535)
+
+-- PAGENUM LINENUM LOOP IV FV SV R T P
+abbrev pub names : List ℕ
+names =
+    80 ∷ 65 ∷ 71 ∷ 69 ∷ 78 ∷ 85 ∷ 77 ∷ 32 ∷
+    76 ∷ 73 ∷ 78 ∷ 69 ∷ 78 ∷ 85 ∷ 77 ∷ 32 ∷
+    76 ∷ 79 ∷ 79 ∷ 80 ∷ 32 ∷ 32 ∷ 32 ∷ 32 ∷
+    73 ∷ 86 ∷ 32 ∷ 32 ∷ 32 ∷ 32 ∷ 32 ∷ 32 ∷
+    70 ∷ 86 ∷ 32 ∷ 32 ∷ 32 ∷ 32 ∷ 32 ∷ 32 ∷
+    83 ∷ 86 ∷ 32 ∷ 32 ∷ 32 ∷ 32 ∷ 32 ∷ 32 ∷
+    82 ∷ 32 ∷ 32 ∷ 32 ∷ 32 ∷ 32 ∷ 32 ∷ 32 ∷
+    84 ∷ 32 ∷ 32 ∷ 32 ∷ 32 ∷ 32 ∷ 32 ∷ 32 ∷
+    80 ∷ 32 ∷ 32 ∷ 32 ∷ 32 ∷ 32 ∷ 32 ∷ 32 ∷
+    []
+
+-- "IVn, FVn, SVn"; "Rn, Tn"
+unfoldable pub numbered : ℕ → ℕ → Operand
+numbered name n =
+    cond (eqb name 3) (IntegerVariable n)
+    (cond (eqb name 4) (DecimalVariable n)
+    (cond (eqb name 5) (StringVariable n)
+    (cond (eqb name 6) (RecordElement n)
+    (EntryElement n))))
+
+-- "IVn, FVn, SVn (n 1–99)"; "Rn, Tn (n 1–10)"
+unfoldable pub limitOf : ℕ → ℕ
+limitOf name = cond (ltb name 6) 99 10
+
+unfoldable pub numberedOf : ℕ → Numeral → OperandRead
+numberedOf name (Value n next) = OperandTo (numbered name n) next
+numberedOf name NoNumeral = NoOperand
+
+unfoldable pub numberedAt : List ℕ → ℕ → ℕ → OperandRead
+numberedAt l at name = numberedOf name (numberAt l at (limitOf name))
+
+-- "PAGENUM; LINENUM; LOOP", or a name with a number
+unfoldable pub namedOf : List ℕ → WordRead → OperandRead
+namedOf l (Word name next) =
+    cond (eqb name 0) (OperandTo PageNumber next)
+    (cond (eqb name 1) (OperandTo LineNumber next)
+    (cond (eqb name 2) (OperandTo LoopCounter next)
+    (cond (eqb name 8) (cellAt l next)
+    (numberedAt l next name))))
+namedOf l NoWord = NoOperand
+
+unfoldable pub namedAt : List ℕ → ℕ → OperandRead
+namedAt l at = namedOf l (wordAt names l at)
+
+-- a number, or what a name begins: no name begins with a digit or `-`
+unfoldable pub numberOr : OperandRead → LiteralRead → OperandRead
+numberOr other (LiteralTo q next) = OperandTo (Number q) next
+numberOr other NoLiteral = other
+
+-- "Arguments: an integer; a decimal; a string; IVn, FVn, SVn; PAGENUM; LINENUM; LOOP; Rn, Tn; a cell"
+unfoldable pub operandAt : List ℕ → ℕ → OperandRead
+operandAt l at = cond (eqb (byteAt l at) 34) (stringAt l (at + 1)) (numberOr (namedAt l at) (literalAt l at))

@@ -1,0 +1,13 @@
+// The arguments of commands and fields, as document 01 says under "Lines and arguments".
+//
+// literal::literal_at    an integer or a decimal
+// index::index_at        1–3 digits, IVn or LOOP
+// operand::operand_at    what stands before a filter
+// argument::argument_at  an operand with at most one filter
+//
+// Each reads what stands in a line at a place, and answers it with the place behind it, or that there is none.
+
+pub mod literal; // literal.rt: integers and decimals
+pub mod index; // index.rt: indexes
+pub mod operand; // operand.rt: strings, numbers, variables, cells
+pub mod argument; // argument.rt: operands with filters

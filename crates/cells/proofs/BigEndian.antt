@@ -1,0 +1,108 @@
+-- Big-endian numbers and two's complement, written and read back.
+use mathlib.Core.Path.{_≡_, refl, sym, ap, ap₂, _∙_, subst}
+use mathlib.Core.Bool.{Bool, true, false, cond, _&&_}
+use mathlib.Core.List.{List, [], _∷_, _++_, append-assoc}
+use Prim.Native.Nat.{ℕ, suc, _+_, _*_, _-_, _/_, _%_, _≤_, _<_}
+use native.Mathlib.Numerals.{add-one}
+use native.Mathlib.Omega.{arith}
+use borrow.Author.Tests.{lt-ltb, le-ltb, eqb-true, eq-eqb}
+use lib.Dec.{T, ltb}
+use lib.IntN.{ℤ, pos, negsuc, natAbs}
+use lib.ListN.{length, getD, drop}
+use lib.Seq.{drop-cons, drop-append-seam}
+use Rattle.cells.specs.Bytes.{pair, quad, octet, pairAt, quadAt, octetAt, unsigned, signed, begins}
+
+-- every element is a byte
+abbrev pub Bytes : List ℕ → Type 0
+Bytes s = (i : ℕ) → getD s i 0 < 256
+
+pub and-true : (s t : Bool) → s && t ≡ true → (s ≡ true) × (t ≡ true)
+and-true true t e = (refl, e)
+and-true false t e = absurd (subst T (sym e) tt)
+
+pub both : {s t : Bool} → s ≡ true → t ≡ true → s && t ≡ true
+both e f = rw (e, f)
+
+-- ---- what a list begins with
+
+pub begins-self : (p r : List ℕ) → begins p (p ++ r) ≡ true
+unfolding begins
+begins-self [] r = refl
+begins-self (x ∷ p) r = both (eq-eqb x x refl) (begins-self p r)
+
+pub begins-says : (p s : List ℕ) → begins p s ≡ true → s ≡ p ++ drop (length p) s
+unfolding begins
+begins-says [] s e = refl
+begins-says (x ∷ p) [] e = absurd (subst T (sym e) tt)
+begins-says (x ∷ p) (y ∷ s) e =
+    let t = and-true _ _ e in
+    ap₂ (λ (a : ℕ) (l : List ℕ). a ∷ l) (sym (eqb-true x y (t .0))) (begins-says p s (t .1))
+
+pub append-same : {A : Type 0} (p : List A) {r r′ : List A} → p ++ r ≡ p ++ r′ → r ≡ r′
+append-same p {r} {r′} e = sym (drop-append-seam p r) ∙ ap (drop (length p)) e ∙ drop-append-seam p r′
+
+pub next : (s : List ℕ) (i : ℕ) → i < length s → drop i s ≡ getD s i 0 ∷ drop (i + 1) s
+next s i h = rw add-one (drop-cons s i 0 h)
+
+-- ---- reading what was written
+
+pub pair-reads : (n : ℕ) → n / 256 * 256 + n % 256 ≡ n
+pair-reads n = omega arith
+
+pub quad-reads : (n : ℕ) → (n / 65536 / 256 * 256 + n / 65536 % 256) * 65536 + (n % 65536 / 256 * 256 + n % 65536 % 256) ≡ n
+quad-reads n = omega arith
+
+pub octet-reads : (n : ℕ) → n / 4294967296 * 4294967296 + n % 4294967296 ≡ n
+octet-reads n = omega arith
+
+pub signed-unsigned : (m : ℕ) (z : ℤ) → 2 * natAbs z < m → signed m (unsigned m z) ≡ z
+unfolding signed unsigned
+signed-unsigned m (pos n) h = rw (lt-ltb (2 * n) m (omega arith))
+signed-unsigned m (negsuc n) h = rw (le-ltb (2 * (m - suc n)) m (omega arith)) (ap negsuc (omega arith))
+
+-- ---- writing what was read
+
+pub unsigned-signed : (m n : ℕ) → n < m → unsigned m (signed m n) ≡ n
+unfolding signed unsigned
+unsigned-signed m n h = go (ltb (2 * n) m)
+  where
+    go : (t : Bool) → unsigned m (cond t (pos n) (negsuc (m - suc n))) ≡ n
+    go true = refl
+    go false = omega arith
+
+module _ (s : List ℕ) (bytes : Bytes s) where
+  pub pair-below : (i : ℕ) → pairAt s i < 65536
+  unfolding pairAt
+  pair-below i = omega (arith, bytes i, bytes (i + 1))
+
+  pub quad-below : (i : ℕ) → quadAt s i < 4294967296
+  unfolding quadAt
+  quad-below i = omega (arith, pair-below i, pair-below (i + 2))
+
+  pub octet-below : (i : ℕ) → octetAt s i < 18446744073709551616
+  unfolding octetAt
+  octet-below i = omega (arith, quad-below i, quad-below (i + 4))
+
+  pub pair-back : (i : ℕ) → i + 2 ≤ length s → pair (pairAt s i) ++ drop (i + 2) s ≡ drop i s
+  unfolding pair pairAt
+  pair-back i h =
+      let d : (getD s i 0 * 256 + getD s (i + 1) 0) / 256 ≡ getD s i 0 = omega (arith, bytes (i + 1)) in
+      let m : (getD s i 0 * 256 + getD s (i + 1) 0) % 256 ≡ getD s (i + 1) 0 = omega (arith, bytes (i + 1)) in
+      let j : i + 1 + 1 ≡ i + 2 = omega arith in
+      rw (d, m, next s i (omega arith), next s (i + 1) (omega arith), j)
+
+  pub quad-back : (i : ℕ) → i + 4 ≤ length s → quad (quadAt s i) ++ drop (i + 4) s ≡ drop i s
+  unfolding quad quadAt
+  quad-back i h =
+      let d : (pairAt s i * 65536 + pairAt s (i + 2)) / 65536 ≡ pairAt s i = omega (arith, pair-below (i + 2)) in
+      let m : (pairAt s i * 65536 + pairAt s (i + 2)) % 65536 ≡ pairAt s (i + 2) = omega (arith, pair-below (i + 2)) in
+      let j : i + 4 ≡ i + 2 + 2 = omega arith in
+      rw (d, m, append-assoc (pair (pairAt s i)) (pair (pairAt s (i + 2))) (drop (i + 4) s), j, pair-back (i + 2) (omega arith)) (pair-back i (omega arith))
+
+  pub octet-back : (i : ℕ) → i + 8 ≤ length s → octet (octetAt s i) ++ drop (i + 8) s ≡ drop i s
+  unfolding octet octetAt
+  octet-back i h =
+      let d : (quadAt s i * 4294967296 + quadAt s (i + 4)) / 4294967296 ≡ quadAt s i = omega (arith, quad-below (i + 4)) in
+      let m : (quadAt s i * 4294967296 + quadAt s (i + 4)) % 4294967296 ≡ quadAt s (i + 4) = omega (arith, quad-below (i + 4)) in
+      let j : i + 8 ≡ i + 4 + 4 = omega arith in
+      rw (d, m, append-assoc (quad (quadAt s i)) (quad (quadAt s (i + 4))) (drop (i + 8) s), j, quad-back (i + 4) (omega arith)) (quad-back i (omega arith))

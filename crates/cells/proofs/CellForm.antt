@@ -1,0 +1,321 @@
+-- A cell's bytes, read back as the cell; and bytes that pass the code's tests, as the bytes of a cell.
+use mathlib.Core.Path.{_≡_, refl, sym, ap, ap₂, _∙_, subst}
+use mathlib.Core.Bool.{Bool, true, false, not, cond, _&&_, false≢true}
+use mathlib.Core.List.{List, [], _∷_, _++_, append-assoc}
+use mathlib.Core.Option.{Option, none, some}
+use Prim.Native.Nat.{ℕ, zero, suc, _+_, _-_, _/_, _%_, _≤_, _<_}
+use native.Mathlib.Omega.{arith}
+use borrow.Author.Tests.{leb-true, eqb-true, ne-eqb, not-true, not-false}
+use lib.Dec.{leb, eqb}
+use lib.IntN.{ℤ, natAbs}
+use lib.ListN.{length, getD, take, drop, replicate, length-append, length-replicate, length-drop, take-append-drop}
+use lib.Seq.{take-append-seam, drop-append-seam, length-take-le, drop-drop, take-at}
+use Rattle.meaning.specs.Answer.{Value, integer, decimal, string}
+use Rattle.numbers.specs.Range.{integerLimit, decimalLimit, within}
+use Rattle.cells.specs.Bytes.{pair, quad, octet, pairAt, quadAt, octetAt, unsigned, signed, word, long, begins}
+use Rattle.cells.specs.Cell.{Key, Cell, between, keyAllowed, keyBytes, each, printable, valueAllowed, cellAllowed, kindOf, integerKind, decimalKind, stringKind, valueBytes, cellBytes, keyAt, valueOf, cellOf, front}
+use Rattle.cells.specs.Tests.{sizeOf, zeros, stringFormed, valueFormed, sizeFound, frontSize, Sized}
+use Rattle.cells.proofs.BigEndian.{Bytes, and-true, both, begins-self, begins-says, pair-reads, quad-reads, octet-reads, signed-unsigned, unsigned-signed, quad-below, octet-below, next, pair-back, quad-back, octet-back}
+
+-- ---- a cell's bytes
+
+pub length-key : (k : Key) → length (keyBytes k) ≡ 7
+unfolding keyBytes pair
+length-key k = refl
+
+pub key-reads : (k : Key) (r : List ℕ) → keyAt (keyBytes k ++ r) 0 ≡ k
+unfolding keyAt keyBytes pair pairAt
+key-reads k r =
+    λ i. record {
+      datasource = k .datasource;
+      parameter = pair-reads (k .parameter) i;
+      recordNumber = pair-reads (k .recordNumber) i;
+      entryNumber = pair-reads (k .entryNumber) i;
+    }
+
+pub cell-key : (c : Cell) (r : List ℕ) → keyAt (cellBytes c ++ r) 1 ≡ c .key
+unfolding cellBytes keyAt keyBytes pair pairAt
+cell-key c r =
+    λ i. record {
+      datasource = c .key .datasource;
+      parameter = pair-reads (c .key .parameter) i;
+      recordNumber = pair-reads (c .key .recordNumber) i;
+      entryNumber = pair-reads (c .key .entryNumber) i;
+    }
+
+pub value-reads : (k : Key) (v : Value) (r : List ℕ) → valueAllowed v ≡ true → valueOf (cellBytes (record { key = k; value = v }) ++ r) ≡ v
+unfolding cellBytes valueOf keyBytes valueBytes valueAllowed kindOf pair quad octet pairAt quadAt octetAt within
+value-reads k (integer z) r e =
+    let h : natAbs z ≤ integerLimit = leb-true _ _ e in
+    rw (quad-reads (unsigned word z)) (ap integer (signed-unsigned word z (omega arith)))
+value-reads k (decimal z) r e =
+    let h : natAbs z ≤ decimalLimit = leb-true _ _ e in
+    rw (quad-reads (unsigned long z / 4294967296), quad-reads (unsigned long z % 4294967296), octet-reads (unsigned long z))
+    (ap decimal (signed-unsigned long z (omega arith)))
+value-reads k (string s) r e =
+    ap string (ap (take (length s)) (append-assoc s (replicate (16 - length s) 0) r) ∙ take-append-seam s (replicate (16 - length s) 0 ++ r))
+
+pub cell-reads : (c : Cell) (r : List ℕ) → valueAllowed (c .value) ≡ true → cellOf (cellBytes c ++ r) ≡ c
+cell-reads c r e = λ i. record { key = cell-key c r i; value = value-reads (c .key) (c .value) r e i }
+
+-- the cell whose bytes a list begins with is read, and only that
+pub key-allowed : (c : Cell) → cellAllowed c ≡ true → keyAllowed (c .key) ≡ true
+unfolding cellAllowed
+key-allowed c e = and-true _ (valueAllowed (c .value)) e .0
+
+pub value-allowed : (c : Cell) → cellAllowed c ≡ true → valueAllowed (c .value) ≡ true
+unfolding cellAllowed
+value-allowed c e = and-true (keyAllowed (c .key)) _ e .1
+
+pub front-cell : (c : Cell) (r : List ℕ) → cellAllowed c ≡ true → front (cellBytes c ++ r) ≡ some c
+unfolding front
+front-cell c r e =
+    ap (λ (x : Cell). cond (cellAllowed x && begins (cellBytes x) (cellBytes c ++ r)) (some x) none) (cell-reads c r (value-allowed c e))
+    ∙ rw (e, begins-self (cellBytes c) r)
+
+pub record Front (s : List ℕ) (c : Cell) : Type 0 where
+  pub allowed : cellAllowed c ≡ true
+  pub bytes : s ≡ cellBytes c ++ drop (length (cellBytes c)) s
+
+pub front-some : (s : List ℕ) (c : Cell) → front s ≡ some c → Front s c
+unfolding front
+front-some s c e = go (cellAllowed (cellOf s) && begins (cellBytes (cellOf s)) s) refl e
+  where
+    go : (t : Bool) → cellAllowed (cellOf s) && begins (cellBytes (cellOf s)) s ≡ t → cond t (some (cellOf s)) none ≡ some c → Front s c
+    go true t q =
+        let h = and-true _ _ t in
+        let w : cellOf s ≡ c = cc in
+        subst (λ (x : Cell). Front s x) w (record { allowed = h .0; bytes = begins-says _ _ (h .1) })
+    go false t q = let z : _≡_ {A = ℕ} 0 1 = cc in absurd (omega arith)
+
+pub cell-size : (k : Key) (v : Value) → valueAllowed v ≡ true → length (cellBytes (record { key = k; value = v })) ≡ sizeOf (kindOf v)
+unfolding cellBytes keyBytes valueBytes pair quad octet kindOf sizeOf valueAllowed
+cell-size k (integer z) e = refl
+cell-size k (decimal z) e = refl
+cell-size k (string s) e =
+    let h : length s ≤ 16 = leb-true _ _ (and-true _ _ e .0) in
+    simp (length-append, length-replicate) (omega arith)
+
+-- ---- the tests that the code makes
+
+pub record Formed (s : List ℕ) : Type 0 where
+  pub known : 0 < sizeOf (getD s 0 0)
+  pub fits : sizeOf (getD s 0 0) ≤ length s
+  pub key : keyAllowed (keyAt s 1) ≡ true
+  pub value : valueFormed s ≡ true
+
+zeros-are : (s : List ℕ) (n : ℕ) → length s ≡ n → zeros s ≡ true → replicate n 0 ≡ s
+unfolding each between
+zeros-are [] n h e = rw (sym h)
+zeros-are (b ∷ s) n h e =
+    let t = and-true (leb 0 b && leb b 0) (zeros s) e in
+    let z : 0 ≡ b = omega (arith, leb-true b 0 (and-true (leb 0 b) (leb b 0) (t .0) .1)) in
+    rw (sym h) (ap₂ (λ (a : ℕ) (l : List ℕ). a ∷ l) z (zeros-are s (length s) refl (t .1)))
+
+zeros-of : (n : ℕ) → zeros (replicate n 0) ≡ true
+unfolding each between
+zeros-of zero = refl
+zeros-of (suc n) = zeros-of n
+
+module _ (s : List ℕ) (bytes : Bytes s) where
+  pub key-back : (i : ℕ) → i + 7 ≤ length s → keyBytes (keyAt s i) ++ drop (i + 7) s ≡ drop i s
+  unfolding keyBytes keyAt
+  key-back i h =
+      let two : (j k : ℕ) → k ≡ j + 2 → j + 2 ≤ length s → pair (pairAt s j) ++ drop k s ≡ drop j s =
+      λ j k e l. ap (λ (n : ℕ). pair (pairAt s j) ++ drop n s) e ∙ pair-back s bytes j l in
+      rw (append-assoc (pair (pairAt s (i + 1))) (pair (pairAt s (i + 3)) ++ pair (pairAt s (i + 5))) (drop (i + 7) s), append-assoc (pair (pairAt s (i + 3))) (pair (pairAt s (i + 5))) (drop (i + 7) s), two (i + 5) (i + 7) (omega arith) (omega arith), two (i + 3) (i + 5) (omega arith) (omega arith), two (i + 1) (i + 3) (omega arith) (omega arith))
+      (sym (next s i (omega arith)))
+
+  -- a value v whose bytes stand behind the key
+  cell-back : (v : Value) (n : ℕ) → 8 ≤ length s → kindOf v ≡ getD s 0 0 → valueBytes v ++ drop n s ≡ drop 8 s → cellBytes (record { key = keyAt s 1; value = v }) ++ drop n s ≡ s
+  unfolding cellBytes
+  cell-back v n h k e =
+      rw (append-assoc (keyBytes (keyAt s 1)) (valueBytes v) (drop n s), e, k, key-back 1 (omega arith))
+      (sym (next s 0 (omega arith)))
+
+  read-front : (v : Value) (n : ℕ) → valueOf s ≡ v → 8 ≤ length s → kindOf v ≡ getD s 0 0 → valueBytes v ++ drop n s ≡ drop 8 s → keyAllowed (keyAt s 1) ≡ true → valueAllowed v ≡ true → front s ≡ some (cellOf s)
+  unfolding cellAllowed
+  read-front v n w h k e a b =
+      let c : Cell = record { key = keyAt s 1; value = v } in
+      let q : cellOf s ≡ c = ap (λ (x : Value). record { key = keyAt s 1; value = x }) w in
+      ap front (sym (cell-back v n h k e)) ∙ front-cell c (drop n s) (both a b) ∙ ap some (sym q)
+
+  formed-integer : getD s 0 0 ≡ integerKind → 12 ≤ length s → keyAllowed (keyAt s 1) ≡ true → within integerLimit (signed word (quadAt s 8)) ≡ true → front s ≡ some (cellOf s)
+  unfolding valueOf kindOf valueBytes valueAllowed
+  formed-integer k h a e =
+      read-front (integer (signed word (quadAt s 8))) 12 (rw k) (omega arith) (sym k) (rw (unsigned-signed word (quadAt s 8) (quad-below s bytes 8)) (quad-back s bytes 8 (omega arith))) a e
+
+  formed-decimal : getD s 0 0 ≡ decimalKind → 16 ≤ length s → keyAllowed (keyAt s 1) ≡ true → within decimalLimit (signed long (octetAt s 8)) ≡ true → front s ≡ some (cellOf s)
+  unfolding valueOf kindOf valueBytes valueAllowed
+  formed-decimal k h a e =
+      read-front (decimal (signed long (octetAt s 8))) 16 (rw k) (omega arith) (sym k) (rw (unsigned-signed long (octetAt s 8) (octet-below s bytes 8)) (octet-back s bytes 8 (omega arith))) a e
+
+  formed-string : getD s 0 0 ≡ stringKind → 25 ≤ length s → keyAllowed (keyAt s 1) ≡ true → stringFormed s ≡ true → front s ≡ some (cellOf s)
+  unfolding valueOf kindOf valueBytes valueAllowed stringFormed
+  formed-string k h a e =
+      let n = getD s 8 0 in
+      let t = and-true (leb n 16) (printable (take n (drop 9 s)) && zeros (take (16 - n) (drop (9 + n) s))) e in
+      let u = and-true (printable (take n (drop 9 s))) (zeros (take (16 - n) (drop (9 + n) s))) (t .1) in
+      let l : n ≤ 16 = leb-true _ _ (t .0) in
+      let m : length (take n (drop 9 s)) ≡ n = length-take-le n (drop 9 s) (omega (arith, length-drop 9 s)) in
+      let o : length (take (16 - n) (drop (9 + n) s)) ≡ 16 - n = length-take-le (16 - n) (drop (9 + n) s) (omega (arith, length-drop (9 + n) s)) in
+      let z : replicate (16 - n) 0 ≡ take (16 - n) (drop (9 + n) s) = zeros-are (take (16 - n) (drop (9 + n) s)) (16 - n) o (u .1) in
+      let j : 9 + n + (16 - n) ≡ 25 = omega arith in
+      let r : drop 25 s ≡ drop (16 - n) (drop (9 + n) s) = ap (λ (i : ℕ). drop i s) (sym j) ∙ sym (drop-drop (16 - n) (9 + n) s) in
+      let q : take n (drop 9 s) ++ drop (9 + n) s ≡ drop 9 s = ap (λ (x : List ℕ). take n (drop 9 s) ++ x) (sym (drop-drop n 9 s)) ∙ take-append-drop n (drop 9 s) in
+      let w : replicate (16 - n) 0 ++ drop 25 s ≡ drop (9 + n) s = ap₂ (λ (x y : List ℕ). x ++ y) z r ∙ take-append-drop (16 - n) (drop (9 + n) s) in
+      read-front (string (take n (drop 9 s))) 25 (rw k) (omega arith) (sym k)
+      (rw (m, append-assoc (take n (drop 9 s)) (replicate (16 - n) 0) (drop 25 s), w, q) (sym (next s 8 (omega arith))))
+      a
+      (rw m (both (t .0) (u .0)))
+
+  pub formed-front : Formed s → front s ≡ some (cellOf s)
+  unfolding sizeOf valueFormed
+  formed-front f = go (eqb (getD s 0 0) integerKind) refl (eqb (getD s 0 0) decimalKind) refl (eqb (getD s 0 0) stringKind) refl
+    where
+      go : (p : Bool) → eqb (getD s 0 0) integerKind ≡ p → (q : Bool) → eqb (getD s 0 0) decimalKind ≡ q → (r : Bool) → eqb (getD s 0 0) stringKind ≡ r → front s ≡ some (cellOf s)
+      go true e q e₁ r e₂ = formed-integer (eqb-true _ _ e) (rw e at (f .fits)) (f .key) (rw e at (f .value))
+      go false e true e₁ r e₂ = formed-decimal (eqb-true _ _ e₁) (rw (e, e₁) at (f .fits)) (f .key) (rw (e, e₁) at (f .value))
+      go false e false e₁ true e₂ = formed-string (eqb-true _ _ e₂) (rw (e, e₁, e₂) at (f .fits)) (f .key) (rw (e, e₁) at (f .value))
+      go false e false e₁ false e₂ = let z : 0 < 0 = rw (e, e₁, e₂) at (f .known) in absurd (omega arith)
+
+-- ---- a cell's bytes pass the tests
+
+text-formed : (b s r : List ℕ) → drop 9 b ≡ s ++ (replicate (16 - length s) 0 ++ r) → getD b 8 0 ≡ length s → leb (length s) 16 ≡ true → printable s ≡ true → stringFormed b ≡ true
+unfolding stringFormed
+text-formed b s r e n l p =
+    let z : List ℕ = replicate (16 - length s) 0 in
+    let f : take (length s) (drop 9 b) ≡ s = ap (take (length s)) e ∙ take-append-seam s (z ++ r) in
+    let g : drop (9 + length s) b ≡ z ++ r = sym (drop-drop (length s) 9 b) ∙ ap (drop (length s)) e ∙ drop-append-seam s (z ++ r) in
+    let h : take (16 - length s) (z ++ r) ≡ z = take-at z r (16 - length s) (length-replicate (16 - length s) 0) in
+    rw (n, f, g, h) (both l (both p (zeros-of (16 - length s))))
+
+module _ (k : Key) (r : List ℕ) where
+  abbrev laid : Value → List ℕ
+  laid v = cellBytes (record { key = k; value = v }) ++ r
+
+  pub first-byte : (v : Value) → getD (laid v) 0 0 ≡ kindOf v
+  unfolding cellBytes
+  first-byte v = refl
+
+  pub known-kind : (v : Value) → 0 < sizeOf (kindOf v)
+  unfolding kindOf sizeOf
+  known-kind (integer z) = omega arith
+  known-kind (decimal z) = omega arith
+  known-kind (string s) = omega arith
+
+  read-integer : (z : ℤ) → valueAllowed (integer z) ≡ true → signed word (quadAt (laid (integer z)) 8) ≡ z
+  unfolding valueOf cellBytes kindOf
+  read-integer z e = let w = value-reads k (integer z) r e in cc
+
+  read-decimal : (z : ℤ) → valueAllowed (decimal z) ≡ true → signed long (octetAt (laid (decimal z)) 8) ≡ z
+  unfolding valueOf cellBytes kindOf
+  read-decimal z e = let w = value-reads k (decimal z) r e in cc
+
+  formed-text : (s : List ℕ) → valueAllowed (string s) ≡ true → stringFormed (laid (string s)) ≡ true
+  unfolding valueAllowed cellBytes kindOf keyBytes valueBytes pair
+  formed-text s e =
+      let t = and-true (leb (length s) 16) (printable s) e in
+      text-formed (laid (string s)) s r (append-assoc s (replicate (16 - length s) 0) r) refl (t .0) (t .1)
+
+  formed-value : (v : Value) → valueAllowed v ≡ true → valueFormed (laid v) ≡ true
+  unfolding valueFormed kindOf valueAllowed
+  formed-value (integer z) e = rw (first-byte (integer z), read-integer z e) e
+  formed-value (decimal z) e = rw (first-byte (decimal z), read-decimal z e) e
+  formed-value (string s) e = rw (first-byte (string s)) (formed-text s e)
+
+  cell-formed : (v : Value) → keyAllowed k ≡ true → valueAllowed v ≡ true → Formed (laid v)
+  cell-formed v a b =
+      record {
+        known = rw (first-byte v) (known-kind v);
+        fits = rw (first-byte v) (omega (arith, length-append (cellBytes (record { key = k; value = v })) r, cell-size k v b));
+        key = rw (cell-key (record { key = k; value = v }) r) a;
+        value = formed-value v b;
+      }
+
+pub front-formed : (s : List ℕ) (c : Cell) → front s ≡ some c → Formed s
+front-formed s c e =
+    let f = front-some s c e in
+    subst Formed (sym (f .bytes)) (cell-formed (c .key) (drop (length (cellBytes c)) s) (c .value) (key-allowed c (f .allowed)) (value-allowed c (f .allowed)))
+
+-- ---- the size of the cell
+
+pub size-integer : (k : ℕ) → k ≡ integerKind → sizeOf k ≡ 12
+unfolding sizeOf
+size-integer k e = rw e
+
+pub size-decimal : (k : ℕ) → k ≡ decimalKind → sizeOf k ≡ 16
+unfolding sizeOf
+size-decimal k e = rw e
+
+pub size-string : (k : ℕ) → (k ≡ integerKind → ⊥) → (k ≡ decimalKind → ⊥) → 0 < sizeOf k → sizeOf k ≡ 25
+unfolding sizeOf
+size-string k a b h = go (eqb k stringKind) refl
+  where
+    go : (t : Bool) → eqb k stringKind ≡ t → sizeOf k ≡ 25
+    go true e = rw (ne-eqb _ _ a, ne-eqb _ _ b, e)
+    go false e = let z : 0 < 0 = rw (ne-eqb _ _ a, ne-eqb _ _ b, e) at h in absurd (omega arith)
+
+pub size-least : (k : ℕ) → 0 < sizeOf k → 12 ≤ sizeOf k
+unfolding sizeOf
+size-least k h = go (eqb k integerKind) (eqb k decimalKind) (eqb k stringKind) h
+  where
+    go : (p q r : Bool) → 0 < cond p 12 (cond q 16 (cond r 25 0)) → 12 ≤ cond p 12 (cond q 16 (cond r 25 0))
+    go true q r h = omega arith
+    go false true r h = omega arith
+    go false false true h = omega arith
+    go false false false h = absurd (omega arith)
+
+pub size-most : (k : ℕ) → sizeOf k ≤ 25
+unfolding sizeOf
+size-most k = go (eqb k integerKind) (eqb k decimalKind) (eqb k stringKind)
+  where
+    go : (p q r : Bool) → cond p 12 (cond q 16 (cond r 25 0)) ≤ 25
+    go true q r = omega arith
+    go false true r = omega arith
+    go false false true = omega arith
+    go false false false = omega arith
+
+-- the answers of `cell_size`
+module _ (s : List ℕ) where
+  pub no-cell : (Formed s → ⊥) → Sized s 0
+  unfolding frontSize sizeFound
+  no-cell n = record { size = go (front s) refl; inside = omega arith; least = λ h. absurd (omega arith) }
+    where
+      go : (o : Option Cell) → front s ≡ o → 0 ≡ sizeFound o
+      go none e = refl
+      go (some c) e = absurd (n (front-formed s c e))
+
+  pub one-cell : Bytes s → Formed s → Sized s (sizeOf (getD s 0 0))
+  unfolding frontSize sizeFound
+  one-cell b f =
+      let e = formed-front s b f in
+      let g = front-some s (cellOf s) e in
+      record {
+        size = rw e (ap (λ (x : List ℕ). sizeOf (getD x 0 0)) (g .bytes) ∙ ap sizeOf (first-byte (keyAt s 1) (drop (length (cellBytes (cellOf s))) s) (valueOf s)) ∙ sym (cell-size (keyAt s 1) (valueOf s) (value-allowed (cellOf s) (g .allowed))));
+        inside = f .fits;
+        least = size-least _;
+      }
+
+  pub no-bytes : length s < 1 → Sized s 0
+  no-bytes h = no-cell (λ f. omega arith)
+
+  module _ (n : ℕ) (e : n ≡ sizeOf (getD s 0 0)) where
+    pub unknown-kind : n < 1 → Sized s 0
+    unknown-kind h = no-cell (λ f. omega arith)
+
+    pub cut-short : length s < n → Sized s 0
+    cut-short h = no-cell (λ f. omega arith)
+
+    pub room-for-key : 1 ≤ n → n ≤ length s → 8 ≤ length s
+    room-for-key h k = omega (arith, size-least (getD s 0 0) (omega arith))
+
+    pub sized-cell : Bytes s → 1 ≤ n → n ≤ length s → (r : Bool) → r ≡ keyAllowed (keyAt s 1) → not r ≡ false → (q : Bool) → q ≡ valueFormed s → not q ≡ false → Sized s n
+    sized-cell b h k r x y q v w =
+        rw e (one-cell b (record { known = omega arith; fits = omega arith; key = sym x ∙ not-false r y; value = sym v ∙ not-false q w }))
+
+  pub refused-key : (r : Bool) → r ≡ keyAllowed (keyAt s 1) → not r ≡ true → Sized s 0
+  refused-key r e n = no-cell (λ f. false≢true (sym (not-true r n) ∙ e ∙ f .key))
+
+  pub refused-value : (r : Bool) → r ≡ valueFormed s → not r ≡ true → Sized s 0
+  refused-value r e n = no-cell (λ f. false≢true (sym (not-true r n) ∙ e ∙ f .value))

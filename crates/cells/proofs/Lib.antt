@@ -1,0 +1,12 @@
+pub mod BigEndian
+pub mod CellForm
+pub mod Runs
+pub mod Laws
+pub mod Walking
+pub mod Halving
+pub mod Locating
+pub mod Answering
+pub mod Questions
+pub mod Values
+pub mod Replies
+pub mod Requests

@@ -1,0 +1,190 @@
+-- Questions: their limits as the code tests them, and the range of keys that kinds 2 and 3 speak of.
+use mathlib.Core.Path.{_≡_, sym, ap, _∙_}
+use mathlib.Core.Bool.{Bool, true, false, cond, _&&_, not, false≢true}
+use mathlib.Core.List.{List}
+use Prim.Native.Nat.{ℕ, _+_, _≤_, _<_}
+use native.Mathlib.Omega.{arith}
+use borrow.Author.Tests.{eqb-true, eq-eqb, ne-eqb, leb-true, not-true, not-false}
+use lib.Dec.{eqb, leb}
+use Rattle.meaning.specs.Answer.{missing, highest}
+use Rattle.meaning.specs.declared.question.Question.{Question}
+use Rattle.cells.specs.declared.Answered.{Answered}
+use Rattle.cells.specs.declared.Answered.the-variants.{Missing, Highest}
+use Rattle.cells.specs.Bytes.{pair, pairAt}
+use Rattle.cells.specs.Cell.{Key, Cell, between, keyAllowed, keyBytes, number, cellBytes}
+use Rattle.cells.specs.Asking.{asked, unusedZero, questionAllowed, ofParameter, ofRecord, answer, meant}
+use Rattle.cells.specs.Index as I
+use Rattle.cells.specs.Index.{Ready, CellAnswer, Answers}
+use Rattle.cells.proofs.BigEndian.{and-true, both, pair-reads}
+use Rattle.cells.proofs.CellForm.{key-allowed}
+use Rattle.cells.proofs.Locating.{held-some}
+use Rattle.cells.proofs.Answering.{Range, highest-in}
+
+-- ---- the limits of a key
+
+pub record Limits (k : Key) : Type 0 where
+  pub datasource : k .datasource ≤ 35
+  pub parameter : k .parameter ≤ 65535
+  pub recordNumber : k .recordNumber ≤ 999
+  pub entryNumber : k .entryNumber ≤ 999
+
+pub limits : (k : Key) → keyAllowed k ≡ true → Limits k
+unfolding keyAllowed between
+limits k e =
+    let a = and-true (between 1 35 (k .datasource)) (between 1 65535 (k .parameter) && (leb (k .recordNumber) 999 && leb (k .entryNumber) 999)) e in
+    let b = and-true (between 1 65535 (k .parameter)) (leb (k .recordNumber) 999 && leb (k .entryNumber) 999) (a .1) in
+    let c = and-true (leb (k .recordNumber) 999) (leb (k .entryNumber) 999) (b .1) in
+    record {
+      datasource = leb-true _ _ (and-true (leb 1 (k .datasource)) (leb (k .datasource) 35) (a .0) .1);
+      parameter = leb-true _ _ (and-true (leb 1 (k .parameter)) (leb (k .parameter) 65535) (b .0) .1);
+      recordNumber = leb-true _ _ (c .0);
+      entryNumber = leb-true _ _ (c .1);
+    }
+
+-- ---- the range of keys of a parameter, and of a record
+
+module _ (k : Key) (l : Limits k) (e : k .entryNumber ≡ 0) where
+  of-record : (c : Cell) → ofRecord k c ≡ true → (c .key .datasource ≡ k .datasource) × (c .key .parameter ≡ k .parameter) × (c .key .recordNumber ≡ k .recordNumber)
+  unfolding ofRecord ofParameter
+  of-record c t =
+      let a = and-true (eqb (c .key .datasource) (k .datasource) && eqb (c .key .parameter) (k .parameter)) (eqb (c .key .recordNumber) (k .recordNumber)) t in
+      let b = and-true (eqb (c .key .datasource) (k .datasource)) (eqb (c .key .parameter) (k .parameter)) (a .0) in
+      (eqb-true _ _ (b .0), eqb-true _ _ (b .1), eqb-true _ _ (a .1))
+
+  pub record-range : Range (ofRecord k) (λ c. c .key .entryNumber) (number k) (number k + 65536)
+  unfolding number ofRecord ofParameter
+  record-range =
+      record {
+        from = λ c a t. let o = of-record c t in omega arith;
+        below = λ c a t. let o = of-record c t in let m = limits (c .key) (key-allowed c a) in omega arith;
+        means = λ c a h u.
+            let m = limits (c .key) (key-allowed c a) in
+            both
+            (both (eq-eqb (c .key .datasource) (k .datasource) (omega arith)) (eq-eqb (c .key .parameter) (k .parameter) (omega arith)))
+            (eq-eqb (c .key .recordNumber) (k .recordNumber) (omega arith));
+        rises = λ c d a b t s h. let o = of-record c t in let p = of-record d s in omega arith;
+      }
+
+  module _ (z : k .recordNumber ≡ 0) where
+    of-parameter : (c : Cell) → ofParameter k c ≡ true → (c .key .datasource ≡ k .datasource) × (c .key .parameter ≡ k .parameter)
+    unfolding ofParameter
+    of-parameter c t =
+        let b = and-true (eqb (c .key .datasource) (k .datasource)) (eqb (c .key .parameter) (k .parameter)) t in
+        (eqb-true _ _ (b .0), eqb-true _ _ (b .1))
+
+    pub parameter-range : Range (ofParameter k) (λ c. c .key .recordNumber) (number k) (number k + 4294967296)
+    unfolding number ofParameter
+    parameter-range =
+        record {
+          from = λ c a t. let o = of-parameter c t in omega arith;
+          below = λ c a t. let o = of-parameter c t in let m = limits (c .key) (key-allowed c a) in omega arith;
+          means = λ c a h u.
+              let m = limits (c .key) (key-allowed c a) in
+              both (eq-eqb (c .key .datasource) (k .datasource) (omega arith)) (eq-eqb (c .key .parameter) (k .parameter) (omega arith));
+          rises = λ c d a b t s h.
+              let o = of-parameter c t in
+              let p = of-parameter d s in
+              let m = limits (c .key) (key-allowed c a) in
+              let n = limits (d .key) (key-allowed d b) in
+              omega arith;
+        }
+
+record-at : (c : Cell) → c .key .recordNumber ≡ pairAt (cellBytes c) 4
+unfolding cellBytes keyBytes pair pairAt
+record-at c = sym (pair-reads (c .key .recordNumber))
+
+entry-at : (c : Cell) → c .key .entryNumber ≡ pairAt (cellBytes c) 6
+unfolding cellBytes keyBytes pair pairAt
+entry-at c = sym (pair-reads (c .key .entryNumber))
+
+-- ---- the tests of `allowed`
+
+module _ (q : Question) (t : Bool) (k : t ≡ keyAllowed (asked q)) where
+  pub refused-limits : not t ≡ true → false ≡ questionAllowed q
+  unfolding questionAllowed
+  refused-limits n = rw (sym k ∙ not-true t n)
+
+  module _ (n : not t ≡ false) where
+    inside : keyAllowed (asked q) ≡ true
+    inside = sym k ∙ not-false t n
+
+    pub allowed-one : q .kind ≡ 1 → true ≡ questionAllowed q
+    unfolding questionAllowed unusedZero
+    allowed-one e = rw (inside, eq-eqb _ _ e)
+
+    module _ (a : q .kind ≡ 1 → ⊥) where
+      pub refused-record : q .kind ≡ 2 → 0 < q .«record» → false ≡ questionAllowed q
+      unfolding questionAllowed unusedZero
+      refused-record e h = rw (inside, ne-eqb _ _ a, eq-eqb _ _ e, ne-eqb (q .«record») 0 (λ z. omega arith))
+
+      pub allowed-two : q .kind ≡ 2 → q .«record» ≤ 0 → eqb (q .entry) 0 ≡ questionAllowed q
+      unfolding questionAllowed unusedZero
+      allowed-two e h = rw (inside, ne-eqb _ _ a, eq-eqb _ _ e, eq-eqb (q .«record») 0 (omega arith))
+
+      module _ (b : q .kind ≡ 2 → ⊥) where
+        pub allowed-three : q .kind ≡ 3 → eqb (q .entry) 0 ≡ questionAllowed q
+        unfolding questionAllowed unusedZero
+        allowed-three e = rw (inside, ne-eqb _ _ a, ne-eqb _ _ b, eq-eqb _ _ e)
+
+        pub refused-kind : (q .kind ≡ 3 → ⊥) → false ≡ questionAllowed q
+        unfolding questionAllowed unusedZero
+        refused-kind e = rw (inside, ne-eqb _ _ a, ne-eqb _ _ b, ne-eqb _ _ e)
+
+-- ---- the answers of `answer`
+
+module _ (b index : List ℕ) (count : ℕ) (q : Question) (t : Bool) (k : t ≡ questionAllowed q) where
+  pub answers-refused : not t ≡ true → Answers b index count q Missing
+  unfolding meant
+  answers-refused n = record { answer = λ m cs r. rw (sym k ∙ not-true t n) }
+
+  module _ (n : not t ≡ false) where
+    whole : questionAllowed q ≡ true
+    whole = sym k ∙ not-false t n
+
+    pub key-inside : keyAllowed (asked q) ≡ true
+    unfolding questionAllowed
+    key-inside = and-true (keyAllowed (asked q)) (unusedZero q) whole .0
+
+    unused : unusedZero q ≡ true
+    unfolding questionAllowed
+    unused = and-true (keyAllowed (asked q)) (unusedZero q) whole .1
+
+    module _ (key : ℕ) (e : key ≡ number (asked q)) where
+      pub answers-cell : q .kind ≡ 1 → (r : Answered) → CellAnswer b index count key r → Answers b index count q r
+      unfolding answer
+      answers-cell o r c = record { answer = λ m cs d. rw (whole, eq-eqb _ _ o, ← e) (c .found m cs d) }
+
+      module _ (o : q .kind ≡ 1 → ⊥) (r : ℕ) where
+        pub answers-records : q .kind ≡ 2 → I.Highest b index count key (key + 4294967296) 4 r → Answers b index count q (Highest r)
+        unfolding answer meant unusedZero
+        answers-records w h = record { answer = go }
+          where
+            zeros : (q .«record» ≡ 0) × (q .entry ≡ 0)
+            zeros =
+                let z : eqb (q .«record») 0 && eqb (q .entry) 0 ≡ true = rw (ne-eqb _ _ o, eq-eqb _ _ w) at unused in
+                let a = and-true (eqb (q .«record») 0) (eqb (q .entry) 0) z in
+                (eqb-true _ _ (a .0), eqb-true _ _ (a .1))
+
+            range : Range (ofParameter (asked q)) (λ c. c .key .recordNumber) key (key + 4294967296)
+            range = rw e (parameter-range (asked q) (limits (asked q) key-inside) (zeros .1) (zeros .0))
+
+            go : (m : ℕ) (cs : List Cell) → Ready b m index count cs → highest r ≡ cond (questionAllowed q) (answer q cs) missing
+            go m cs d =
+                rw (whole, ne-eqb _ _ o, eq-eqb _ _ w)
+                (ap highest (highest-in (ofParameter (asked q)) (λ c. c .key .recordNumber) key (key + 4294967296) 4 range record-at cs (held-some b m cs (d .holds) .holds .valid .allowed) r (h .last m cs d)))
+
+        pub answers-entries : (q .kind ≡ 2 → ⊥) → I.Highest b index count key (key + 65536) 6 r → Answers b index count q (Highest r)
+        unfolding answer meant unusedZero
+        answers-entries w h = record { answer = go }
+          where
+            third : (x : Bool) → cond x (eqb (q .entry) 0) false ≡ true → q .entry ≡ 0
+            third true y = eqb-true _ _ y
+            third false y = absurd (false≢true y)
+
+            range : Range (ofRecord (asked q)) (λ c. c .key .entryNumber) key (key + 65536)
+            range = rw e (record-range (asked q) (limits (asked q) key-inside) (third (eqb (q .kind) 3) (rw (ne-eqb _ _ o, ne-eqb _ _ w) at unused)))
+
+            go : (m : ℕ) (cs : List Cell) → Ready b m index count cs → highest r ≡ cond (questionAllowed q) (answer q cs) missing
+            go m cs d =
+                rw (whole, ne-eqb _ _ o, ne-eqb _ _ w)
+                (ap highest (highest-in (ofRecord (asked q)) (λ c. c .key .entryNumber) key (key + 65536) 6 range entry-at cs (held-some b m cs (d .holds) .holds .valid .allowed) r (h .last m cs d)))

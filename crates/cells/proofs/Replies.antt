@@ -1,0 +1,108 @@
+-- What `ask` hands back, from the index that was built.
+use mathlib.Core.Path.{_≡_, refl, sym, ap, _∙_}
+use mathlib.Core.Bool.{Bool, true, false, not}
+use mathlib.Core.List.{List, [], _∷_, _++_}
+use mathlib.Core.Option.{Option, none, some}
+use Prim.Native.Nat.{ℕ, _+_, _*_, _-_, _≤_, _<_}
+use native.Mathlib.Omega.{arith}
+use borrow.Author.Tests.{not-true, not-false}
+use lib.ListN.{length, getD, take, drop, length-append, drop-of-length-le, List·getD-append}
+use lib.Seq.{sets, sets-eq, take-all, take-nil, length-take-le}
+use lib.ListN.{length-drop}
+use Rattle.meaning.specs.declared.question.Question.{Question}
+use Rattle.meaning.specs.declared.refusal.Refusal.the-variants as R
+use Rattle.meaning.specs.declared.end.Ended.the-variants.{Finished}
+use Rattle.cells.specs.declared.Answered.{Answered}
+use Rattle.cells.specs.declared.Answered.the-variants.{Missing}
+use Rattle.cells.specs.declared.index.Indexed.{Indexed}
+use Rattle.cells.specs.declared.index.Indexed.the-variants.{Count, BadStore}
+use Rattle.cells.specs.Cell.{Cell, cellAllowed, cellBytes}
+use Rattle.cells.specs.Store.{encode, allowed, held}
+use Rattle.cells.specs.Index.{offsets, counted, Filled, Indexes, Ready, Answers}
+use Rattle.cells.specs.Asking.{questionAllowed, refusedWith, replied, askOf, meant, reply}
+use Rattle.cells.proofs.BigEndian.{and-true}
+use Rattle.cells.proofs.Locating.{held-some, cell-least}
+use Rattle.cells.proofs.Walking.{length-offsets}
+
+-- ---- what the index tells
+
+no-count : {n : ℕ} → BadStore ≡ Count n → ⊥
+no-count e = let z : _≡_ {A = ℕ} 0 1 = cc in omega arith
+
+pub none-counted : (o : Option (List Cell)) → BadStore ≡ counted o → o ≡ none
+unfolding counted
+none-counted none e = refl
+none-counted (some cs) e = absurd (no-count e)
+
+pub record Found (o : Option (List Cell)) (p p′ : List ℕ) (n : ℕ) : Type 0 where
+  pub cells : List Cell
+  pub held : o ≡ some cells
+  pub tally : n ≡ length cells
+  pub filled : p′ ≡ sets p 0 (offsets 0 cells)
+
+pub some-counted : (o : Option (List Cell)) (p p′ : List ℕ) (n : ℕ) → Count n ≡ counted o → Filled p p′ o → Found o p p′ n
+unfolding counted Filled
+some-counted none p p′ n e f = absurd (no-count (sym e))
+some-counted (some cs) p p′ n e f = record { cells = cs; held = refl; tally = cc; filled = f }
+
+-- 65,536 bytes hold at most 5,461 cells
+pub encode-least : (cs : List Cell) → allowed cs ≡ true → 12 * length cs ≤ length (encode cs)
+unfolding encode allowed
+encode-least [] a = omega arith
+encode-least (c ∷ cs) a =
+    let t = and-true (cellAllowed c) (allowed cs) a in
+    omega (arith, length-append (cellBytes c) (encode cs), cell-least c (t .0), encode-least cs (t .1))
+
+module _ (b : List ℕ) (n : ℕ) (p p′ : List ℕ) (r : Indexed) (i : Indexes p (held b n) p′ r) where
+  pub not-held : r ≡ BadStore → held b n ≡ none
+  not-held e = none-counted (held b n) (sym e ∙ i .told)
+
+  pub built : (count : ℕ) → r ≡ Count count → Found (held b n) p p′ count
+  built count e = some-counted (held b n) p p′ count (sym e ∙ i .told) (i .filled)
+
+  -- an index with room for 5,461 places serves for every store
+  pub index-ready : (count : ℕ) → r ≡ Count count → 5461 ≤ length p → (cs : List Cell) × Ready b n p′ count cs
+  index-ready count e l =
+      let f = built count e in
+      let cs = f .cells in
+      let h = held-some b n cs (f .held) in
+      let m : 12 * length cs ≤ 65536 = omega (arith, encode-least cs (h .holds .valid .allowed), ap length (h .holds .bytes), length-take-le n b (h .inside), h .most) in
+      let k : length (offsets 0 cs) ≡ length cs = length-offsets cs 0 in
+      let s : p′ ≡ offsets 0 cs ++ drop (0 + length (offsets 0 cs)) p = f .filled ∙ sets-eq (offsets 0 cs) p 0 (omega arith) in (
+        cs,
+        record {
+          holds = f .held;
+          tally = f .tally;
+          places = λ j u. ap (λ (x : List ℕ). getD x j 0) s ∙ List·getD-append (offsets 0 cs) (drop (0 + length (offsets 0 cs)) p) 0 j (omega (arith, f .tally));
+        },
+      )
+
+  -- ---- the answers of `ask`
+
+  pub ask-bad-store : (q : Question) → r ≡ BadStore → reply b (record { end = refusedWith R.BadStore; answer = Missing }) ≡ askOf b n q
+  unfolding reply meant askOf replied
+  ask-bad-store q e = rw (not-held e)
+
+  module _ (q : Question) (count : ℕ) (e : r ≡ Count count) (t : Bool) (a : t ≡ questionAllowed q) where
+    pub ask-bad-request : not t ≡ true → reply b (record { end = refusedWith R.BadRequest; answer = Missing }) ≡ askOf b n q
+    unfolding reply meant askOf replied
+    ask-bad-request u = rw (built count e .held, sym a ∙ not-true t u)
+
+    pub ask-answered : not t ≡ false → 5461 ≤ length p → (x : Answered) → Answers b p′ count q x → reply b (record { end = Finished; answer = x }) ≡ askOf b n q
+    unfolding reply askOf replied
+    ask-answered u l x w =
+        let g = index-ready count e l in
+        let v : questionAllowed q ≡ true = sym a ∙ not-false t u in
+        rw (g .1 .holds, w .answer n (g .0) (g .1), v)
+
+-- ---- the answers of `text`
+
+module _ (s : List ℕ) (at count : ℕ) where
+  pub text-past : length s ≤ at → take (length s - length s) (drop (length s) s) ≡ take count (drop at s)
+  text-past h = rw (drop-of-length-le s {i = length s} (omega arith), drop-of-length-le s {i = at} h, take-nil {A = ℕ} (length s - length s), take-nil {A = ℕ} count)
+
+  pub text-cut : length s - at < count → take (length s - at) (drop at s) ≡ take count (drop at s)
+  text-cut h = take-all (length s - at) (drop at s) (omega (arith, length-drop at s)) ∙ sym (take-all count (drop at s) (omega (arith, length-drop at s)))
+
+  pub text-in : take (at + count - at) (drop at s) ≡ take count (drop at s)
+  text-in = let e : at + count - at ≡ count = omega arith in rw e

@@ -1,0 +1,116 @@
+-- The value of the cell at a place of the store.
+use mathlib.Core.Path.{_≡_, refl, sym, ap, ap₂, _∙_}
+use mathlib.Core.Bool.{Bool, true, false, cond}
+use mathlib.Core.List.{List, [], _++_}
+use Prim.Native.Nat.{ℕ, zero, suc, _+_, _*_, _-_, _/_, _^_, _≤_, _<_}
+use native.Mathlib.Nat.{add-zero}
+use native.Mathlib.Omega.{arith}
+use borrow.Author.Tests.{lt-ltb, le-ltb, eq-eqb, ne-eqb, ltb-true, ltb-false}
+use lib.Dec.{ltb}
+use lib.IntN.{ℤ, pos, negsuc, _-ℤ_}
+use lib.ListN.{length, getD, take, drop, length-append, length-drop}
+use lib.Seq.{getD-drop, drop-drop}
+use mir.Syntax.{w64}
+use mir.Val.{SFits, toZ, ofZ}
+use mir.ValLaws.{toZ-ofZ}
+use Rattle.meaning.specs.Answer.{integer, decimal, string, cell}
+use Rattle.cells.specs.declared.Answered.the-variants.{Missing, Integer, Decimal, Text}
+use Rattle.cells.specs.Bytes.{quadAt, octetAt, signed, word, long}
+use Rattle.cells.specs.Cell.{Cell, cellAllowed, cellBytes, kindOf, integerKind, decimalKind, valueOf}
+use Rattle.cells.specs.Tests.{sizeOf}
+use Rattle.cells.specs.Asking.{meant}
+use Rattle.cells.specs.Index.{ValueAt, SizeAt}
+use Rattle.cells.proofs.CellForm.{first-byte, value-reads, value-allowed, cell-size, known-kind, size-string}
+use Rattle.cells.proofs.Locating.{quad-at, octet-at, cell-least}
+
+-- ---- two's complement
+
+module _ (top n : ℕ) where
+  pub signed-low : n ≤ top / 2 → pos n ≡ signed (top + 1) n
+  unfolding signed
+  signed-low h = rw (lt-ltb (2 * n) (top + 1) (omega arith))
+
+  pub signed-high : n ≤ top → top / 2 < n → negsuc (top - n) ≡ signed (top + 1) n
+  unfolding signed
+  signed-high h k =
+      let d : top + 1 - suc n ≡ top - n = omega arith in
+      rw (le-ltb (2 * n) (top + 1) (omega arith), d)
+
+pub minus-one : (m : ℕ) → negsuc 0 -ℤ pos m ≡ negsuc m
+minus-one zero = refl
+minus-one (suc m) = ap negsuc (omega arith)
+
+-- a number of two's complement in 64 bits is read back from its bits
+pub signed-fits : (top n : ℕ) → n ≤ top → top < 2 ^ 64 → SFits w64 (signed (top + 1) n)
+unfolding signed
+signed-fits top n h k = go (ltb (2 * n) (top + 1)) refl
+  where
+    go : (t : Bool) → ltb (2 * n) (top + 1) ≡ t → SFits w64 (cond t (pos n) (negsuc (top + 1 - suc n)))
+    go true e = record { sfits = omega (arith, ltb-true (2 * n) (top + 1) e) }
+    go false e = record { sfits = omega (arith, ltb-false (2 * n) (top + 1) e) }
+
+pub bits-back : (top n : ℕ) (z : ℤ) → z ≡ signed (top + 1) n → n ≤ top → top < 2 ^ 64 → toZ w64 (ofZ w64 z) ≡ signed (top + 1) n
+bits-back top n z e h k = ap (λ (x : ℤ). toZ w64 (ofZ w64 x)) e ∙ toZ-ofZ w64 (signed (top + 1) n) (signed-fits top n h k)
+
+-- ---- the value
+
+module _ (b : List ℕ) (at : ℕ) where
+  -- the cell that begins there
+  module _ (c : Cell) (rest : List ℕ) (a : cellAllowed c ≡ true) (e : drop at b ≡ cellBytes c ++ rest) where
+    kind-is : getD b at 0 ≡ kindOf (c .value)
+    kind-is =
+        let z : at + 0 ≡ at = add-zero at in
+        ap (λ (i : ℕ). getD b i 0) (sym z) ∙ sym (getD-drop at b 0 0) ∙ ap (λ (l : List ℕ). getD l 0 0) e ∙ first-byte (c .key) rest (c .value)
+
+    value-is : valueOf (drop at b) ≡ c .value
+    value-is = ap valueOf e ∙ value-reads (c .key) (c .value) rest (value-allowed c a)
+
+    has-room : at + sizeOf (getD b at 0) ≤ length b
+    has-room = omega (arith, ap length e, length-append (cellBytes c) rest, length-drop at b, cell-least c a, cell-size (c .key) (c .value) (value-allowed c a), ap sizeOf kind-is)
+
+    known : 0 < sizeOf (getD b at 0)
+    known = rw kind-is (known-kind (c .key) [] (c .value))
+
+  kind-at : getD (drop at b) 0 0 ≡ getD b at 0
+  kind-at = getD-drop at b 0 0 ∙ ap (λ (i : ℕ). getD b i 0) (add-zero at)
+
+  pub value-past : length b ≤ at → ValueAt b at Missing
+  value-past h = record { value = λ c r a e. absurd (omega (arith, has-room c r a e, known c r a e)) }
+
+  pub value-short : (room size : ℕ) → room ≡ length b - at → size ≡ sizeOf (getD b at 0) → room < size → ValueAt b at Missing
+  value-short room size r s h = record { value = λ c q a e. absurd (omega (arith, has-room c q a e)) }
+
+  pub value-integer : getD b at 0 ≡ integerKind → (n : ℕ) → n ≡ quadAt b (at + 8) → (z : ℤ) → z ≡ signed word n → ValueAt b at (Integer z)
+  unfolding meant valueOf
+  value-integer k n q z s =
+      record {
+        value = λ c r a e. ap (λ (x : ℤ). cell (integer x)) (s ∙ ap (signed word) (q ∙ sym (quad-at b at 8))) ∙ ap cell (sym (rw (kind-at, eq-eqb _ _ k)) ∙ value-is c r a e);
+      }
+
+  pub value-decimal : (getD b at 0 ≡ integerKind → ⊥) → getD b at 0 ≡ decimalKind → (n : ℕ) → n ≡ octetAt b (at + 8) → (z : ℤ) → z ≡ signed long n → ValueAt b at (Decimal z)
+  unfolding meant valueOf
+  value-decimal j k n q z s =
+      record {
+        value = λ c r a e. ap (λ (x : ℤ). cell (decimal x)) (s ∙ ap (signed long) (q ∙ sym (octet-at b at 8))) ∙ ap cell (sym (rw (kind-at, ne-eqb _ _ j, eq-eqb _ _ k)) ∙ value-is c r a e);
+      }
+
+  module _ (j : getD b at 0 ≡ integerKind → ⊥) (k : getD b at 0 ≡ decimalKind → ⊥) where
+    pub text-short : (room : ℕ) → room ≡ length b - at → room < 25 → ValueAt b at Missing
+    text-short room r h = record { value = λ c q a e. absurd (omega (arith, has-room c q a e, size-string _ j k (known c q a e))) }
+
+    pub value-text : (n : ℕ) → n ≡ getD b (at + 8) 0 → ValueAt b at (Text (at + 9) n)
+    unfolding meant valueOf
+    value-text n q =
+        record {
+          value = λ c r a e.
+              ap₂ (λ (x : ℕ) (l : List ℕ). cell (string (take x l))) (q ∙ sym (getD-drop at b 8 0)) (sym (drop-drop 9 at b))
+              ∙ ap cell (sym (rw (kind-at, ne-eqb _ _ j, ne-eqb _ _ k)) ∙ value-is c r a e);
+        }
+
+  -- ---- the answers of `size_at`
+
+  pub size-in : (r : ℕ) → r ≡ sizeOf (getD b at 0) → SizeAt b at r
+  size-in r s = record { size = λ c q a e. s ∙ ap sizeOf (kind-is c q a e) ∙ sym (cell-size (c .key) (c .value) (value-allowed c a)) }
+
+  pub size-past : length b ≤ at → SizeAt b at 0
+  size-past h = record { size = λ c q a e. absurd (omega (arith, has-room c q a e, known c q a e)) }

@@ -1,0 +1,108 @@
+-- "A question has a kind and four numbers."
+use mathlib.Core.Bool.{Bool, true, false, cond, _&&_}
+use mathlib.Core.List.{List, [], _∷_}
+use mathlib.Core.Option.{Option, none, some}
+use Prim.Native.Nat.{ℕ, max}
+use lib.Dec.{eqb}
+use lib.ListN.{take, drop}
+use Rattle.meaning.specs.Answer.{integer, decimal, string, Answer, missing, cell, highest}
+use Rattle.meaning.specs.declared.question.Question.{Question}
+use Rattle.meaning.specs.declared.refusal.Refusal.{Refusal}
+use Rattle.meaning.specs.declared.refusal.Refusal.the-variants.{BadStore, BadRequest}
+use Rattle.meaning.specs.declared.end.Halt.the-variants.{Refused}
+use Rattle.meaning.specs.declared.end.Ended.{Ended}
+use Rattle.meaning.specs.declared.end.Ended.the-variants.{Finished, Halted}
+use Rattle.cells.specs.declared.Answered.{Answered}
+use Rattle.cells.specs.declared.Answered.the-variants.{Missing, Integer, Decimal, Text, Highest}
+use Rattle.cells.specs.declared.Asked.{Asked}
+use Rattle.cells.specs.Cell.{Key, Cell, number, numberOf, keyAllowed}
+use Rattle.cells.specs.Store.{held}
+
+-- the key that the four numbers are
+abbrev pub asked : Question → Key
+asked q =
+    record {
+      datasource = q .datasource;
+      parameter = q .parameter;
+      recordNumber = q .«record»;
+      entryNumber = q .entry;
+    }
+
+-- "Unused numbers are 0."
+unfoldable pub unusedZero : Question → Bool
+unusedZero q =
+    cond
+    (eqb (q .kind) 1)
+    true
+    (cond (eqb (q .kind) 2) (eqb (q .«record») 0 && eqb (q .entry) 0) (cond (eqb (q .kind) 3) (eqb (q .entry) 0) false))
+
+unfoldable pub questionAllowed : Question → Bool
+questionAllowed q = keyAllowed (asked q) && unusedZero q
+
+-- the cell of a key
+unfoldable pub lookup : ℕ → List Cell → Option Cell
+lookup n [] = none
+lookup n (c ∷ cs) = cond (eqb (numberOf c) n) (some c) (lookup n cs)
+
+-- the cell's "kind and value, or missing"
+unfoldable pub found : Option Cell → Answer
+found none = missing
+found (some c) = cell (c .value)
+
+-- the highest of a number over the cells that are meant, "0 if there is none"
+unfoldable pub highestOf : (Cell → Bool) → (Cell → ℕ) → List Cell → ℕ
+highestOf meant n [] = 0
+highestOf meant n (c ∷ cs) = max (cond (meant c) (n c) 0) (highestOf meant n cs)
+
+-- cells of a parameter in a datasource, and those in one record
+unfoldable pub ofParameter : Key → Cell → Bool
+ofParameter k c = eqb (c .key .datasource) (k .datasource) && eqb (c .key .parameter) (k .parameter)
+
+unfoldable pub ofRecord : Key → Cell → Bool
+ofRecord k c = ofParameter k c && eqb (c .key .recordNumber) (k .recordNumber)
+
+-- "Kind 1 asks for the cell of a key .. Kind 2 asks for a parameter's highest record number in a datasource, kind 3 for
+-- the highest entry number in one record"
+unfoldable pub answer : Question → List Cell → Answer
+answer q cs =
+    cond
+    (eqb (q .kind) 1)
+    (found (lookup (number (asked q)) cs))
+    (cond
+    (eqb (q .kind) 2)
+    (highest (highestOf (ofParameter (asked q)) (λ c. c .key .recordNumber) cs))
+    (highest (highestOf (ofRecord (asked q)) (λ c. c .key .entryNumber) cs)))
+
+-- "every end of ask, put and remove give line 0"
+abbrev pub refusedWith : Refusal → Ended
+refusedWith e = Halted (Refused e) 0
+
+-- What ask hands back. "a refused ask answers missing"
+pub record Reply : Type 0 where
+  pub end : Ended
+  pub answer : Answer
+
+abbrev pub refusedAsk : Refusal → Reply
+refusedAsk e = record { end = refusedWith e; answer = missing }
+
+abbrev pub answeredAsk : Answer → Reply
+answeredAsk a = record { end = Finished; answer = a }
+
+-- "Ask, put and remove check 1, 15, 16, 17."
+unfoldable pub replied : Question → Option (List Cell) → Reply
+replied q none = refusedAsk BadStore
+replied q (some cs) = cond (questionAllowed q) (answeredAsk (answer q cs)) (refusedAsk BadRequest)
+
+unfoldable pub askOf : List ℕ → ℕ → Question → Reply
+askOf b n q = replied q (held b n)
+
+-- what the code's answer means: a string is a part of the store
+unfoldable pub meant : List ℕ → Answered → Answer
+meant b Missing = missing
+meant b (Integer z) = cell (integer z)
+meant b (Decimal z) = cell (decimal z)
+meant b (Text i n) = cell (string (take n (drop i b)))
+meant b (Highest n) = highest n
+
+unfoldable pub reply : List ℕ → Asked → Reply
+reply b r = record { end = r .end; answer = meant b (r .answer) }

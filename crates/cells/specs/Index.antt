@@ -1,0 +1,84 @@
+-- The index of a store: where each of its cells begins.
+use mathlib.Core.Path.{_≡_}
+use mathlib.Core.Bool.{true, cond}
+use mathlib.Core.List.{List, [], _∷_, _++_}
+use mathlib.Core.Option.{Option, none, some}
+use Prim.Native.Nat.{ℕ, _+_, _≤_, _<_}
+use lib.ListN.{length, getD, drop}
+use lib.Seq.{sets}
+use Rattle.meaning.specs.Answer.{missing, cell}
+use Rattle.meaning.specs.declared.question.Question.{Question}
+use Rattle.cells.specs.declared.Answered.{Answered}
+use Rattle.cells.specs.declared.index.Indexed.{Indexed}
+use Rattle.cells.specs.declared.index.Indexed.the-variants.{Count, BadStore}
+use Rattle.cells.specs.Bytes.{pairAt}
+use Rattle.cells.specs.Cell.{Cell, number, numberOf, keyAt, cellAllowed, cellBytes}
+use Rattle.cells.specs.Store.{held}
+use Rattle.cells.specs.Asking.{questionAllowed, lookup, found, answer, meant}
+
+-- the places of the cells of a run that begins at a place
+unfoldable pub offsets : ℕ → List Cell → List ℕ
+offsets at [] = []
+offsets at (c ∷ cs) = at ∷ offsets (at + length (cellBytes c)) cs
+
+unfoldable pub counted : Option (List Cell) → Indexed
+counted none = BadStore
+counted (some cs) = Count (length cs)
+
+-- j is the index i with the cells' places stored from its start on
+unfoldable pub Filled : List ℕ → List ℕ → Option (List Cell) → Type 0
+Filled i j none = Unit {0}
+Filled i j (some cs) = j ≡ sets i 0 (offsets 0 cs)
+
+-- what `index` hands back for the cells held, if any
+pub record Indexes (i : List ℕ) (store : Option (List Cell)) (j : List ℕ) (r : Indexed) : Type 0 where
+  pub told : r ≡ counted store
+  pub filled : Filled i j store
+
+-- the first n bytes of b hold the cells cs, and index has the place of each
+pub record Ready (b : List ℕ) (n : ℕ) (index : List ℕ) (count : ℕ) (cs : List Cell) : Type 0 where
+  pub holds : held b n ≡ some cs
+  pub tally : count ≡ length cs
+  pub places : (i : ℕ) → i < count → getD index i 0 ≡ getD (offsets 0 cs) i 0
+
+-- the number of the key of the i-th cell
+abbrev pub keyIn : List ℕ → List ℕ → ℕ → ℕ
+keyIn b places i = number (keyAt b (getD places i 0 + 1))
+
+-- the keys of the cells rise and lie in b
+pub record Sorted (b places : List ℕ) (count : ℕ) : Type 0 where
+  pub inside : (i : ℕ) → i < count → getD places i 0 + 8 ≤ length b
+  pub rises : (i j : ℕ) → i < j → j < count → keyIn b places i < keyIn b places j
+
+-- r is the first of the cells whose keys are not below k
+pub record First (b places : List ℕ) (count k r : ℕ) : Type 0 where
+  pub few : r ≤ count
+  pub lower : (i : ℕ) → i < r → keyIn b places i < k
+  pub higher : (i : ℕ) → r ≤ i → i < count → k ≤ keyIn b places i
+
+pub record Position (b places : List ℕ) (count k r : ℕ) : Type 0 where
+  pub first : Sorted b places count → First b places count k r
+
+-- r is the value of the cell at a place of b
+pub record ValueAt (b : List ℕ) (at : ℕ) (r : Answered) : Type 0 where
+  pub value : (c : Cell) (rest : List ℕ) → cellAllowed c ≡ true → drop at b ≡ cellBytes c ++ rest → meant b r ≡ cell (c .value)
+
+-- r answers kind 1 for the key k
+pub record CellAnswer (b places : List ℕ) (count k : ℕ) (r : Answered) : Type 0 where
+  pub found : (n : ℕ) (cs : List Cell) → Ready b n places count cs → meant b r ≡ found (lookup k cs)
+
+-- r is the number that a cell has at an offset: the last of cs whose key lies from low up to end, or 0 if none does
+pub data LastOf (cs : List Cell) (low end offset : ℕ) : ℕ → Type 0 where
+  nothing : ((xs : List Cell) (c : Cell) (ys : List Cell) → cs ≡ xs ++ (c ∷ ys) → low ≤ numberOf c → numberOf c < end → ⊥) → LastOf cs low end offset 0
+  last : {r : ℕ} (xs : List Cell) (c : Cell) (ys : List Cell) → cs ≡ xs ++ (c ∷ ys) → low ≤ numberOf c → numberOf c < end → r ≡ pairAt (cellBytes c) offset → ((vs : List Cell) (d : Cell) (ws : List Cell) → cs ≡ vs ++ (d ∷ ws) → numberOf d < end → numberOf d ≤ numberOf c) → LastOf cs low end offset r
+
+pub record Highest (b places : List ℕ) (count low end offset r : ℕ) : Type 0 where
+  pub last : (n : ℕ) (cs : List Cell) → Ready b n places count cs → LastOf cs low end offset r
+
+-- r answers a question
+pub record Answers (b places : List ℕ) (count : ℕ) (q : Question) (r : Answered) : Type 0 where
+  pub answer : (n : ℕ) (cs : List Cell) → Ready b n places count cs → meant b r ≡ cond (questionAllowed q) (answer q cs) missing
+
+-- r is the size of the cell at a place of b
+pub record SizeAt (b : List ℕ) (at r : ℕ) : Type 0 where
+  pub size : (c : Cell) (rest : List ℕ) → cellAllowed c ≡ true → drop at b ≡ cellBytes c ++ rest → r ≡ length (cellBytes c)

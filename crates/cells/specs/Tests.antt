@@ -1,0 +1,47 @@
+-- The form of a cell as the code tests it, by places in the bytes.
+use mathlib.Core.Path.{_≡_}
+use mathlib.Core.Bool.{Bool, cond, _&&_}
+use mathlib.Core.List.{List}
+use mathlib.Core.Option.{Option, none, some}
+use Prim.Native.Nat.{ℕ, _+_, _-_, _≤_, _<_}
+use lib.Dec.{leb, eqb}
+use lib.ListN.{length, getD, take, drop}
+use Rattle.numbers.specs.Range.{integerLimit, decimalLimit, within}
+use Rattle.cells.specs.Bytes.{quadAt, octetAt, signed, word, long}
+use Rattle.cells.specs.Cell.{Key, Cell, between, each, printable, integerKind, decimalKind, stringKind, cellBytes, front}
+
+abbrev pub keyOf : ℕ → ℕ → ℕ → ℕ → Key
+keyOf d p r e = record { datasource = d; parameter = p; recordNumber = r; entryNumber = e }
+
+-- how many bytes a cell of each kind has
+unfoldable pub sizeOf : ℕ → ℕ
+sizeOf k = cond (eqb k integerKind) 12 (cond (eqb k decimalKind) 16 (cond (eqb k stringKind) 25 0))
+
+abbrev pub zeros : List ℕ → Bool
+zeros s = each (between 0 0) s
+
+unfoldable pub stringFormed : List ℕ → Bool
+stringFormed s =
+    leb (getD s 8 0) 16
+    && (printable (take (getD s 8 0) (drop 9 s)) && zeros (take (16 - getD s 8 0) (drop (9 + getD s 8 0) s)))
+
+unfoldable pub valueFormed : List ℕ → Bool
+valueFormed s =
+    cond
+    (eqb (getD s 0 0) integerKind)
+    (within integerLimit (signed word (quadAt s 8)))
+    (cond (eqb (getD s 0 0) decimalKind) (within decimalLimit (signed long (octetAt s 8))) (stringFormed s))
+
+-- how many bytes the cell has that s begins with, 0 where there is none
+unfoldable pub sizeFound : Option Cell → ℕ
+sizeFound none = 0
+sizeFound (some c) = length (cellBytes c)
+
+unfoldable pub frontSize : List ℕ → ℕ
+frontSize s = sizeFound (front s)
+
+-- r is the size of the cell that s begins with
+pub record Sized (s : List ℕ) (r : ℕ) : Type 0 where
+  pub size : r ≡ frontSize s
+  pub inside : r ≤ length s
+  pub least : 0 < r → 12 ≤ r

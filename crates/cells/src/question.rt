@@ -1,0 +1,112 @@
+// Questions: their limits, and their answers over the index of a store.
+use crate::Answered;
+use crate::find;
+use crate::form;
+use crate::value;
+use meaning::question::Question;
+ghost use mathlib.Core.Path.{_≡_};
+ghost use mathlib.Core.Bool.{true};
+ghost use Prim.Native.Nat.{_+_, _≤_, _<_};
+ghost use Rattle.cells.specs.Cell.{number, keyAllowed};
+ghost use Rattle.cells.specs.Tests.{keyOf};
+ghost use Rattle.cells.specs.Asking.{questionAllowed};
+ghost use Rattle.cells.specs.Index.{CellAnswer, Highest, Answers};
+
+fn wide(n: u32) -> u64
+    ensures { λ r. ⌜ r ≡ n ⌝ }
+{
+    n as u64
+}
+
+// "Unused numbers are 0."
+pub fn allowed(question: Question) -> bool
+    ensures { λ r. ⌜ r ≡ questionAllowed question ⌝ }
+{
+    let kind = question.kind;
+    let r = question.record;
+    let e = question.entry;
+    if !form::within_limits(
+        wide(question.datasource),
+        wide(question.parameter),
+        wide(r),
+        wide(e),
+    ) {
+        return false;
+    }
+    if kind == 1 {
+        return true;
+    }
+    if kind == 2 {
+        if 0 < r {
+            return false;
+        }
+        return e == 0;
+    }
+    if kind == 3 {
+        return e == 0;
+    }
+    false
+}
+
+// A key within the limits as one number.
+fn number_of(datasource: u32, parameter: u32, record_number: u32, entry: u32) -> u64
+    requires { ⌜ keyAllowed (keyOf datasource parameter «record_number» entry) ≡ true ⌝ }
+    ensures { λ r. ⌜ (r ≡ number (keyOf datasource parameter «record_number» entry)) × (r < 72057594037927936) ⌝ }
+{
+    let d = wide(datasource) * 65536 + wide(parameter);
+    (d * 65536 + wide(record_number)) * 65536 + wide(entry)
+}
+
+// Kind 1: the value of the cell with a key.
+fn cell_answer(store: &[u8], places: &[u16], count: usize, key: u64) -> Answered
+    ensures { λ r. ⌜ CellAnswer (now (store .entry)) (now (places .entry)) count key r ⌝ }
+{
+    let i = find::position(store, places, count, key);
+    if count <= i {
+        return Answered::Missing;
+    }
+    let at = find::place_of(places, i);
+    if find::key_at(store, at) == key {
+        return value::value_at(store, at);
+    }
+    Answered::Missing
+}
+
+// Kinds 2 and 3: the number at an offset in the last of the cells whose keys lie from `low` up to `end`, 0 if there is none.
+fn highest(store: &[u8], places: &[u16], count: usize, low: u64, end: u64, offset: usize) -> u32
+    requires { ⌜ offset ≤ 6 ⌝ }
+    ensures { λ r. ⌜ Highest (now (store .entry)) (now (places .entry)) count low end offset r ⌝ }
+{
+    let i = find::position(store, places, count, end);
+    if i < 1 {
+        return 0;
+    }
+    let at = find::place_of(places, i - 1);
+    if find::key_at(store, at) < low {
+        return 0;
+    }
+    value::number_at(store, at, offset)
+}
+
+// The answer to a question over the index of a store; a question out of its limits is answered missing.
+pub fn answer(store: &[u8], places: &[u16], count: usize, question: Question) -> Answered
+    ensures { λ r. ⌜ Answers (now (store .entry)) (now (places .entry)) count question r ⌝ }
+{
+    if !allowed(question) {
+        return Answered::Missing;
+    }
+    let kind = question.kind;
+    let key = number_of(
+        question.datasource,
+        question.parameter,
+        question.record,
+        question.entry,
+    );
+    if kind == 1 {
+        return cell_answer(store, places, count, key);
+    }
+    if kind == 2 {
+        return Answered::Highest(highest(store, places, count, key, key + 4294967296, 4));
+    }
+    Answered::Highest(highest(store, places, count, key, key + 65536, 6))
+}

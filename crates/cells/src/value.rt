@@ -1,0 +1,58 @@
+// The parts of a cell at a place of the store, as answers.
+use crate::Answered;
+use crate::bytes;
+use crate::form;
+ghost use mathlib.Core.Path.{_≡_};
+ghost use Prim.Native.Nat.{_+_, _≤_, _<_};
+ghost use lib.ListN.{length};
+ghost use Rattle.cells.specs.Bytes.{pairAt, signed};
+ghost use Rattle.cells.specs.Index.{ValueAt};
+
+// The value of a number in two's complement, `top` being the highest of its width.
+fn signed_of(n: u64, top: u64) -> i64
+    requires { ⌜ n ≤ top ⌝ }
+    ensures { λ r. ⌜ r ≡ signed (top + 1) n ⌝ }
+{
+    if n <= top / 2 {
+        return n as i64;
+    }
+    -1 - (top - n) as i64
+}
+
+// The two bytes at an offset of at most 6 in the cell at a place; 0 where the store has no room for one.
+pub fn number_at(store: &[u8], at: usize, offset: usize) -> u32
+    requires { ⌜ offset ≤ 6 ⌝ }
+    ensures { λ r. ⌜ (at + 8 ≤ length (now (store .entry)) → r ≡ pairAt (now (store .entry)) (at + offset)) ⌝ }
+{
+    let n = store.len();
+    if n < 8 {
+        return 0;
+    }
+    if n - 8 < at {
+        return 0;
+    }
+    bytes::pair(store, at + offset) as u32
+}
+
+// The value of the cell at a place; missing where the store has no room for one.
+pub fn value_at(store: &[u8], at: usize) -> Answered
+    ensures { λ r. ⌜ ValueAt (now (store .entry)) at r ⌝ }
+{
+    if store.len() <= at {
+        return Answered::Missing;
+    }
+    let room = store.len() - at;
+    if room < form::size_of(store[at]) {
+        return Answered::Missing;
+    }
+    if store[at] == form::INTEGER {
+        return Answered::Integer(signed_of(bytes::quad(store, at + 8), 4294967295));
+    }
+    if store[at] == form::DECIMAL {
+        return Answered::Decimal(signed_of(bytes::octet(store, at + 8), 18446744073709551615));
+    }
+    if room < 25 {
+        return Answered::Missing;
+    }
+    Answered::Text(at + 9, bytes::size(store[at + 8]))
+}

@@ -1,0 +1,10 @@
+pub mod Filter
+pub mod Order
+pub mod Lookup
+pub mod Form
+pub mod Lists
+pub mod ByCells
+pub mod Answers
+pub mod Found
+pub mod Same
+pub mod Keys

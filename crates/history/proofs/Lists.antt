@@ -1,0 +1,75 @@
+-- Lists of edits: the store afterwards is the fold of the definitions, from any bytes.
+use mathlib.Core.Path.{_≡_, refl, ap, ap₂, _∙_}
+use mathlib.Core.List.{List, [], _∷_}
+use mathlib.Core.Option.{Option, none, some}
+use lib.ListN.{length, replicate}
+use Rattle.meaning.specs.declared.refusal.Refusal.the-variants.{BadStore}
+use Rattle.meaning.specs.declared.end.Ended.{Ended}
+use Rattle.cells.specs.Cell.{Cell}
+use Rattle.cells.specs.Asking.{refusedWith}
+use Rattle.store.specs.Edit.{Edit, refusedEdit}
+use Rattle.history.specs.State.{State, heldBy, isHeld, inForm}
+use Rattle.history.specs.Change.{Change, handedBack, handedOn, next, endOf, changed, left}
+use Rattle.history.specs.History.{after, ends, cellsAfter, heldAfter}
+use Rattle.history.proofs.Form.{form-kept, out-of-form-once}
+
+-- ---- from a store in form
+
+cells-folded : (es : List Change) (m : State) (cs : List Cell) → heldBy m ≡ some cs → heldBy (after es m) ≡ some (cellsAfter es (ends es m) cs)
+unfolding after ends cellsAfter
+cells-folded [] m cs h = h
+cells-folded (e ∷ es) m cs h = cells-folded es (next e m) (left (endOf e m) (changed e cs) cs) (form-kept e m cs h .held)
+
+-- ---- from a store out of form
+
+-- the store stays as it is, and every edit is refused with 1
+pub record NothingDone (es : List Change) (m : State) : Type 0 where
+  pub kept : after es m ≡ m
+  pub refused : ends es m ≡ replicate (length es) (refusedWith BadStore)
+
+-- Out of form at first: every edit of the list is refused with 1, and nothing changes.
+pub out-of-form : (es : List Change) (m : State) → heldBy m ≡ none → NothingDone es m
+unfolding after ends
+out-of-form [] m h = record { kept = refl; refused = refl }
+out-of-form (e ∷ es) m h =
+    let r : handedBack e m ≡ refusedEdit (m .buffer) (m .length) BadStore = out-of-form-once e m h in
+    let q : next e m ≡ m = ap handedOn r in
+    let d : NothingDone es m = out-of-form es m h in
+    record {
+      kept = ap (after es) q ∙ d .kept;
+      refused = ap₂ (λ (x : Ended) (xs : List Ended). x ∷ xs) (ap (λ (x : Edit). x .end) r) (ap (ends es) q ∙ d .refused);
+    }
+
+-- ---- from any bytes
+
+-- "The list starts from the store, of any bytes": the cells afterwards are the fold of put and remove on lists of cells, refused
+-- edits left out.
+pub folded : (es : List Change) (m : State) → heldBy (after es m) ≡ heldAfter es (ends es m) (heldBy m)
+unfolding heldAfter
+folded es m = go (heldBy m) refl
+  where
+    go : (o : Option (List Cell)) → heldBy m ≡ o → heldBy (after es m) ≡ heldAfter es (ends es m) o
+    go none h = ap heldBy (out-of-form es m h .kept) ∙ h
+    go (some cs) h = cells-folded es m cs h
+
+-- a store is in form after the edits exactly where it was before
+pub same-form : (es : List Change) (m : State) → inForm (after es m) ≡ inForm m
+unfolding heldAfter isHeld
+same-form es m = ap isHeld (folded es m) ∙ go (heldBy m)
+  where
+    go : (o : Option (List Cell)) → isHeld (heldAfter es (ends es m) o) ≡ isHeld o
+    go none = refl
+    go (some cs) = refl
+
+-- the buffer stays as long as it was
+pub size-once : (e : Change) (m : State) → length (next e m .buffer) ≡ length (m .buffer)
+size-once e m = go (heldBy m) refl
+  where
+    go : (o : Option (List Cell)) → heldBy m ≡ o → length (next e m .buffer) ≡ length (m .buffer)
+    go none h = ap (λ (r : Edit). length (r .buffer)) (out-of-form-once e m h)
+    go (some cs) h = form-kept e m cs h .size
+
+pub size-kept : (es : List Change) (m : State) → length (after es m .buffer) ≡ length (m .buffer)
+unfolding after
+size-kept [] m = refl
+size-kept (e ∷ es) m = size-kept es (next e m) ∙ size-once e m

@@ -1,0 +1,75 @@
+-- "Put adds or replaces the cell of a key, whichever kind it had. Remove takes it out.": an edit by the bytes handed in.
+use mathlib.Core.Bool.{Bool, true, false, _&&_}
+use mathlib.Core.List.{List}
+use mathlib.Core.Option.{Option, none, some}
+use Prim.Native.Nat.{ℕ}
+use lib.Dec.{eqb}
+use Rattle.meaning.specs.declared.end.Ended.{Ended}
+use Rattle.meaning.specs.declared.end.Ended.the-variants.{Finished, Halted}
+use Rattle.cells.specs.Cell.{Key, Cell, number, wholeCell, wholeKey}
+use Rattle.store.specs.Edit.{with, without, Edit, putOf, removeOf}
+use Rattle.history.specs.State.{State}
+
+-- the bytes of a cell, or of a key: any bytes
+pub data Change : Type 0 where
+  put : List ℕ → Change
+  remove : List ℕ → Change
+
+-- what the edit hands back
+unfoldable pub handedBack : Change → State → Edit
+handedBack (put s) m = putOf (m .buffer) (m .length) s
+handedBack (remove s) m = removeOf (m .buffer) (m .length) s
+
+-- the store for the next call: "in the same buffer, at the length last handed back"
+abbrev pub handedOn : Edit → State
+handedOn r = record { buffer = r .buffer; length = r .length }
+
+abbrev pub next : Change → State → State
+next e m = handedOn (handedBack e m)
+
+-- how the edit ended; "0 is success", and an edit with that end is accepted
+abbrev pub endOf : Change → State → Ended
+endOf e m = handedBack e m .end
+
+unfoldable pub succeeded : Ended → Bool
+succeeded Finished = true
+succeeded (Halted h l) = false
+
+abbrev pub accepted : Change → State → Bool
+accepted e m = succeeded (endOf e m)
+
+-- the key that an edit names, none where the bytes are no cell or key
+unfoldable pub keyOfCell : Option Cell → Option Key
+keyOfCell none = none
+keyOfCell (some c) = some (c .key)
+
+unfoldable pub keyNamed : Change → Option Key
+keyNamed (put s) = keyOfCell (wholeCell s)
+keyNamed (remove s) = wholeKey s
+
+-- keys are compared as numbers
+unfoldable pub isKey : Key → Option Key → Bool
+isKey k none = false
+isKey k (some l) = eqb (number l) (number k)
+
+-- an accepted put or remove of key k
+unfoldable pub touches : Key → Change → State → Bool
+touches k e m = accepted e m && isKey k (keyNamed e)
+
+-- the cells with the one put, or without the one removed
+unfoldable pub withPut : Option Cell → List Cell → List Cell
+withPut none cs = cs
+withPut (some c) cs = with c cs
+
+unfoldable pub withoutRemoved : Option Key → List Cell → List Cell
+withoutRemoved none cs = cs
+withoutRemoved (some k) cs = without (number k) cs
+
+unfoldable pub changed : Change → List Cell → List Cell
+changed (put s) cs = withPut (wholeCell s) cs
+changed (remove s) cs = withoutRemoved (wholeKey s) cs
+
+-- the cells behind an edit that ended so, ds if it is accepted: "Refused edits change nothing"
+unfoldable pub left : Ended → List Cell → List Cell → List Cell
+left Finished ds cs = ds
+left (Halted h l) ds cs = cs

@@ -1,0 +1,4 @@
+pub mod State
+pub mod Change
+pub mod History
+pub mod Rows

@@ -1,0 +1,51 @@
+-- A store between two calls: "one store in the same buffer, at the length last handed back".
+use mathlib.Core.Path.{_≡_}
+use mathlib.Core.Bool.{Bool, true, false}
+use mathlib.Core.List.{List}
+use mathlib.Core.Option.{Option, none, some}
+use Prim.Native.Nat.{ℕ}
+use Rattle.meaning.specs.Answer.{Answer}
+use Rattle.meaning.specs.Each.{Each}
+use Rattle.meaning.specs.declared.question.Question.{Question}
+use Rattle.cells.specs.Cell.{Key, Cell}
+use Rattle.cells.specs.Store.{held}
+use Rattle.cells.specs.Asking.{Reply, askOf}
+
+pub record State : Type 0 where
+  pub buffer : List ℕ
+  pub length : ℕ
+
+-- the cells that it holds, or none where it is out of form
+abbrev pub heldBy : State → Option (List Cell)
+heldBy m = held (m .buffer) (m .length)
+
+unfoldable pub isHeld : Option (List Cell) → Bool
+isHeld none = false
+isHeld (some cs) = true
+
+-- 1: "The store breaks its form or is longer than its buffer."
+abbrev pub inForm : State → Bool
+inForm m = isHeld (heldBy m)
+
+-- "Ask answers one question."
+abbrev pub askIn : State → Question → Reply
+askIn m q = askOf (m .buffer) (m .length) q
+
+-- the store as a source of answers
+abbrev pub answerIn : State → Question → Answer
+answerIn m q = askIn m q .answer
+
+-- "Kind 1 asks for the cell of a key"
+abbrev pub cellQuestion : Key → Question
+cellQuestion k =
+    record {
+      kind = 1;
+      datasource = k .datasource;
+      parameter = k .parameter;
+      «record» = k .recordNumber;
+      entry = k .entryNumber;
+    }
+
+-- "An answer is as before if it is the one the first run got": so for each question of a list
+abbrev pub AsBefore : State → State → List Question → Type 0
+AsBefore m m′ qs = Each (λ q. answerIn m′ q ≡ answerIn m q) qs

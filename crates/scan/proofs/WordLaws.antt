@@ -1,0 +1,63 @@
+-- Laws of fixed byte strings, and of the loop that compares them.
+use mathlib.Core.Path.{_≡_, refl, sym, _∙_}
+use mathlib.Core.Bool.{Bool, true, false, false≢true}
+use mathlib.Core.List.{List, [], _∷_}
+use Prim.Native.Nat.{ℕ, suc, _+_, _-_, _<_, _≤_, zero-le}
+use native.Mathlib.Numerals.{add-one}
+use native.Mathlib.Omega.{arith}
+use borrow.Author.Tests.{eq-eqb, ne-eqb}
+use lib.Dec.{eqb}
+use lib.ListN.{length, getD, drop, drop-of-length-le, length-drop}
+use lib.Seq.{drop-cons}
+use Rattle.scan.specs.declared.words.WordRead.the-variants.{Word, NoWord}
+use Rattle.scan.specs.Words.{begins, standsAt, wordIn, wordFrom}
+
+pub begins-end : (w s : List ℕ) (j : ℕ) → length w ≤ j → begins (drop j w) s ≡ true
+unfolding begins
+begins-end w s j h = rw (drop-of-length-le w h)
+
+module _ (w l : List ℕ) (j i : ℕ) where
+  pub begins-short : j < length w → length l ≤ i → begins (drop j w) (drop i l) ≡ false
+  unfolding begins
+  begins-short h k = rw (drop-cons w j 0 h, drop-of-length-le l k)
+
+  pub begins-other : j < length w → i < length l → (getD w j 0 ≡ getD l i 0 → ⊥) → begins (drop j w) (drop i l) ≡ false
+  unfolding begins
+  begins-other h k e = rw (drop-cons w j 0 h, drop-cons l i 0 k, ne-eqb _ _ e)
+
+  pub begins-same : j < length w → i < length l → getD w j 0 ≡ getD l i 0 → begins (drop j w) (drop i l) ≡ begins (drop (j + 1) w) (drop (i + 1) l)
+  unfolding begins
+  begins-same h k e = rw (drop-cons w j 0 h, drop-cons l i 0 k, eq-eqb _ _ e, add-one j, add-one i)
+
+-- what begins with a word is as long as it
+begins-length : (w s : List ℕ) → begins w s ≡ true → length w ≤ length s
+unfolding begins
+begins-length [] s e = zero-le
+begins-length (a ∷ w) [] e = absurd (false≢true e)
+begins-length (a ∷ w) (b ∷ s) e = go (eqb a b) refl e (begins-length w s)
+  where
+    go : (t : Bool) → eqb a b ≡ t → begins (a ∷ w) (b ∷ s) ≡ true → (begins w s ≡ true → length w ≤ length s) → length (a ∷ w) ≤ length (b ∷ s)
+    go true q h rest = omega (arith, rest (rw q at h))
+    go false q h rest = absurd (false≢true (rw q at h))
+
+-- a word at a place of a line ends within it, or is empty
+pub word-within : (w l : List ℕ) (at : ℕ) (b : Bool) → b ≡ standsAt w l at → b ≡ true → length w ≤ length l - at
+unfolding standsAt
+word-within w l at b e t = omega (arith, begins-length w (drop at l) (sym e ∙ t), length-drop at l)
+
+-- searching: from the k-th word on, what the whole table gives
+module _ (table l : List ℕ) (at n k : ℕ) where
+  pub word-none : n ≤ k → wordFrom table l at (n - k) k ≡ NoWord
+  unfolding wordFrom
+  word-none h = let e : n - k ≡ 0 = omega arith in rw e
+
+  pub word-found : k < n → standsAt (wordIn table k) l at ≡ true → wordFrom table l at (n - k) k ≡ Word k (at + length (wordIn table k))
+  unfolding wordFrom
+  word-found h b = let e : n - k ≡ suc (n - (k + 1)) = omega arith in rw (e, b)
+
+  pub word-next : k < n → standsAt (wordIn table k) l at ≡ false → wordFrom table l at (n - k) k ≡ wordFrom table l at (n - (k + 1)) (k + 1)
+  unfolding wordFrom
+  word-next h b = let e : n - k ≡ suc (n - (k + 1)) = omega arith in rw (e, b)
+
+pub word-start : (table l : List ℕ) (at n : ℕ) → wordFrom table l at (n - 0) 0 ≡ wordFrom table l at n 0
+word-start table l at n = let e : n - 0 ≡ n = omega arith in rw e

@@ -1,0 +1,4 @@
+pub mod Run
+pub mod Line
+pub mod Digits
+pub mod Words

@@ -1,0 +1,41 @@
+-- The bytes and lines of a template. Assumes nothing.
+use mathlib.Core.Bool.{Bool, true, false, cond}
+use mathlib.Core.List.{List, [], _∷_}
+use Prim.Native.Nat.{ℕ, _+_}
+use lib.Dec.{ltb}
+use lib.ListN.{length, getD, take, drop}
+use Rattle.scan.specs.declared.run.Class.the-variants.{Allowed, InLine}
+use Rattle.scan.specs.Run.{belongs, span}
+
+-- where the first byte is that isn't "0x20–0x7E or 0x0A", or the template's length
+abbrev pub firstRefused : List ℕ → ℕ
+firstRefused t = length (span Allowed t)
+
+-- "each 0x20–0x7E or 0x0A"
+unfoldable pub allAllowed : List ℕ → Bool
+allAllowed [] = true
+allAllowed (b ∷ t) = cond (belongs Allowed b) (allAllowed t) false
+
+-- "A line is the run of template bytes up to its line end 0x0A"
+abbrev pub lineOf : List ℕ → List ℕ
+lineOf t = span InLine t
+
+-- the line that starts at a place of the template
+abbrev pub lineAt : List ℕ → ℕ → List ℕ
+lineAt t at = lineOf (drop at t)
+
+-- where the next line starts: behind the line end
+abbrev pub nextLine : List ℕ → ℕ → ℕ
+nextLine t at = at + length (lineAt t at) + 1
+
+-- "none begins after the final 0x0A"
+abbrev pub beginsLine : List ℕ → ℕ → Bool
+beginsLine t at = ltb at (length t)
+
+-- the byte at a place of a line; 0, which no form has, behind its end
+unfoldable pub byteAt : List ℕ → ℕ → ℕ
+byteAt l at = getD l at 0
+
+-- at most n bytes of a line from a place on
+abbrev pub window : List ℕ → ℕ → ℕ → List ℕ
+window l at n = take n (drop at l)

@@ -1,0 +1,34 @@
+-- Fixed byte strings in a line. Assumes nothing.
+use mathlib.Core.Bool.{Bool, true, false, cond}
+use mathlib.Core.List.{List, [], _∷_}
+use Prim.Native.Nat.{ℕ, zero, suc, _+_, _*_, _/_}
+use lib.Dec.{eqb}
+use lib.ListN.{length, drop}
+use Rattle.scan.specs.declared.run.Class.the-variants.{InName}
+use Rattle.scan.specs.declared.words.WordRead.{WordRead}
+use Rattle.scan.specs.declared.words.WordRead.the-variants.{Word, NoWord}
+use Rattle.scan.specs.Run.{span}
+use Rattle.scan.specs.Line.{window}
+
+-- whether s begins with the word w
+unfoldable pub begins : List ℕ → List ℕ → Bool
+begins [] s = true
+begins (a ∷ w) [] = false
+begins (a ∷ w) (b ∷ s) = cond (eqb a b) (begins w s) false
+
+-- whether the word w stands in a line at a place
+unfoldable pub standsAt : List ℕ → List ℕ → ℕ → Bool
+standsAt w l at = begins w (drop at l)
+
+-- the k-th word of a table, which has one in each row of eight bytes, filled with spaces
+unfoldable pub wordIn : List ℕ → ℕ → List ℕ
+wordIn table k = span InName (window table (k * 8) 8)
+
+-- the first of n words of a table, from the k-th on, that a line has at a place: its number and the place behind it
+unfoldable pub wordFrom : List ℕ → List ℕ → ℕ → ℕ → ℕ → WordRead
+wordFrom table l at zero k = NoWord
+wordFrom table l at (suc n) k =
+    cond (standsAt (wordIn table k) l at) (Word k (at + length (wordIn table k))) (wordFrom table l at n (k + 1))
+
+unfoldable pub wordAt : List ℕ → List ℕ → ℕ → WordRead
+wordAt table l at = wordFrom table l at (length table / 8) 0

@@ -1,0 +1,59 @@
+// Fixed byte strings in a line.
+use crate::bytes;
+use crate::run;
+use crate::run::Class;
+ghost use mathlib.Core.Path.{_≡_};
+ghost use Prim.Native.Nat.{_*_, _≤_};
+ghost use lib.ListN.{length};
+ghost use Rattle.scan.specs.Words.{standsAt, wordIn, wordAt};
+
+// Whether the word stands in the line at a place.
+pub fn begins_with(line: &[u8], at: usize, word: &[u8]) -> bool
+    ensures { λ r. ⌜ r ≡ standsAt (now (word .entry)) (now (line .entry)) at ⌝ }
+{
+    let mut j = 0;
+    let mut i = at;
+    while j < word.len() {
+        if line.len() <= i {
+            return false;
+        }
+        if word[j] != line[i] {
+            return false;
+        }
+        j += 1;
+        i += 1;
+    }
+    true
+}
+
+// The number of a table's word, and the place behind the word.
+pub enum WordRead {
+    Word(usize, usize),
+    NoWord,
+}
+
+// The word of a row of a table. A table has a word in each row of eight bytes, filled with spaces.
+fn word_in<'a>(table: &'a [u8], k: usize) -> &'a [u8]
+    requires { ⌜ k * 8 ≤ length (now table) ⌝ }
+    ensures { λ r. ⌜ now r ≡ wordIn (now (table .entry)) k ⌝ }
+{
+    let row = bytes::part(table, k * 8, 8);
+    let length = run::count(row, Class::InName);
+    &row[..length]
+}
+
+// The first word of a table that stands in the line at a place.
+pub fn word_at(line: &[u8], at: usize, table: &[u8]) -> WordRead
+    ensures { λ r. ⌜ r ≡ wordAt (now (table .entry)) (now (line .entry)) at ⌝ }
+{
+    let rows = table.len() / 8;
+    let mut k = 0;
+    while k < rows {
+        let word = word_in(table, k);
+        if begins_with(line, at, word) {
+            return WordRead::Word(k, at + word.len());
+        }
+        k += 1;
+    }
+    WordRead::NoWord
+}

@@ -1,0 +1,3 @@
+pub mod Replacing
+pub mod Slots
+pub mod Edits

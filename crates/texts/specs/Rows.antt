@@ -1,0 +1,48 @@
+-- Rows at the limits of fields and texts, each shown by the definitions.
+use mathlib.Core.Path.{_≡_, refl}
+use mathlib.Core.Bool.{true, false}
+use mathlib.Core.List.{[], _∷_}
+use lib.IntN.{pos}
+use Rattle.numbers.specs.declared.Quantity.the-variants.{Integer}
+use Rattle.scan.specs.Run.{belongs, span}
+use Rattle.scan.specs.Line.{byteAt}
+use Rattle.scan.specs.Digits.{valueFrom, digitsAt, numberAt}
+use Rattle.arguments.specs.declared.operand.Operand.the-variants as operand
+use Rattle.arguments.specs.declared.argument.Argument.{Argument}
+use Rattle.arguments.specs.declared.argument.Filter.the-variants.{Unfiltered}
+use Rattle.arguments.specs.Literal.{unsignedAt, literalAt}
+use Rattle.arguments.specs.Operand.{stringAt, numberOr, operandAt}
+use Rattle.arguments.specs.Argument.{argumentOf, argumentAt}
+use Rattle.texts.specs.declared.text.Places.the-variants.{Unsaid, Said}
+use Rattle.texts.specs.declared.text.FieldRead.the-variants.{FieldTo, NoField}
+use Rattle.texts.specs.declared.text.Piece.the-variants.{Placed}
+use Rattle.texts.specs.declared.text.PieceRead.the-variants.{PieceTo}
+use Rattle.texts.specs.Text.{placesAt, placesOf, widthNext, fieldOf, fieldAt, placed, pieceAt, widthOf, fitsFrom}
+
+-- the integer 1
+abbrev one : Argument
+one = record { operand = operand.Number (Integer (pos 1)); filter = Unfiltered }
+
+abbrev Rows : Type 0
+Rows =
+    -- w 1–32
+    (fieldAt (49 ∷ 44 ∷ 48 ∷ 125 ∷ []) 0 ≡ NoField)
+    × (fieldAt (49 ∷ 44 ∷ 49 ∷ 125 ∷ []) 0 ≡ FieldTo (record { argument = one; width = 1; places = Unsaid }) 4)
+    × (fieldAt (49 ∷ 44 ∷ 51 ∷ 50 ∷ 125 ∷ []) 0 ≡ FieldTo (record { argument = one; width = 32; places = Unsaid }) 5)
+    × (fieldAt (49 ∷ 44 ∷ 51 ∷ 51 ∷ 125 ∷ []) 0 ≡ NoField)
+    × (fieldAt (49 ∷ 44 ∷ 48 ∷ 49 ∷ 125 ∷ []) 0 ≡ NoField)
+    -- d 0–6
+    × (fieldAt (49 ∷ 44 ∷ 57 ∷ 46 ∷ 54 ∷ 125 ∷ []) 0 ≡ FieldTo (record { argument = one; width = 9; places = (Said 6) }) 6)
+    × (fieldAt (49 ∷ 44 ∷ 57 ∷ 46 ∷ 55 ∷ 125 ∷ []) 0 ≡ NoField)
+    -- a field ends where its form ends, whatever its string holds
+    × (pieceAt (123 ∷ 34 ∷ 125 ∷ 123 ∷ 34 ∷ 44 ∷ 50 ∷ 125 ∷ []) 0 ≡ PieceTo (Placed (record { argument = record { operand = operand.Text 2 4; filter = Unfiltered }; width = 2; places = Unsaid })) 8)
+    -- a closing brace in plain text
+    × (fitsFrom 133 (97 ∷ 125 ∷ []) 0 0 ≡ false)
+    -- four fields of 32 with 4 and with 5 bytes more
+    × (fitsFrom 133 (123 ∷ 49 ∷ 44 ∷ 51 ∷ 50 ∷ 125 ∷ 123 ∷ 49 ∷ 44 ∷ 51 ∷ 50 ∷ 125 ∷ 123 ∷ 49 ∷ 44 ∷ 51 ∷ 50 ∷ 125 ∷ 123 ∷ 49 ∷ 44 ∷ 51 ∷ 50 ∷ 125 ∷ 97 ∷ 98 ∷ 99 ∷ 100 ∷ []) 0 0 ≡ true)
+    × (fitsFrom 133 (123 ∷ 49 ∷ 44 ∷ 51 ∷ 50 ∷ 125 ∷ 123 ∷ 49 ∷ 44 ∷ 51 ∷ 50 ∷ 125 ∷ 123 ∷ 49 ∷ 44 ∷ 51 ∷ 50 ∷ 125 ∷ 123 ∷ 49 ∷ 44 ∷ 51 ∷ 50 ∷ 125 ∷ 97 ∷ 98 ∷ 99 ∷ 100 ∷ 101 ∷ []) 0 0 ≡ false)
+
+-- The rows hold.
+pub rows : Rows
+unfolding belongs span byteAt valueFrom digitsAt numberAt unsignedAt literalAt stringAt numberOr operandAt argumentOf argumentAt placesAt placesOf widthNext fieldOf fieldAt placed pieceAt widthOf fitsFrom
+rows = (refl, refl, refl, refl, refl, refl, refl, refl, refl, refl, refl)
