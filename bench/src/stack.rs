@@ -22,6 +22,8 @@ fn marked(call: &mut dyn FnMut()) -> usize {
 /// The stack of a call in bytes, to within the frame of the measurement.
 pub fn used(call: impl FnMut() + Send + 'static) -> usize {
     let mut call = call;
-    let thread = std::thread::Builder::new().stack_size(2 << 20).spawn(move || marked(&mut call));
+    let thread = std::thread::Builder::new()
+        .stack_size(2 << 20)
+        .spawn(move || marked(&mut call));
     thread.expect("a thread").join().expect("its result")
 }

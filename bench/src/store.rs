@@ -10,12 +10,23 @@ const QUESTIONS: usize = 2_000;
 
 /// A store of integers in datasources 1 to 35, their keys in order, and random questions for its cells.
 fn full_store(cells: u16) -> (Vec<u8>, Vec<Question>) {
-    let keys: Vec<[u16; 4]> = (0..cells).map(|n| [1 + n / 160, 1 + n % 160, n % 7, n % 3]).collect();
-    let store = keys.iter().flat_map(|k| cell(*k, &Value::Integer(7))).collect();
+    let keys: Vec<[u16; 4]> = (0..cells)
+        .map(|n| [1 + n / 160, 1 + n % 160, n % 7, n % 3])
+        .collect();
+    let store = keys
+        .iter()
+        .flat_map(|k| cell(*k, &Value::Integer(7)))
+        .collect();
     let mut random = Random::new(0xbe);
     let questions = (0..QUESTIONS).map(|_| {
         let [datasource, parameter, record, entry] = random.pick(&keys).map(u32::from);
-        Question { kind: 1, datasource, parameter, record, entry }
+        Question {
+            kind: 1,
+            datasource,
+            parameter,
+            record,
+            entry,
+        }
     });
     (store, questions.collect())
 }
@@ -25,7 +36,10 @@ fn key_at(store: &[u8], at: usize) -> u64 {
 }
 
 fn number(q: Question) -> u64 {
-    (u64::from(q.datasource) << 48) | (u64::from(q.parameter) << 32) | (u64::from(q.record) << 16) | u64::from(q.entry)
+    (u64::from(q.datasource) << 48)
+        | (u64::from(q.parameter) << 32)
+        | (u64::from(q.record) << 16)
+        | u64::from(q.entry)
 }
 
 /// The integer of the cell at a place.
@@ -60,12 +74,20 @@ fn times(cells: u16) {
     let mut places = vec![0; MOST_CELLS];
     let count = index(&store, store.len(), &mut places).expect("a store in form");
     let q = |i: usize| questions[i % QUESTIONS];
-    let lookup = time::nanoseconds(20_000, |i| drop(black_box(look_up(&store, &places, count, q(i)))));
-    let plain = time::nanoseconds(20_000, |i| drop(black_box(binary_search(&store, &places[..count], q(i)))));
+    let lookup = time::nanoseconds(20_000, |i| {
+        drop(black_box(look_up(&store, &places, count, q(i))))
+    });
+    let plain = time::nanoseconds(20_000, |i| {
+        drop(black_box(binary_search(&store, &places[..count], q(i))))
+    });
     let walked = time::nanoseconds(2_000, |i| drop(black_box(walk(&store, q(i)))));
-    let checked = time::nanoseconds(100, |_| drop(black_box(index(&store, store.len(), &mut places))));
+    let checked = time::nanoseconds(100, |_| {
+        drop(black_box(index(&store, store.len(), &mut places)))
+    });
     let whole = time::nanoseconds(100, |i| drop(black_box(ask(&store, store.len(), q(i)))));
-    let theirs = time::nanoseconds(100, |i| drop(black_box(second::ask(&store, store.len(), q(i)))));
+    let theirs = time::nanoseconds(100, |i| {
+        drop(black_box(second::ask(&store, store.len(), q(i))))
+    });
     println!(
         "| {cells} | {:.2} | {:.3} | {:.2} | {:.2} | {:.2} |",
         lookup / plain,
@@ -83,10 +105,19 @@ fn stacks() {
     buffer.resize(length + 100, 0);
     let (mut a, mut b) = (buffer.clone(), buffer);
     let asked = stack::used(move || drop(black_box(ask(&store, length, q))));
-    let put = stack::used(move || drop(black_box(put(&mut a, length, &cell([1, 1, 9, 9], &Value::Integer(1))))));
+    let put = stack::used(move || {
+        drop(black_box(put(
+            &mut a,
+            length,
+            &cell([1, 1, 9, 9], &Value::Integer(1)),
+        )))
+    });
     let removed = stack::used(move || drop(black_box(remove(&mut b, length, &key([1, 1, 0, 0])))));
     println!("\nstack in bytes, of 65,536: ask {asked}, put {put}, remove {removed}");
-    assert!([asked, put, removed].iter().all(|&n| n < 65_536), "a call uses more than 64 KB of stack");
+    assert!(
+        [asked, put, removed].iter().all(|&n| n < 65_536),
+        "a call uses more than 64 KB of stack"
+    );
 }
 
 pub fn run() {

@@ -4,3 +4,4 @@ pub mod arithmetic;
 pub mod field;
 pub mod random;
 pub mod store;
+pub mod template;

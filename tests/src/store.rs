@@ -102,14 +102,24 @@ pub fn ask(buffer: &[u8], length: usize, q: Question) -> Asked {
             &mut h.count,
         )
     };
-    Asked { number, answer: h.answer(buffer) }
+    Asked {
+        number,
+        answer: h.answer(buffer),
+    }
 }
 
 /// The number of cells, with their places written down; none where the store is out of form.
 pub fn index(buffer: &[u8], length: usize, places: &mut [u16]) -> Option<usize> {
     let mut count = 0;
     let number = unsafe {
-        station_index(buffer.as_ptr(), buffer.len(), length, places.as_mut_ptr(), places.len(), &mut count)
+        station_index(
+            buffer.as_ptr(),
+            buffer.len(),
+            length,
+            places.as_mut_ptr(),
+            places.len(),
+            &mut count,
+        )
     };
     (number == 0).then_some(count)
 }
@@ -144,16 +154,38 @@ pub fn looked_up(buffer: &[u8], places: &[u16], known: usize, q: Question) -> An
 
 pub fn put(buffer: &mut [u8], length: usize, cell: &[u8]) -> Edited {
     let mut left = usize::MAX;
-    let number =
-        unsafe { station_put(buffer.as_mut_ptr(), buffer.len(), length, cell.as_ptr(), cell.len(), &mut left) };
-    Edited { number, length: left }
+    let number = unsafe {
+        station_put(
+            buffer.as_mut_ptr(),
+            buffer.len(),
+            length,
+            cell.as_ptr(),
+            cell.len(),
+            &mut left,
+        )
+    };
+    Edited {
+        number,
+        length: left,
+    }
 }
 
 pub fn remove(buffer: &mut [u8], length: usize, key: &[u8]) -> Edited {
     let mut left = usize::MAX;
-    let number =
-        unsafe { station_remove(buffer.as_mut_ptr(), buffer.len(), length, key.as_ptr(), key.len(), &mut left) };
-    Edited { number, length: left }
+    let number = unsafe {
+        station_remove(
+            buffer.as_mut_ptr(),
+            buffer.len(),
+            length,
+            key.as_ptr(),
+            key.len(),
+            &mut left,
+        )
+    };
+    Edited {
+        number,
+        length: left,
+    }
 }
 
 /// A cell's bytes, from its key's four numbers and its value.

@@ -26,14 +26,20 @@ fn some_value(random: &mut Random) -> Value {
         1 => Value::Decimal(random.any_length(2_000_000_000_000_000)),
         _ => {
             let length = random.below(17);
-            Value::String((0..length).map(|_| 0x20 + random.below(0x5f) as u8).collect())
+            Value::String(
+                (0..length)
+                    .map(|_| 0x20 + random.below(0x5f) as u8)
+                    .collect(),
+            )
         }
     }
 }
 
 /// A store of some cells in a buffer with some bytes to spare.
 fn some_store(random: &mut Random, cells: u64, spare: usize) -> (Vec<u8>, usize) {
-    let cells: BTreeMap<_, _> = (0..cells).map(|_| (some_key(random), some_value(random))).collect();
+    let cells: BTreeMap<_, _> = (0..cells)
+        .map(|_| (some_key(random), some_value(random)))
+        .collect();
     let mut buffer: Vec<u8> = cells.iter().flat_map(|(k, v)| cell(*k, v)).collect();
     let length = buffer.len();
     buffer.resize(length + spare, PAST);
@@ -43,10 +49,29 @@ fn some_store(random: &mut Random, cells: u64, spare: usize) -> (Vec<u8>, usize)
 /// A question near the limits of each of its numbers, kinds 0 to 4.
 fn some_question(random: &mut Random) -> Question {
     let [datasource, parameter, record, entry] = some_key(random).map(u32::from);
-    let mut q = Question { kind: 1, datasource, parameter, record, entry };
+    let mut q = Question {
+        kind: 1,
+        datasource,
+        parameter,
+        record,
+        entry,
+    };
     match random.below(4) {
-        0 => q = Question { kind: 2, record: 0, entry: 0, ..q },
-        1 => q = Question { kind: 3, entry: 0, ..q },
+        0 => {
+            q = Question {
+                kind: 2,
+                record: 0,
+                entry: 0,
+                ..q
+            }
+        }
+        1 => {
+            q = Question {
+                kind: 3,
+                entry: 0,
+                ..q
+            }
+        }
         _ => {}
     }
     if random.below(8) == 0 {
@@ -75,15 +100,32 @@ fn damage(random: &mut Random, buffer: &mut Vec<u8>, length: &mut usize) {
             buffer.drain(at..end);
         }
         2 => {
-            let first: Vec<u8> = buffer.iter().copied().take(random.below(40) as usize).collect();
+            let first: Vec<u8> = buffer
+                .iter()
+                .copied()
+                .take(random.below(40) as usize)
+                .collect();
             buffer.splice(0..0, first);
         }
-        _ => *length = random.pick(&[0, length.saturating_sub(1), *length + 1, buffer.len(), buffer.len() + 1, usize::MAX]),
+        _ => {
+            *length = random.pick(&[
+                0,
+                length.saturating_sub(1),
+                *length + 1,
+                buffer.len(),
+                buffer.len() + 1,
+                usize::MAX,
+            ])
+        }
     }
 }
 
 fn same_answer(buffer: &[u8], length: usize, q: Question) {
-    assert_eq!(ask(buffer, length, q), second::ask(buffer, length, q), "{q:?}");
+    assert_eq!(
+        ask(buffer, length, q),
+        second::ask(buffer, length, q),
+        "{q:?}"
+    );
 }
 
 /// "Kind 1 asks for the cell of a key", "Kind 2 asks for a parameter's highest record number", kind 3, 1 and 15.
@@ -105,14 +147,24 @@ fn questions_on_random_and_damaged_stores() {
 /// Every byte of a cell of each kind with every value.
 #[test]
 fn every_byte_of_a_cell() {
-    let values = [Value::Integer(-2_000_000_000), Value::Decimal(2_000_000_000_000_000), Value::String(b"Cs-137".to_vec())];
+    let values = [
+        Value::Integer(-2_000_000_000),
+        Value::Decimal(2_000_000_000_000_000),
+        Value::String(b"Cs-137".to_vec()),
+    ];
     for value in values {
         let good = cell([7, 300, 12, 5], &value);
         for at in 0..good.len() {
             for byte in 0..=255 {
                 let mut bytes = good.clone();
                 bytes[at] = byte;
-                let q = Question { kind: 1, datasource: 7, parameter: 300, record: 12, entry: 5 };
+                let q = Question {
+                    kind: 1,
+                    datasource: 7,
+                    parameter: 300,
+                    record: 12,
+                    entry: 5,
+                };
                 same_answer(&bytes, bytes.len(), q);
                 let mut buffers = [vec![PAST; 30], vec![PAST; 30]];
                 let ours = put(&mut buffers[0], 0, &bytes);
@@ -129,7 +181,10 @@ fn same_edit(buffers: &mut [Vec<u8>; 2], length: usize, bytes: &[u8], putting: b
     let (a, b) = if putting {
         (put(ours, length, bytes), second::put(theirs, length, bytes))
     } else {
-        (remove(ours, length, bytes), second::remove(theirs, length, bytes))
+        (
+            remove(ours, length, bytes),
+            second::remove(theirs, length, bytes),
+        )
     };
     assert_eq!(a, b);
     assert!(ours == theirs, "the buffers differ");
@@ -139,7 +194,11 @@ fn same_edit(buffers: &mut [Vec<u8>; 2], length: usize, bytes: &[u8], putting: b
 fn some_edit(random: &mut Random) -> (Vec<u8>, bool) {
     let putting = random.below(3) != 0;
     let k = some_key(random);
-    let mut bytes = if putting { cell(k, &some_value(random)) } else { key(k) };
+    let mut bytes = if putting {
+        cell(k, &some_value(random))
+    } else {
+        key(k)
+    };
     if random.below(16) == 0 {
         damage(random, &mut bytes, &mut 0);
     }
@@ -171,12 +230,21 @@ fn long_lists_of_edits() {
 #[test]
 fn puts_that_just_fit_and_just_dont() {
     let mut random = Random::new(0xf175);
-    let values = [Value::Integer(1), Value::Decimal(1), Value::String(b"".to_vec())];
+    let values = [
+        Value::Integer(1),
+        Value::Decimal(1),
+        Value::String(b"".to_vec()),
+    ];
     for old in &values {
         for new in &values {
             for spare in 0..=26 {
                 let (mut buffer, _) = some_store(&mut random, 5, 0);
-                let length = same_edit(&mut [buffer.clone(), buffer.clone()], buffer.len(), &[], true);
+                let length = same_edit(
+                    &mut [buffer.clone(), buffer.clone()],
+                    buffer.len(),
+                    &[],
+                    true,
+                );
                 buffer.resize(length + 26, PAST);
                 let mut buffers = [buffer.clone(), buffer];
                 let length = same_edit(&mut buffers, length, &cell([2, 2, 2, 0], old), true);
@@ -191,8 +259,14 @@ fn puts_that_just_fit_and_just_dont() {
 
 /// A store of `cells` integers in datasources 1 to 35, in order.
 fn full_store(cells: u16, buffer: usize) -> (Vec<u8>, usize) {
-    let mut bytes: Vec<u8> =
-        (0..cells).flat_map(|n| cell([1 + n / 160, 1 + n % 160, n % 7, n % 3], &Value::Integer(n.into()))).collect();
+    let mut bytes: Vec<u8> = (0..cells)
+        .flat_map(|n| {
+            cell(
+                [1 + n / 160, 1 + n % 160, n % 7, n % 3],
+                &Value::Integer(n.into()),
+            )
+        })
+        .collect();
     let length = bytes.len();
     bytes.resize(buffer, PAST);
     (bytes, length)
@@ -206,18 +280,62 @@ fn empty_and_full_stores() {
         let mut places = vec![0; MOST_CELLS];
         assert_eq!(index(&buffer, length, &mut places), Some(cells.into()));
         for n in 0..cells {
-            let [datasource, parameter, record, entry] = [1 + n / 160, 1 + n % 160, n % 7, n % 3].map(u32::from);
-            let q = Question { kind: 1, datasource, parameter, record, entry };
+            let [datasource, parameter, record, entry] =
+                [1 + n / 160, 1 + n % 160, n % 7, n % 3].map(u32::from);
+            let q = Question {
+                kind: 1,
+                datasource,
+                parameter,
+                record,
+                entry,
+            };
             same_answer(&buffer, length, q);
-            assert_eq!(looked_up(&buffer, &places, cells.into(), q), second::ask(&buffer, length, q).answer);
-            same_answer(&buffer, length, Question { kind: 2, datasource, parameter, record: 0, entry: 0 });
-            same_answer(&buffer, length, Question { kind: 3, datasource, parameter, record, entry: 0 });
+            assert_eq!(
+                looked_up(&buffer, &places, cells.into(), q),
+                second::ask(&buffer, length, q).answer
+            );
+            same_answer(
+                &buffer,
+                length,
+                Question {
+                    kind: 2,
+                    datasource,
+                    parameter,
+                    record: 0,
+                    entry: 0,
+                },
+            );
+            same_answer(
+                &buffer,
+                length,
+                Question {
+                    kind: 3,
+                    datasource,
+                    parameter,
+                    record,
+                    entry: 0,
+                },
+            );
         }
-        for k in [[1, 1, 0, 0], [1, 1, 0, 1], [17, 80, 3, 1], [35, 21, 999, 999]] {
-            for bytes in [cell(k, &Value::Integer(-5)), cell(k, &Value::Decimal(7)), cell(k, &Value::String(vec![b'x'; 16]))] {
+        for k in [
+            [1, 1, 0, 0],
+            [1, 1, 0, 1],
+            [17, 80, 3, 1],
+            [35, 21, 999, 999],
+        ] {
+            for bytes in [
+                cell(k, &Value::Integer(-5)),
+                cell(k, &Value::Decimal(7)),
+                cell(k, &Value::String(vec![b'x'; 16])),
+            ] {
                 same_edit(&mut [buffer.clone(), buffer.clone()], length, &bytes, true);
             }
-            same_edit(&mut [buffer.clone(), buffer.clone()], length, &key(k), false);
+            same_edit(
+                &mut [buffer.clone(), buffer.clone()],
+                length,
+                &key(k),
+                false,
+            );
         }
     }
 }
@@ -226,8 +344,33 @@ fn empty_and_full_stores() {
 #[test]
 fn lengths_at_the_limit() {
     let (buffer, length) = full_store(MOST_CELLS as u16, LIMIT + 100);
-    for n in [length - 1, length, length + 1, LIMIT - 1, LIMIT, LIMIT + 1, buffer.len(), buffer.len() + 1, usize::MAX] {
-        same_answer(&buffer, n, Question { kind: 1, datasource: 1, parameter: 1, record: 0, entry: 0 });
-        same_edit(&mut [buffer.clone(), buffer.clone()], n, &cell([1, 1, 0, 0], &Value::Integer(3)), true);
+    for n in [
+        length - 1,
+        length,
+        length + 1,
+        LIMIT - 1,
+        LIMIT,
+        LIMIT + 1,
+        buffer.len(),
+        buffer.len() + 1,
+        usize::MAX,
+    ] {
+        same_answer(
+            &buffer,
+            n,
+            Question {
+                kind: 1,
+                datasource: 1,
+                parameter: 1,
+                record: 0,
+                entry: 0,
+            },
+        );
+        same_edit(
+            &mut [buffer.clone(), buffer.clone()],
+            n,
+            &cell([1, 1, 0, 0], &Value::Integer(3)),
+            true,
+        );
     }
 }

@@ -4,6 +4,7 @@ use mathlib.Core.Bool.{true, cond}
 use mathlib.Core.List.{List, [], _∷_, _++_}
 use mathlib.Core.Option.{Option, none, some}
 use Prim.Native.Nat.{ℕ, _+_, _≤_, _<_}
+use lib.Dec.{ltb}
 use lib.ListN.{length, getD, drop}
 use lib.Seq.{sets}
 use Rattle.meaning.specs.Answer.{missing, cell}
@@ -82,3 +83,7 @@ pub record Answers (b places : List ℕ) (count : ℕ) (q : Question) (r : Answe
 -- r is the size of the cell at a place of b
 pub record SizeAt (b : List ℕ) (at r : ℕ) : Type 0 where
   pub size : (c : Cell) (rest : List ℕ) → cellAllowed c ≡ true → drop at b ≡ cellBytes c ++ rest → r ≡ length (cellBytes c)
+
+-- 1 where a is below b, else 0
+unfoldable pub belowOf : ℕ → ℕ → ℕ
+belowOf a b = cond (ltb a b) 1 0

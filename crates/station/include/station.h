@@ -55,4 +55,8 @@ uint32_t station_put(uint8_t *buffer, size_t buffer_length, size_t length, const
 uint32_t station_remove(uint8_t *buffer, size_t buffer_length, size_t length, const uint8_t *key, size_t key_length,
                         size_t *left);
 
+/* Checks 2 to 6 of a template, with the caller's section name: the number, and in *line the line that is named. */
+uint32_t station_check(const uint8_t *text, size_t text_length, const uint8_t *section, size_t section_length,
+                       uint32_t *line);
+
 #endif

@@ -12,7 +12,7 @@ use Rattle.numbers.specs.Outcome.{Outcome, outcome}
 use Rattle.numbers.specs.declared.Rounded.{Rounded}
 use Rattle.numbers.specs.declared.Rounded.the-variants.{Units, OutOfRange}
 use Rattle.meaning.specs.declared.question.Question.{Question}
-use Rattle.meaning.specs.Number.{numberOf, endOf}
+use Rattle.meaning.specs.Number.{numberOf, endOf, refusalNumber}
 use Rattle.cells.specs.declared.Answered.{Answered}
 use Rattle.cells.specs.declared.Asked.{Asked}
 use Rattle.cells.specs.declared.index.Indexed.{Indexed}
@@ -20,6 +20,11 @@ use Rattle.cells.specs.declared.index.Indexed.the-variants.{Count, BadStore}
 use Rattle.cells.specs.Cell.{Cell}
 use Rattle.cells.specs.Asking.{Reply, reply, meant}
 use Rattle.cells.specs.Index.{Indexes, Answers, counted}
+use Rattle.meaning.specs.declared.refusal.Refusal.{Refusal}
+use Rattle.template.specs.declared.Run.{Run}
+use Rattle.template.specs.declared.Checked.{Checked}
+use Rattle.template.specs.declared.Checked.the-variants.{Accepted, Refused}
+use Rattle.station.specs.Checks.{ToldCheck}
 use Rattle.station.specs.Codes.{Told, ToldUnits}
 use Rattle.store.specs.declared.Edited.{Edited}
 use Rattle.store.specs.Edit.{Edit, edit}
@@ -67,3 +72,11 @@ told-edit s e q = record {
   left = ap (λ (y : Edit). y .length) e;
   buffer = ap (λ (y : Edit). y .buffer) e;
 }
+
+-- ---- checks
+
+pub check-accepted : {x y : Checked} {run : Run} → y ≡ x → y ≡ Accepted run → ToldCheck x 0 0
+check-accepted e h = record { number = rw (← e, h); line = rw (← e, h) }
+
+pub check-refused : {x y : Checked} {e : Refusal} {l r : ℕ} → y ≡ x → y ≡ Refused e l → r ≡ refusalNumber e → ToldCheck x l r
+check-refused p h q = record { number = rw (← p, h) q; line = rw (← p, h) }

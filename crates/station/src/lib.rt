@@ -3,3 +3,4 @@ mod arithmetic; // arithmetic.rt: calculations, comparison, rounding
 mod field; // field.rt: fields
 mod question; // question.rt: questions to a store
 mod edit; // edit.rt: puts and removes
+mod check; // check.rt: the checks of a template

@@ -1,0 +1,19 @@
+use borrow.Author.Tests.{eq-eqb, ne-eqb}
+use Rattle.template.specs.Checks.{cameBefore}
+use borrow.Author.Needs.{needs}
+use Rattle.template.proofs.names.came_before.Statement.{statement}
+use Rattle.template.proofs.names.came_before.Tie as tie
+
+returns : tie.Need-returns
+unfolding cameBefore
+returns c = rw (eq-eqb _ _ (c .if1 .taken))
+
+has-name-requires : tie.Need-has-name-requires
+has-name-requires c κs = search needs
+
+returns-2 : tie.Need-returns-2
+unfolding cameBefore
+returns-2 c = rw (ne-eqb _ _ (c .before .if1 .left)) (c .has-name .ensures)
+
+pub came-before-spec : {M : Type 1} → statement M
+came-before-spec = tie.close (tie.spec returns has-name-requires returns-2)

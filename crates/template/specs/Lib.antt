@@ -1,0 +1,10 @@
+pub mod Lines
+pub mod Verdicts
+pub mod Walk
+pub mod Nest
+pub mod Open
+pub mod Form
+pub mod Checks
+pub mod Sections
+pub mod Order
+pub mod Seek

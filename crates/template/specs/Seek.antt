@@ -1,0 +1,74 @@
+-- Where a failed test, an executed $ELSE and a $BT with n below 1 go on. Assumes nothing.
+use mathlib.Core.Bool.{cond}
+use mathlib.Core.List.{List, [], _∷_}
+use Prim.Native.Nat.{ℕ, zero, suc, _+_}
+use lib.Dec.{ltb}
+use lib.ListN.{length}
+use Rattle.template.specs.declared.nest.Shape.{Shape}
+use Rattle.template.specs.declared.nest.Shape.the-variants.{Section, Remark, Test, Else, EndTest, Table, EndTable, Plain, NoForm}
+use Rattle.template.specs.declared.seek.Sought.{Sought}
+use Rattle.template.specs.declared.seek.Sought.the-variants.{Branch, TestEnd, TableEnd}
+use Rattle.template.specs.declared.seek.Role.{Role}
+use Rattle.template.specs.declared.seek.Role.the-variants.{Opens, Closes, Divides, Passes}
+use Rattle.template.specs.declared.seek.Way.{Way}
+use Rattle.template.specs.declared.seek.Way.the-variants.{On, Match}
+use Rattle.template.specs.declared.seek.Skip.{Skip}
+use Rattle.template.specs.Lines.{linesOf}
+use Rattle.template.specs.Form.{shapeOf}
+
+unfoldable pub testRole : Shape → Role
+testRole Section = Passes
+testRole Remark = Passes
+testRole Test = Opens
+testRole Else = Divides
+testRole EndTest = Closes
+testRole Table = Passes
+testRole EndTable = Passes
+testRole Plain = Passes
+testRole NoForm = Passes
+
+unfoldable pub tableRole : Shape → Role
+tableRole Section = Passes
+tableRole Remark = Passes
+tableRole Test = Passes
+tableRole Else = Passes
+tableRole EndTest = Passes
+tableRole Table = Opens
+tableRole EndTable = Closes
+tableRole Plain = Passes
+tableRole NoForm = Passes
+
+-- a $ELSE ends the search of a failed test only
+unfoldable pub elsePassed : Role → Role
+elsePassed Opens = Opens
+elsePassed Closes = Closes
+elsePassed Divides = Passes
+elsePassed Passes = Passes
+
+unfoldable pub roleOf : Sought → Shape → Role
+roleOf Branch x = testRole x
+roleOf TestEnd x = elsePassed (testRole x)
+roleOf TableEnd x = tableRole x
+
+-- behind a line, with d tests or tables open inside: "matching" is what closes or divides none of these
+unfoldable pub past : Role → ℕ → Way
+past Opens d = On (suc d)
+past Closes zero = Match
+past Closes (suc d) = On d
+past Divides zero = Match
+past Divides (suc d) = On (suc d)
+past Passes d = On d
+
+unfoldable pub orSkip : Way → (ℕ → Skip) → Skip → Skip
+orSkip (On d) next skip = next d
+orSkip Match next skip = skip
+
+-- the lines up to the one that matches, behind some bytes and n lines, with d open inside
+unfoldable pub skipFrom : Sought → ℕ → ℕ → ℕ → List (List ℕ) → Skip
+skipFrom q d at n [] = record { bytes = at; lines = n }
+skipFrom q d at n (l ∷ ls) =
+    orSkip (past (roleOf q (shapeOf l)) d) (λ k. skipFrom q k (at + length l + 1) (suc n) ls) (record { bytes = at + length l + 1; lines = suc n })
+
+-- "A template has at most 32,768 bytes"; nothing of a longer part is passed over
+unfoldable pub skipped : List ℕ → Sought → Skip
+skipped t q = cond (ltb 32768 (length t)) (record { bytes = 0; lines = 0 }) (skipFrom q 0 0 0 (linesOf t))

@@ -1,0 +1,90 @@
+// What a line is to the checks of a whole template.
+use crate::nest::Shape;
+use lines::command;
+use lines::command::Line;
+ghost use mathlib.Core.Path.{_≡_};
+ghost use Rattle.template.specs.Form.{shapeIn, shapeOf, isSection, hasForm, isFormed, nameOf};
+
+fn shape_in(form: Line) -> Shape
+    ensures { λ r. ⌜ r ≡ shapeIn form ⌝ }
+{
+    match form {
+        Line::NoForm => Shape::NoForm,
+        Line::Text => Shape::Plain,
+        Line::Section(_, _) => Shape::Section,
+        Line::Set(_, _, _) => Shape::Plain,
+        Line::IfZero(_) => Shape::Test,
+        Line::IfNonZero(_) => Shape::Test,
+        Line::Compare(_, _, _) => Shape::Test,
+        Line::Else => Shape::Else,
+        Line::EndIf => Shape::EndTest,
+        Line::BeginTable(_) => Shape::Table,
+        Line::EndTable(_) => Shape::EndTable,
+        Line::Records(_) => Shape::Plain,
+        Line::Entries(_) => Shape::Plain,
+        Line::Datasource(_) => Shape::Plain,
+        Line::NoFormFeed => Shape::Plain,
+        Line::NewPage(_) => Shape::Plain,
+        Line::Heading(_, _) => Shape::Plain,
+        Line::NoHeading(_) => Shape::Plain,
+        Line::Remark => Shape::Remark,
+    }
+}
+
+pub fn shape_of(line: &[u8]) -> Shape
+    ensures { λ r. ⌜ r ≡ shapeOf (now (line .entry)) ⌝ }
+{
+    let form = command::parse_line(line);
+    shape_in(form)
+}
+
+fn is_section(shape: Shape) -> bool
+    ensures { λ r. ⌜ r ≡ isSection shape ⌝ }
+{
+    match shape {
+        Shape::Section => true,
+        Shape::Remark => false,
+        Shape::Test => false,
+        Shape::Else => false,
+        Shape::EndTest => false,
+        Shape::Table => false,
+        Shape::EndTable => false,
+        Shape::Plain => false,
+        Shape::NoForm => false,
+    }
+}
+
+// A section's name by its first eight characters; empty where the line isn't $SEC.
+pub fn name_of<'a>(line: &'a [u8]) -> &'a [u8]
+    ensures { λ r. ⌜ now r ≡ nameOf (now (line .entry)) ⌝ }
+{
+    let shape = shape_of(line);
+    if is_section(shape) {
+        return scan::bytes::part(line, 5, 8);
+    }
+    scan::bytes::part(line, 0, 0)
+}
+
+fn has_form(shape: Shape) -> bool
+    ensures { λ r. ⌜ r ≡ hasForm shape ⌝ }
+{
+    match shape {
+        Shape::Section => true,
+        Shape::Remark => true,
+        Shape::Test => true,
+        Shape::Else => true,
+        Shape::EndTest => true,
+        Shape::Table => true,
+        Shape::EndTable => true,
+        Shape::Plain => true,
+        Shape::NoForm => false,
+    }
+}
+
+// "A line has no form above, a number literal exceeds ±2,000,000,000, or fields widen a line past 132 bytes."
+pub fn is_formed(line: &[u8]) -> bool
+    ensures { λ r. ⌜ r ≡ isFormed (now (line .entry)) ⌝ }
+{
+    let shape = shape_of(line);
+    has_form(shape)
+}

@@ -1,0 +1,93 @@
+// The checks of a whole template, in document 01's order, and where the run of a section starts and ends.
+//
+// check           2 to 5, each over the whole template, then 6
+// bytes::check    2: too long, a byte or a line outside its limits
+// seek::skip_lines   where a failed test, an executed $ELSE and a $BT with n below 1 go on
+use crate::sections::Selection;
+use meaning::refusal::Refusal;
+ghost use mathlib.Core.Path.{_≡_};
+ghost use Prim.Native.Nat.{_≤_};
+ghost use lib.ListN.{length};
+ghost use Rattle.template.specs.Order.{sectionChecked, namesChecked, nestingChecked, formsChecked, templateChecked};
+
+pub mod bytes; // bytes.rt: check 2
+mod nest; // nest.rt: what is open, from one line to the next
+mod form; // form.rt: what a line is to the checks
+mod forms; // forms.rt: check 3
+mod nesting; // nesting.rt: check 4
+mod names; // names.rt: check 5
+pub mod seek; // seek.rt: where a failed test, an executed $ELSE and a skipped table go on
+mod sections; // sections.rt: check 6
+
+// How a check ends: nothing at fault, or the first line that is. 0 is no line.
+pub enum Verdict {
+    Fine,
+    Fault(u32),
+}
+
+// A run's lines: where the first starts, its number, and where the line behind the last would start.
+pub struct Run {
+    pub start: usize,
+    pub line: u32,
+    pub end: usize,
+}
+
+// An accepted template's run, or why it is refused and the line named.
+pub enum Checked {
+    Accepted(Run),
+    Refused(Refusal, u32),
+}
+
+fn section_checked(template: &[u8], section: &[u8]) -> Checked
+    requires { ⌜ length (now template) ≤ 32768 ⌝ }
+    ensures { λ r. ⌜ r ≡ sectionChecked (now (template .entry)) (now (section .entry)) ⌝ }
+{
+    let selection = sections::select(template, section);
+    match selection {
+        Selection::Lines(run) => Checked::Accepted(run),
+        Selection::NotThere => Checked::Refused(Refusal::NoSection, 0),
+    }
+}
+
+fn names_checked(template: &[u8], section: &[u8]) -> Checked
+    requires { ⌜ length (now template) ≤ 32768 ⌝ }
+    ensures { λ r. ⌜ r ≡ namesChecked (now (template .entry)) (now (section .entry)) ⌝ }
+{
+    let verdict = names::check(template);
+    match verdict {
+        Verdict::Fine => section_checked(template, section),
+        Verdict::Fault(line) => Checked::Refused(Refusal::RepeatedSection, line),
+    }
+}
+
+fn nesting_checked(template: &[u8], section: &[u8]) -> Checked
+    requires { ⌜ length (now template) ≤ 32768 ⌝ }
+    ensures { λ r. ⌜ r ≡ nestingChecked (now (template .entry)) (now (section .entry)) ⌝ }
+{
+    let verdict = nesting::check(template);
+    match verdict {
+        Verdict::Fine => names_checked(template, section),
+        Verdict::Fault(line) => Checked::Refused(Refusal::BadNesting, line),
+    }
+}
+
+fn forms_checked(template: &[u8], section: &[u8]) -> Checked
+    requires { ⌜ length (now template) ≤ 32768 ⌝ }
+    ensures { λ r. ⌜ r ≡ formsChecked (now (template .entry)) (now (section .entry)) ⌝ }
+{
+    let verdict = forms::check(template);
+    match verdict {
+        Verdict::Fine => nesting_checked(template, section),
+        Verdict::Fault(line) => Checked::Refused(Refusal::BadLine, line),
+    }
+}
+
+pub fn check(template: &[u8], section: &[u8]) -> Checked
+    ensures { λ r. ⌜ r ≡ templateChecked (now (template .entry)) (now (section .entry)) ⌝ }
+{
+    let verdict = bytes::check(template);
+    match verdict {
+        Verdict::Fine => forms_checked(template, section),
+        Verdict::Fault(line) => Checked::Refused(Refusal::BadTemplate, line),
+    }
+}
