@@ -75,18 +75,22 @@ fn times(cells: u16) {
     let count = index(&store, store.len(), &mut places).expect("a store in form");
     let q = |i: usize| questions[i % QUESTIONS];
     let lookup = time::nanoseconds(20_000, |i| {
-        drop(black_box(look_up(&store, &places, count, q(i))))
+        black_box(look_up(&store, &places, count, q(i)));
     });
     let plain = time::nanoseconds(20_000, |i| {
-        drop(black_box(binary_search(&store, &places[..count], q(i))))
+        black_box(binary_search(&store, &places[..count], q(i)));
     });
-    let walked = time::nanoseconds(2_000, |i| drop(black_box(walk(&store, q(i)))));
+    let walked = time::nanoseconds(2_000, |i| {
+        black_box(walk(&store, q(i)));
+    });
     let checked = time::nanoseconds(100, |_| {
-        drop(black_box(index(&store, store.len(), &mut places)))
+        black_box(index(&store, store.len(), &mut places));
     });
-    let whole = time::nanoseconds(100, |i| drop(black_box(ask(&store, store.len(), q(i)))));
+    let whole = time::nanoseconds(100, |i| {
+        black_box(ask(&store, store.len(), q(i)));
+    });
     let theirs = time::nanoseconds(100, |i| {
-        drop(black_box(second::ask(&store, store.len(), q(i))))
+        black_box(second::ask(&store, store.len(), q(i)));
     });
     println!(
         "| {cells} | {:.2} | {:.3} | {:.2} | {:.2} | {:.2} |",
@@ -104,15 +108,15 @@ fn stacks() {
     let mut buffer = store.clone();
     buffer.resize(length + 100, 0);
     let (mut a, mut b) = (buffer.clone(), buffer);
-    let asked = stack::used(move || drop(black_box(ask(&store, length, q))));
-    let put = stack::used(move || {
-        drop(black_box(put(
-            &mut a,
-            length,
-            &cell([1, 1, 9, 9], &Value::Integer(1)),
-        )))
+    let asked = stack::used(move || {
+        black_box(ask(&store, length, q));
     });
-    let removed = stack::used(move || drop(black_box(remove(&mut b, length, &key([1, 1, 0, 0])))));
+    let put = stack::used(move || {
+        black_box(put(&mut a, length, &cell([1, 1, 9, 9], &Value::Integer(1))));
+    });
+    let removed = stack::used(move || {
+        black_box(remove(&mut b, length, &key([1, 1, 0, 0])));
+    });
     println!("\nstack in bytes, of 65,536: ask {asked}, put {put}, remove {removed}");
     assert!(
         [asked, put, removed].iter().all(|&n| n < 65_536),
