@@ -3,7 +3,7 @@
 use crate::{stack, time};
 use second::{Question, Value};
 use station_tests::random::Random;
-use station_tests::store::{ask, cell, index, key, look_up, put, remove, MOST_CELLS};
+use station_tests::store::{ask, cell, index, key, look_up, put, remove, Handed, MOST_CELLS};
 use std::hint::black_box;
 
 const QUESTIONS: usize = 2_000;
@@ -42,23 +42,77 @@ fn number(q: Question) -> u64 {
         | u64::from(q.entry)
 }
 
-/// The integer of the cell at a place.
-fn value_at(store: &[u8], at: usize) -> i64 {
-    i32::from_be_bytes(store[at + 8..at + 12].try_into().expect("four bytes")).into()
+/// The value of the cell at a place.
+fn value_at(store: &[u8], at: usize) -> Found {
+    let cell = &store[at..];
+    match cell[0] {
+        0x49 => {
+            Found::Integer(i32::from_be_bytes(cell[8..12].try_into().expect("four bytes")).into())
+        }
+        0x46 => Found::Decimal(i64::from_be_bytes(
+            cell[8..16].try_into().expect("eight bytes"),
+        )),
+        _ => Found::Text(at + 9, cell[8].into()),
+    }
 }
 
-/// Plain Rust over the same index.
-fn binary_search(store: &[u8], places: &[u16], q: Question) -> Option<i64> {
-    let found = places.binary_search_by_key(&number(q), |&at| key_at(store, at.into()));
-    found.ok().map(|i| value_at(store, places[i].into()))
+/// What a lookup hands back, here as there.
+enum Found {
+    Missing,
+    Integer(i64),
+    Decimal(i64),
+    Text(usize, usize),
+}
+
+/// Plain Rust over the same index, without the limits of a question.
+fn binary_search(store: &[u8], places: &[u16], q: Question) -> Found {
+    match places.binary_search_by_key(&number(q), |&at| key_at(store, at.into())) {
+        Ok(i) => value_at(store, places[i].into()),
+        Err(_) => Found::Missing,
+    }
+}
+
+/// The plain search behind the same call as the lookup: the same parameters, the answer handed back in the same way.
+#[inline(never)]
+extern "C" fn binary_search_call(
+    buffer: *const u8,
+    buffer_length: usize,
+    places: *const u16,
+    places_length: usize,
+    known: usize,
+    kind: u32,
+    datasource: u32,
+    parameter: u32,
+    record: u32,
+    entry: u32,
+    answered: &mut u8,
+    value: &mut i64,
+    place: &mut usize,
+    count: &mut usize,
+) {
+    let store = unsafe { std::slice::from_raw_parts(buffer, buffer_length) };
+    let places = unsafe { std::slice::from_raw_parts(places, places_length) };
+    let question = Question {
+        kind,
+        datasource,
+        parameter,
+        record,
+        entry,
+    };
+    match binary_search(store, &places[..known], question) {
+        Found::Missing => *answered = 0,
+        Found::Integer(n) => (*answered, *value) = (0x49, n),
+        Found::Decimal(n) => (*answered, *value) = (0x46, n),
+        Found::Text(at, n) => (*answered, *place, *count) = (0x53, at, n),
+    }
 }
 
 /// Plain Rust from the store's start.
-fn walk(store: &[u8], q: Question) -> Option<i64> {
+fn walk(store: &[u8], q: Question) -> Found {
     let mut at = 0;
     while at < store.len() {
         if key_at(store, at) == number(q) {
-            return Some(value_at(store, at));
+            return value_at(store, at);
         }
         at += match store[at] {
             0x49 => 12,
@@ -66,34 +120,61 @@ fn walk(store: &[u8], q: Question) -> Option<i64> {
             _ => 25,
         };
     }
-    None
+    Found::Missing
 }
 
 fn times(cells: u16) {
     let (store, questions) = full_store(cells);
     let mut places = vec![0; MOST_CELLS];
     let count = index(&store, store.len(), &mut places).expect("a store in form");
+    let mut spare = places.clone();
     let q = |i: usize| questions[i % QUESTIONS];
-    let lookup = time::nanoseconds(20_000, |i| {
-        black_box(look_up(&store, &places, count, q(i)));
-    });
-    let plain = time::nanoseconds(20_000, |i| {
-        black_box(binary_search(&store, &places[..count], q(i)));
-    });
-    let walked = time::nanoseconds(2_000, |i| {
-        black_box(walk(&store, q(i)));
-    });
-    let checked = time::nanoseconds(100, |_| {
-        black_box(index(&store, store.len(), &mut places));
-    });
-    let whole = time::nanoseconds(100, |i| {
-        black_box(ask(&store, store.len(), q(i)));
-    });
-    let theirs = time::nanoseconds(100, |i| {
-        black_box(second::ask(&store, store.len(), q(i)));
-    });
+    let [lookup, called, plain, walked, checked, whole, theirs] = time::nanoseconds([
+        (20_000, &mut |i| {
+            let mut handed = Handed::default();
+            look_up(&store, &places, count, q(i), &mut handed);
+            black_box(&handed);
+        }),
+        (20_000, &mut |i| {
+            let (mut kind, mut value, mut place, mut length) = (0, 0, 0, 0);
+            let q = q(i);
+            binary_search_call(
+                store.as_ptr(),
+                store.len(),
+                places.as_ptr(),
+                places.len(),
+                count,
+                q.kind,
+                q.datasource,
+                q.parameter,
+                q.record,
+                q.entry,
+                &mut kind,
+                &mut value,
+                &mut place,
+                &mut length,
+            );
+            black_box((&kind, &value, &place, &length));
+        }),
+        (20_000, &mut |i| {
+            black_box(&binary_search(&store, &places[..count], q(i)));
+        }),
+        (1_000, &mut |i| {
+            black_box(walk(&store, q(i)));
+        }),
+        (100, &mut |_| {
+            black_box(index(&store, store.len(), &mut spare));
+        }),
+        (100, &mut |i| {
+            black_box(ask(&store, store.len(), q(i)));
+        }),
+        (100, &mut |i| {
+            black_box(second::ask(&store, store.len(), q(i)));
+        }),
+    ]);
     println!(
-        "| {cells} | {:.2} | {:.3} | {:.2} | {:.2} | {:.2} |",
+        "| {cells} | {:.2} | {:.2} | {:.3} | {:.2} | {:.2} | {:.2} |",
+        lookup / called,
         lookup / plain,
         lookup / walked,
         checked / whole,
@@ -126,8 +207,8 @@ fn stacks() {
 
 pub fn run() {
     println!("Ratios of times, kind 1, random cells of a full store:");
-    println!("| cells | lookup / binary search | lookup / walk | form check / ask | ask / second's ask | ask / walk |");
-    println!("| --- | --- | --- | --- | --- | --- |");
+    println!("| cells | lookup / binary search | lookup / search inlined | lookup / walk | form check / ask | ask / second's ask | ask / walk |");
+    println!("| --- | --- | --- | --- | --- | --- | --- |");
     [100, 1_000, MOST_CELLS as u16].into_iter().for_each(times);
     stacks();
 }

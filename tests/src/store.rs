@@ -125,8 +125,7 @@ pub fn index(buffer: &[u8], length: usize, places: &mut [u16]) -> Option<usize> 
 }
 
 /// A question over the places of a store's cells.
-pub fn look_up(buffer: &[u8], places: &[u16], known: usize, q: Question) -> Handed {
-    let mut h = Handed::default();
+pub fn look_up(buffer: &[u8], places: &[u16], known: usize, q: Question, h: &mut Handed) {
     unsafe {
         station_look_up(
             buffer.as_ptr(),
@@ -145,11 +144,12 @@ pub fn look_up(buffer: &[u8], places: &[u16], known: usize, q: Question) -> Hand
             &mut h.count,
         )
     };
-    h
 }
 
 pub fn looked_up(buffer: &[u8], places: &[u16], known: usize, q: Question) -> Answer {
-    look_up(buffer, places, known, q).answer(buffer)
+    let mut h = Handed::default();
+    look_up(buffer, places, known, q, &mut h);
+    h.answer(buffer)
 }
 
 pub fn put(buffer: &mut [u8], length: usize, cell: &[u8]) -> Edited {

@@ -1,14 +1,14 @@
 -- Answers over the list of cells, by the position that halving finds.
 use mathlib.Core.Path.{_≡_, refl, sym, ap, _∙_, subst}
-use mathlib.Core.Bool.{Bool, true, false, cond}
+use mathlib.Core.Bool.{Bool, true, false, cond, false≢true}
 use mathlib.Core.List.{List, [], _∷_, _++_}
 use mathlib.Core.Logic.{⊎-elim}
 use mathlib.Core.Option.{none, some}
 use Prim.Native.Nat.{ℕ, suc, _+_, _-_, _≤_, _<_}
 use native.Mathlib.Nat.{eq-or-lt-of-le, le-max-left, le-max-right, max-le, le-antisymm, le-trans}
 use native.Mathlib.Omega.{arith}
-use borrow.Author.Tests.{eq-eqb, ne-eqb, leb-true, leb-false}
-use lib.Dec.{leb}
+use borrow.Author.Tests.{eqb-true, eq-eqb, ne-eqb, leb-true, leb-false}
+use lib.Dec.{leb, eqb}
 use lib.ListN.{length, getD, drop, length-append, List·getD-append}
 use Rattle.meaning.specs.Each.{Each}
 use Rattle.meaning.specs.Answer.{missing}
@@ -69,13 +69,14 @@ module _ (b index : List ℕ) (count k p : ℕ) (q : Position b index count k p)
           let f = q .first (sorted b n index count cs r) in
           rw (lookup-none k cs (λ i l e. omega (arith, lower-keys b n index count cs r k p f i (omega (arith, r .tally)))))
 
-  module _ (h : p < count) (at key : ℕ) (pl : at ≡ getD index p 0) (ke : at + 8 ≤ length b → key ≡ number (keyAt b (at + 1))) where
-    key-is : (n : ℕ) (cs : List Cell) → Ready b n index count cs → key ≡ getD (keys cs) p 0
+  -- t says whether the cell there has the key
+  module _ (h : p < count) (at : ℕ) (t : Bool) (pl : at ≡ getD index p 0) (ke : at + 9 ≤ length b → t ≡ eqb (number (keyAt b (at + 1))) k) where
+    key-is : (n : ℕ) (cs : List Cell) → Ready b n index count cs → t ≡ eqb (getD (keys cs) p 0) k
     key-is n cs r =
         let l = locate b n index count cs r p h in
-        ke (omega (arith, l .room)) ∙ ap (λ (x : ℕ). number (keyAt b (x + 1))) pl ∙ l .key
+        ke (omega (arith, l .room)) ∙ ap (λ (x : ℕ). eqb (number (keyAt b (x + 1))) k) pl ∙ ap (λ (x : ℕ). eqb x k) (l .key)
 
-    pub cell-found : key ≡ k → (r : Answered) → ValueAt b at r → CellAnswer b index count k r
+    pub cell-found : t ≡ true → (r : Answered) → ValueAt b at r → CellAnswer b index count k r
     unfolding found
     cell-found e v w = record { found = go }
       where
@@ -87,10 +88,10 @@ module _ (b index : List ℕ) (count k p : ℕ) (q : Position b index count k p)
             let x : lookup k cs ≡ some c =
             lookup-here k cs (l .picked .left) c (l .picked .right) (l .picked .split)
             (λ i u z. omega (arith, lower-keys b n index count cs r k p f i (omega (arith, l .picked .place))))
-            (sym (l .number) ∙ sym (key-is n cs r) ∙ e) in
+            (sym (l .number) ∙ eqb-true _ _ (sym (key-is n cs r) ∙ e)) in
             w .value c (l .rest) (l .allowed) (ap (λ (y : ℕ). drop y b) pl ∙ l .bytes) ∙ ap found (sym x)
 
-    pub cell-other : (key ≡ k → ⊥) → CellAnswer b index count k Missing
+    pub cell-other : t ≡ false → CellAnswer b index count k Missing
     unfolding meant found
     cell-other e = record { found = go }
       where
@@ -101,7 +102,7 @@ module _ (b index : List ℕ) (count k p : ℕ) (q : Position b index count k p)
             let no : (i : ℕ) → i < length cs → getD (keys cs) i 0 ≡ k → ⊥ =
             λ i u z. split-at i p
             (λ (a : i < p). omega (arith, lower-keys b n index count cs r k p f i a))
-            (λ (a : i ≡ p). e (key-is n cs r ∙ ap (λ (y : ℕ). getD (keys cs) y 0) (sym a) ∙ z))
+            (λ (a : i ≡ p). false≢true (sym e ∙ key-is n cs r ∙ eq-eqb _ _ (ap (λ (y : ℕ). getD (keys cs) y 0) (sym a) ∙ z)))
             (λ (a : p < i). omega (arith, keys-rise cs p i rise a u, higher-keys b n index count cs r k p f p (omega arith) (omega arith))) in
             rw (lookup-none k cs no)
 
@@ -167,7 +168,7 @@ module _ (b index : List ℕ) (count low end offset p : ℕ) (q : Position b ind
   pub highest-first : p < 1 → I.Highest b index count low end offset 0
   highest-first h = record { last = λ n cs r. nothing (λ xs c ys e l u. omega (arith, stands-before n cs r xs c ys e u)) }
 
-  module _ (h : 1 ≤ p) (at key : ℕ) (pl : at ≡ getD index (p - 1) 0) (ke : at + 8 ≤ length b → key ≡ number (keyAt b (at + 1))) where
+  module _ (h : 1 ≤ p) (at key : ℕ) (pl : at ≡ getD index (p - 1) 0) (ke : at + 9 ≤ length b → key ≡ number (keyAt b (at + 1))) where
     module _ (n : ℕ) (cs : List Cell) (r : Ready b n index count cs) where
       few : p ≤ count
       few = q .first (sorted b n index count cs r) .few

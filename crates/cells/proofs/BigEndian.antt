@@ -72,10 +72,6 @@ unsigned-signed m n h = go (ltb (2 * n) m)
     go false = omega arith
 
 module _ (s : List ℕ) (bytes : Bytes s) where
-  first-pair : (i : ℕ) → pairAt s i ≡ getD s i 0 * 256 + getD s (i + 1) 0
-  unfolding pairAt
-  first-pair i = refl
-
   pub pair-below : (i : ℕ) → pairAt s i < 65536
   unfolding pairAt
   pair-below i = omega (arith, bytes i, bytes (i + 1))
@@ -88,15 +84,16 @@ module _ (s : List ℕ) (bytes : Bytes s) where
   unfolding octetAt
   octet-below i = omega (arith, quad-below i, quad-below (i + 4))
 
-  -- eight bytes without the first: the kind of a cell before its key
-  pub key-of-octet : (at : ℕ) → octetAt s at % 72057594037927936 ≡ number (keyAt s (at + 1))
-  unfolding octetAt quadAt number keyAt
+  -- the eight bytes of a cell behind its kind: its key, and a byte behind it
+  pub key-of-octet : (at : ℕ) → octetAt s at / 256 ≡ number (keyAt s at)
+  unfolding octetAt quadAt pairAt number keyAt
   key-of-octet at =
-      let first : pairAt s at ≡ getD s at 0 * 256 + getD s (at + 1) 0 = first-pair at in
-      let e₂ : pairAt s (at + 1 + 1) ≡ pairAt s (at + 2) = ap (pairAt s) (omega arith) in
-      let e₄ : pairAt s (at + 1 + 3) ≡ pairAt s (at + 4) = ap (pairAt s) (omega arith) in
-      let e₆ : pairAt s (at + 1 + 5) ≡ pairAt s (at + 4 + 2) = ap (pairAt s) (omega arith) in
-      omega (arith, bytes at, bytes (at + 1), pair-below (at + 2), pair-below (at + 4), pair-below (at + 4 + 2))
+      let e₁ : getD s (at + 1 + 1) 0 ≡ getD s (at + 2) 0 = ap (λ (i : ℕ). getD s i 0) (omega arith) in
+      let e₂ : getD s (at + 2 + 1) 0 ≡ getD s (at + 3) 0 = ap (λ (i : ℕ). getD s i 0) (omega arith) in
+      let e₃ : getD s (at + 3 + 1) 0 ≡ getD s (at + 4) 0 = ap (λ (i : ℕ). getD s i 0) (omega arith) in
+      let e₄ : getD s (at + 4 + 1) 0 ≡ getD s (at + 5) 0 = ap (λ (i : ℕ). getD s i 0) (omega arith) in
+      let e₅ : getD s (at + 4 + 2) 0 ≡ getD s (at + 5 + 1) 0 = ap (λ (i : ℕ). getD s i 0) (omega arith) in
+      omega (arith, bytes (at + 4 + 2 + 1))
 
   pub pair-back : (i : ℕ) → i + 2 ≤ length s → pair (pairAt s i) ++ drop (i + 2) s ≡ drop i s
   unfolding pair pairAt

@@ -13,9 +13,34 @@ use lib.Seq.{take-append-seam, drop-append-seam, length-take-le, drop-drop, take
 use Rattle.meaning.specs.Answer.{Value, integer, decimal, string}
 use Rattle.numbers.specs.Range.{integerLimit, decimalLimit, within}
 use Rattle.cells.specs.Bytes.{pair, quad, octet, pairAt, quadAt, octetAt, unsigned, signed, word, long, begins}
-use Rattle.cells.specs.Cell.{Key, Cell, between, keyAllowed, keyBytes, each, printable, valueAllowed, cellAllowed, kindOf, integerKind, decimalKind, stringKind, valueBytes, cellBytes, keyAt, valueOf, cellOf, front}
+use Rattle.cells.specs.Cell.{Key, Cell, between, keyAllowed, keyBytes, number, each, printable, valueAllowed, cellAllowed, kindOf, integerKind, decimalKind, stringKind, valueBytes, cellBytes, keyAt, valueOf, cellOf, front}
 use Rattle.cells.specs.Tests.{sizeOf, zeros, stringFormed, valueFormed, sizeFound, frontSize, Sized}
 use Rattle.cells.proofs.BigEndian.{Bytes, and-true, both, begins-self, begins-says, pair-reads, quad-reads, octet-reads, signed-unsigned, unsigned-signed, quad-below, octet-below, next, pair-back, quad-back, octet-back}
+
+-- ---- the limits of a key
+
+pub record Limits (k : Key) : Type 0 where
+  pub datasource : k .datasource ≤ 35
+  pub parameter : k .parameter ≤ 65535
+  pub recordNumber : k .recordNumber ≤ 999
+  pub entryNumber : k .entryNumber ≤ 999
+
+pub limits : (k : Key) → keyAllowed k ≡ true → Limits k
+unfolding keyAllowed between
+limits k e =
+    let a = and-true (between 1 35 (k .datasource)) (between 1 65535 (k .parameter) && (leb (k .recordNumber) 999 && leb (k .entryNumber) 999)) e in
+    let b = and-true (between 1 65535 (k .parameter)) (leb (k .recordNumber) 999 && leb (k .entryNumber) 999) (a .1) in
+    let c = and-true (leb (k .recordNumber) 999) (leb (k .entryNumber) 999) (b .1) in
+    record {
+      datasource = leb-true _ _ (and-true (leb 1 (k .datasource)) (leb (k .datasource) 35) (a .0) .1);
+      parameter = leb-true _ _ (and-true (leb 1 (k .parameter)) (leb (k .parameter) 65535) (b .0) .1);
+      recordNumber = leb-true _ _ (c .0);
+      entryNumber = leb-true _ _ (c .1);
+    }
+
+pub number-small : (k : Key) → keyAllowed k ≡ true → number k < 18014398509481984
+unfolding number
+number-small k e = let l = limits k e in omega arith
 
 -- ---- a cell's bytes
 

@@ -14,7 +14,7 @@ use Rattle.cells.specs.Cell.{Cell, number, numberOf, keyAt, cellAllowed,
 use Rattle.cells.specs.Store.{encode, allowed, above, rising, cells, held}
 use Rattle.cells.specs.Index.{offsets, Ready, keyIn, Sorted, First}
 use Rattle.cells.proofs.BigEndian.{and-true}
-use Rattle.cells.proofs.CellForm.{cell-key, cell-size, size-least, known-kind, value-allowed}
+use Rattle.cells.proofs.CellForm.{number-small, cell-key, cell-size, size-least, known-kind, key-allowed, value-allowed}
 use Rattle.cells.proofs.Runs.{Holds, cells-some, none-some}
 use Rattle.cells.proofs.Walking.{encode-append, offsets-append, length-offsets}
 
@@ -192,7 +192,9 @@ module _ (b : List ℕ) (n : ℕ) (index : List ℕ) (count : ℕ) (cs : List Ce
   pub sorted : Sorted b index count
   sorted =
       record {
+        room = r .room;
         inside = λ i h. omega (arith, locate i h .room);
+        small = λ i h. let l = locate i h in omega (arith, l .key, l .number, number-small (l .picked .cell .key) (key-allowed (l .picked .cell) (l .allowed)));
         rises = λ i j h l. omega (arith, locate i (omega arith) .key, locate j l .key, keys-rise cs i j (held-some b n cs (r .holds) .holds .valid .rising) h (omega (arith, r .tally)));
       }
 

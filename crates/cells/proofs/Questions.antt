@@ -1,5 +1,5 @@
 -- Questions: their limits as the code tests them, and the range of keys that kinds 2 and 3 speak of.
-use mathlib.Core.Path.{_≡_, sym, ap, _∙_}
+use mathlib.Core.Path.{_≡_, refl, sym, ap, _∙_}
 use mathlib.Core.Bool.{Bool, true, false, cond, _&&_, not, false≢true}
 use mathlib.Core.List.{List}
 use Prim.Native.Nat.{ℕ, _+_, _≤_, _<_}
@@ -14,32 +14,11 @@ use Rattle.cells.specs.Bytes.{pair, pairAt}
 use Rattle.cells.specs.Cell.{Key, Cell, between, keyAllowed, keyBytes, number, cellBytes}
 use Rattle.cells.specs.Asking.{asked, unusedZero, questionAllowed, ofParameter, ofRecord, answer, meant}
 use Rattle.cells.specs.Index as I
-use Rattle.cells.specs.Index.{Ready, CellAnswer, Answers}
+use Rattle.cells.specs.Index.{Ready, CellAnswer, Answers, reachOf, offsetOf}
 use Rattle.cells.proofs.BigEndian.{and-true, both, pair-reads}
-use Rattle.cells.proofs.CellForm.{key-allowed}
+use Rattle.cells.proofs.CellForm.{key-allowed, Limits, limits}
 use Rattle.cells.proofs.Locating.{held-some}
 use Rattle.cells.proofs.Answering.{Range, highest-in}
-
--- ---- the limits of a key
-
-pub record Limits (k : Key) : Type 0 where
-  pub datasource : k .datasource ≤ 35
-  pub parameter : k .parameter ≤ 65535
-  pub recordNumber : k .recordNumber ≤ 999
-  pub entryNumber : k .entryNumber ≤ 999
-
-pub limits : (k : Key) → keyAllowed k ≡ true → Limits k
-unfolding keyAllowed between
-limits k e =
-    let a = and-true (between 1 35 (k .datasource)) (between 1 65535 (k .parameter) && (leb (k .recordNumber) 999 && leb (k .entryNumber) 999)) e in
-    let b = and-true (between 1 65535 (k .parameter)) (leb (k .recordNumber) 999 && leb (k .entryNumber) 999) (a .1) in
-    let c = and-true (leb (k .recordNumber) 999) (leb (k .entryNumber) 999) (b .1) in
-    record {
-      datasource = leb-true _ _ (and-true (leb 1 (k .datasource)) (leb (k .datasource) 35) (a .0) .1);
-      parameter = leb-true _ _ (and-true (leb 1 (k .parameter)) (leb (k .parameter) 65535) (b .0) .1);
-      recordNumber = leb-true _ _ (c .0);
-      entryNumber = leb-true _ _ (c .1);
-    }
 
 -- ---- the range of keys of a parameter, and of a record
 
@@ -155,7 +134,7 @@ module _ (b index : List ℕ) (count : ℕ) (q : Question) (t : Bool) (k : t ≡
       answers-cell o r c = record { answer = λ m cs d. rw (whole, eq-eqb _ _ o, ← e) (c .found m cs d) }
 
       module _ (o : q .kind ≡ 1 → ⊥) (r : ℕ) where
-        pub answers-records : q .kind ≡ 2 → I.Highest b index count key (key + 4294967296) 4 r → Answers b index count q (Highest r)
+        answers-records : q .kind ≡ 2 → I.Highest b index count key (key + 4294967296) 4 r → Answers b index count q (Highest r)
         unfolding answer meant unusedZero
         answers-records w h = record { answer = go }
           where
@@ -173,7 +152,7 @@ module _ (b index : List ℕ) (count : ℕ) (q : Question) (t : Bool) (k : t ≡
                 rw (whole, ne-eqb _ _ o, eq-eqb _ _ w)
                 (ap highest (highest-in (ofParameter (asked q)) (λ c. c .key .recordNumber) key (key + 4294967296) 4 range record-at cs (held-some b m cs (d .holds) .holds .valid .allowed) r (h .last m cs d)))
 
-        pub answers-entries : (q .kind ≡ 2 → ⊥) → I.Highest b index count key (key + 65536) 6 r → Answers b index count q (Highest r)
+        answers-entries : (q .kind ≡ 2 → ⊥) → I.Highest b index count key (key + 65536) 6 r → Answers b index count q (Highest r)
         unfolding answer meant unusedZero
         answers-entries w h = record { answer = go }
           where
@@ -188,3 +167,27 @@ module _ (b index : List ℕ) (count : ℕ) (q : Question) (t : Bool) (k : t ≡
             go m cs d =
                 rw (whole, ne-eqb _ _ o, ne-eqb _ _ w)
                 (ap highest (highest-in (ofRecord (asked q)) (λ c. c .key .entryNumber) key (key + 65536) 6 range entry-at cs (held-some b m cs (d .holds) .holds .valid .allowed) r (h .last m cs d)))
+
+        pub answers-highest : (reach offset : ℕ) → reach ≡ reachOf (q .kind) → offset ≡ offsetOf (q .kind) → I.Highest b index count key (key + reach) offset r → Answers b index count q (Highest r)
+        unfolding reachOf offsetOf
+        answers-highest reach offset u v h = go (eqb (q .kind) 2) refl (rw (u, v) at h)
+          where
+            go : (x : Bool) → eqb (q .kind) 2 ≡ x → I.Highest b index count key (key + cond x 4294967296 65536) (cond x 4 6) r → Answers b index count q (Highest r)
+            go true y h = answers-records (eqb-true _ _ y) h
+            go false y h = answers-entries (λ w. false≢true (sym y ∙ eq-eqb _ _ w)) h
+
+pub reach-most : (kind : ℕ) → reachOf kind ≤ 4294967296
+unfolding reachOf
+reach-most kind = go (eqb kind 2)
+  where
+    go : (x : Bool) → cond x 4294967296 65536 ≤ 4294967296
+    go true = omega arith
+    go false = omega arith
+
+pub offset-most : (kind : ℕ) → offsetOf kind ≤ 6
+unfolding offsetOf
+offset-most kind = go (eqb kind 2)
+  where
+    go : (x : Bool) → cond x 4 6 ≤ 6
+    go true = omega arith
+    go false = omega arith

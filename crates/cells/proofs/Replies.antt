@@ -73,6 +73,7 @@ module _ (b : List ℕ) (n : ℕ) (p p′ : List ℕ) (r : Indexed) (i : Indexes
         record {
           holds = f .held;
           tally = f .tally;
+          room = omega (arith, f .tally, ap length s, length-append (offsets 0 cs) (drop (0 + length (offsets 0 cs)) p));
           places = λ j u. ap (λ (x : List ℕ). getD x j 0) s ∙ List·getD-append (offsets 0 cs) (drop (0 + length (offsets 0 cs)) p) 0 j (omega (arith, f .tally));
         },
       )

@@ -3,8 +3,8 @@ use mathlib.Core.Path.{_≡_}
 use mathlib.Core.Bool.{true, cond}
 use mathlib.Core.List.{List, [], _∷_, _++_}
 use mathlib.Core.Option.{Option, none, some}
-use Prim.Native.Nat.{ℕ, _+_, _≤_, _<_}
-use lib.Dec.{ltb}
+use Prim.Native.Nat.{ℕ, _+_, _*_, _≤_, _<_}
+use lib.Dec.{ltb, eqb}
 use lib.ListN.{length, getD, drop}
 use lib.Seq.{sets}
 use Rattle.meaning.specs.Answer.{missing, cell}
@@ -40,15 +40,18 @@ pub record Indexes (i : List ℕ) (store : Option (List Cell)) (j : List ℕ) (r
 pub record Ready (b : List ℕ) (n : ℕ) (index : List ℕ) (count : ℕ) (cs : List Cell) : Type 0 where
   pub holds : held b n ≡ some cs
   pub tally : count ≡ length cs
+  pub room : count ≤ length index
   pub places : (i : ℕ) → i < count → getD index i 0 ≡ getD (offsets 0 cs) i 0
 
 -- the number of the key of the i-th cell
 abbrev pub keyIn : List ℕ → List ℕ → ℕ → ℕ
 keyIn b places i = number (keyAt b (getD places i 0 + 1))
 
--- the keys of the cells rise and lie in b
+-- the keys of the cells rise, are within their limits, and lie in b with a byte behind each
 pub record Sorted (b places : List ℕ) (count : ℕ) : Type 0 where
-  pub inside : (i : ℕ) → i < count → getD places i 0 + 8 ≤ length b
+  pub room : count ≤ length places
+  pub inside : (i : ℕ) → i < count → getD places i 0 + 9 ≤ length b
+  pub small : (i : ℕ) → i < count → keyIn b places i < 18014398509481984
   pub rises : (i j : ℕ) → i < j → j < count → keyIn b places i < keyIn b places j
 
 -- r is the first of the cells whose keys are not below k
@@ -76,6 +79,14 @@ pub data LastOf (cs : List Cell) (low end offset : ℕ) : ℕ → Type 0 where
 pub record Highest (b places : List ℕ) (count low end offset r : ℕ) : Type 0 where
   pub last : (n : ℕ) (cs : List Cell) → Ready b n places count cs → LastOf cs low end offset r
 
+-- kind 2 speaks of the records of a parameter, kind 3 of the entries of a record: so far their keys reach, and there the
+-- number stands in a cell
+unfoldable pub reachOf : ℕ → ℕ
+reachOf kind = cond (eqb kind 2) 4294967296 65536
+
+unfoldable pub offsetOf : ℕ → ℕ
+offsetOf kind = cond (eqb kind 2) 4 6
+
 -- r answers a question
 pub record Answers (b places : List ℕ) (count : ℕ) (q : Question) (r : Answered) : Type 0 where
   pub answer : (n : ℕ) (cs : List Cell) → Ready b n places count cs → meant b r ≡ cond (questionAllowed q) (answer q cs) missing
@@ -87,3 +98,7 @@ pub record SizeAt (b : List ℕ) (at r : ℕ) : Type 0 where
 -- 1 where a is below b, else 0
 unfoldable pub belowOf : ℕ → ℕ → ℕ
 belowOf a b = cond (ltb a b) 1 0
+
+-- 256 times a key, or 2^62, which is more than any key within the limits with the byte behind it
+unfoldable pub boundOf : ℕ → ℕ
+boundOf k = cond (ltb k 18014398509481984) (k * 256) 4611686018427387904

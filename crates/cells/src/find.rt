@@ -2,10 +2,20 @@
 use crate::bytes;
 use crate::form;
 ghost use mathlib.Core.Path.{_≡_};
-ghost use Prim.Native.Nat.{_+_, _≤_, _<_};
+ghost use Prim.Native.Nat.{_+_, _/_, _≤_, _<_};
+ghost use lib.Dec.{eqb};
 ghost use lib.ListN.{length, getD};
 ghost use Rattle.cells.specs.Cell.{number, keyAt};
-ghost use Rattle.cells.specs.Index.{Position, SizeAt, belowOf};
+ghost use Rattle.cells.specs.Index.{Position, SizeAt, belowOf, boundOf};
+
+// So many keys have 7 bytes: 2^56.
+const KEYS: u64 = 72057594037927936;
+
+// More than any key within the limits: 2^54.
+const KEYS_ALLOWED: u64 = 18014398509481984;
+
+// 2^63
+const HIGHEST_BIT: u64 = 9223372036854775808;
 
 // Where the i-th cell begins; 0 past the index.
 pub fn place_of(places: &[u16], i: usize) -> usize
@@ -23,47 +33,70 @@ fn wide_place(place: u16) -> usize
     place as usize
 }
 
-// The key of the cell at a place as one number: its first eight bytes without the kind. 0 where the store has no room.
-pub fn key_at(store: &[u8], at: usize) -> u64
-    ensures { λ r. ⌜ (at + 8 ≤ length (now (store .entry)) → r ≡ number (keyAt (now (store .entry)) (at + 1))) ⌝ }
+// The key of the cell at a place with the byte behind it, as one number: eight bytes are one load, seven are not. 0 where
+// the store has no room.
+pub fn key_and_byte(store: &[u8], at: usize) -> u64
+    ensures { λ r. ⌜ (at + 9 ≤ length (now (store .entry)) → r / 256 ≡ number (keyAt (now (store .entry)) (at + 1))) ⌝ }
 {
     let n = store.len();
-    if n < 8 {
+    if n < 9 {
         return 0;
     }
-    if n - 8 < at {
+    if n - 9 < at {
         return 0;
     }
-    bytes::octet(store, at) % 72057594037927936
+    bytes::octet(store, at + 1)
 }
 
-// 1 where a key is below another, else 0.
-fn below(a: u64, b: u64) -> usize
-    ensures { λ r. ⌜ r ≡ belowOf a b ⌝ }
+// Whether the cell at a place has a key.
+pub fn has_key(store: &[u8], at: usize, key: u64) -> bool
+    ensures { λ r. ⌜ (at + 9 ≤ length (now (store .entry)) → r ≡ eqb (number (keyAt (now (store .entry)) (at + 1))) key) ⌝ }
 {
-    if a < b {
-        return 1;
+    let found = key_and_byte(store, at);
+    if KEYS <= key {
+        return false;
     }
-    0
+    if found < key * 256 {
+        return false;
+    }
+    found <= key * 256 + 255
+}
+
+// 1 where a number is below another, else 0, for numbers below 2^63. It has no branch, which a search would mostly
+// mispredict.
+fn below(a: u64, b: u64) -> usize
+    ensures { λ r. ⌜ (r ≤ 1) × (a < 9223372036854775808 → b < 9223372036854775808 → r ≡ belowOf a b) ⌝ }
+{
+    (std::num::wrapping_sub_u64(a, b) / HIGHEST_BIT) as usize
+}
+
+// What a key with the byte behind it is compared with.
+fn bound_of(key: u64) -> u64
+    ensures { λ r. ⌜ r ≡ boundOf key ⌝ }
+{
+    if key < KEYS_ALLOWED {
+        return key * 256;
+    }
+    KEYS_ALLOWED * 256
 }
 
 // The first cell whose key is not below a number, by halving; the count where there is none.
 pub fn position(store: &[u8], places: &[u16], count: usize, key: u64) -> usize
     ensures { λ r. ⌜ Position (now (store .entry)) (now (places .entry)) count key r ⌝ }
 {
+    if places.len() < count {
+        return 0;
+    }
+    let bound = bound_of(key);
     let mut low = 0;
     let mut size = count;
-    while 1 < size {
-        let half = size / 2;
-        let at = place_of(places, low + half);
-        low += half * below(key_at(store, at), key);
+    while 0 < size {
+        let half = size - size / 2;
+        let at = wide_place(places[low + half - 1]);
+        low += half * below(key_and_byte(store, at), bound);
         size -= half;
     }
-    if size == 0 {
-        return low;
-    }
-    let at = place_of(places, low);
-    low + below(key_at(store, at), key)
+    low
 }
 
 // How many bytes the cell at a place has; 0 past the store.

@@ -10,7 +10,7 @@ ghost use Prim.Native.Nat.{_+_, _≤_, _<_};
 ghost use Rattle.cells.specs.Cell.{number, keyAllowed};
 ghost use Rattle.cells.specs.Tests.{keyOf};
 ghost use Rattle.cells.specs.Asking.{questionAllowed};
-ghost use Rattle.cells.specs.Index.{CellAnswer, Highest, Answers};
+ghost use Rattle.cells.specs.Index.{CellAnswer, Highest, Answers, reachOf, offsetOf};
 
 fn wide(n: u32) -> u64
     ensures { λ r. ⌜ r ≡ n ⌝ }
@@ -66,15 +66,35 @@ fn cell_answer(store: &[u8], places: &[u16], count: usize, key: u64) -> Answered
         return Answered::Missing;
     }
     let at = find::place_of(places, i);
-    if find::key_at(store, at) == key {
+    if find::has_key(store, at, key) {
         return value::value_at(store, at);
     }
     Answered::Missing
 }
 
+// The keys of a parameter reach so far for kind 2, those of a record for kind 3.
+fn reach_of(kind: u32) -> u64
+    ensures { λ r. ⌜ r ≡ reachOf kind ⌝ }
+{
+    if kind == 2 {
+        return 4294967296;
+    }
+    65536
+}
+
+// Where the record number or the entry number stands in a cell.
+fn offset_of(kind: u32) -> usize
+    ensures { λ r. ⌜ r ≡ offsetOf kind ⌝ }
+{
+    if kind == 2 {
+        return 4;
+    }
+    6
+}
+
 // Kinds 2 and 3: the number at an offset in the last of the cells whose keys lie from `low` up to `end`, 0 if there is none.
 fn highest(store: &[u8], places: &[u16], count: usize, low: u64, end: u64, offset: usize) -> u32
-    requires { ⌜ offset ≤ 6 ⌝ }
+    requires { ⌜ (offset ≤ 6) × (low < 72057594037927936) ⌝ }
     ensures { λ r. ⌜ Highest (now (store .entry)) (now (places .entry)) count low end offset r ⌝ }
 {
     let i = find::position(store, places, count, end);
@@ -82,7 +102,7 @@ fn highest(store: &[u8], places: &[u16], count: usize, low: u64, end: u64, offse
         return 0;
     }
     let at = find::place_of(places, i - 1);
-    if find::key_at(store, at) < low {
+    if find::key_and_byte(store, at) < low * 256 {
         return 0;
     }
     value::number_at(store, at, offset)
@@ -105,8 +125,7 @@ pub fn answer(store: &[u8], places: &[u16], count: usize, question: Question) ->
     if kind == 1 {
         return cell_answer(store, places, count, key);
     }
-    if kind == 2 {
-        return Answered::Highest(highest(store, places, count, key, key + 4294967296, 4));
-    }
-    Answered::Highest(highest(store, places, count, key, key + 65536, 6))
+    let end = key + reach_of(kind);
+    let offset = offset_of(kind);
+    Answered::Highest(highest(store, places, count, key, end, offset))
 }

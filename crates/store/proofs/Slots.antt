@@ -1,12 +1,12 @@
 -- The cells with lower and with higher keys, by the position that halving finds.
 use mathlib.Core.Path.{_≡_, refl, sym, ap, ap₂, _∙_}
-use mathlib.Core.Bool.{Bool, true, false, cond}
+use mathlib.Core.Bool.{Bool, true, false, cond, false≢true}
 use mathlib.Core.List.{List, [], _∷_, _++_, append-nil, append-assoc}
 use Prim.Native.Nat.{ℕ, zero, suc, _+_, _-_, _≤_, _<_}
 use native.Mathlib.Numerals.{lt-of-le-of-ne}
 use native.Mathlib.Omega.{arith}
-use borrow.Author.Tests.{lt-ltb, le-ltb}
-use lib.Dec.{ltb}
+use borrow.Author.Tests.{lt-ltb, le-ltb, eqb-true, eq-eqb}
+use lib.Dec.{ltb, eqb}
 use lib.ListN.{length, getD, take, drop, length-append, take-append-drop, List·getD-append}
 use lib.Seq.{take-append-seam, drop-append-seam, getD-append-add, length-take-le, take-at}
 use Rattle.cells.specs.Cell.{Cell, number, numberOf, keyAt, cellBytes}
@@ -141,13 +141,14 @@ module _ (b : List ℕ) (n : ℕ) (index : List ℕ) (count k p : ℕ) (q : Posi
             found = λ e. absurd (omega arith);
           }
 
-  module _ (h : p < count) (at key : ℕ) (pl : at ≡ getD index p 0) (ke : at + 8 ≤ length b → key ≡ number (keyAt b (at + 1))) where
+  -- t says whether the cell there has the key
+  module _ (h : p < count) (at : ℕ) (t : Bool) (pl : at ≡ getD index p 0) (ke : at + 9 ≤ length b → t ≡ eqb (number (keyAt b (at + 1))) k) where
     module _ (cs : List Cell) (r : Ready b n index count cs) where
       here : Located b index cs p
       here = locate b n index count cs r p h
 
-      key-is : key ≡ numberOf (here .picked .cell)
-      key-is = ke (omega (arith, here .room)) ∙ ap (λ (x : ℕ). number (keyAt b (x + 1))) pl ∙ here .key ∙ here .number
+      key-is : t ≡ eqb (numberOf (here .picked .cell)) k
+      key-is = ke (omega (arith, here .room)) ∙ ap (λ (x : ℕ). eqb (number (keyAt b (x + 1))) k) pl ∙ ap (λ (x : ℕ). eqb x k) (here .key ∙ here .number)
 
       rise : rising cs ≡ true
       rise = held-some b n cs (r .holds) .holds .valid .rising
@@ -157,7 +158,7 @@ module _ (b : List ℕ) (n : ℕ) (index : List ℕ) (count k p : ℕ) (q : Posi
           all-lower k (here .picked .left)
           (λ i l. omega (arith, key-left cs (here .picked .left) (here .picked .cell) (here .picked .right) (here .picked .split) i l, lower-keys b n index count cs r k p (q .first (sorted b n index count cs r)) i (omega (arith, here .picked .place))))
 
-    pub slot-found : key ≡ k → (size : ℕ) → SizeAt b at size → SlotOf b n index count k (record { at = at; size = size })
+    pub slot-found : t ≡ true → (size : ℕ) → SizeAt b at size → SlotOf b n index count k (record { at = at; size = size })
     slot-found e size z = record { stretch = go }
       where
         go : (cs : List Cell) → Ready b n index count cs → Stretch b n cs k at size
@@ -168,7 +169,7 @@ module _ (b : List ℕ) (n : ℕ) (index : List ℕ) (count k p : ℕ) (q : Posi
             let y = l .picked .right in
             let s = l .picked .split in
             let hb = held-some b n cs (r .holds) in
-            let m : numberOf c ≡ k = sym (key-is cs r) ∙ e in
+            let m : numberOf c ≡ k = eqb-true _ _ (sym (key-is cs r) ∙ e) in
             let a : at ≡ length (encode x) = pl ∙ l .place in
             let w : size ≡ length (cellBytes c) = z .size c (l .rest) (l .allowed) (ap (λ (i : ℕ). drop i b) pl ∙ l .bytes) in
             let o = none-here k c y m in
@@ -183,7 +184,7 @@ module _ (b : List ℕ) (n : ℕ) (index : List ℕ) (count k p : ℕ) (q : Posi
               found = λ v. (c, lookup-here k cs x c y s (λ i u g. omega (arith, lower-keys b n index count cs r k p (q .first (sorted b n index count cs r)) i (omega (arith, l .picked .place)))) m);
             }
 
-    pub slot-free : (key ≡ k → ⊥) → SlotOf b n index count k (record { at = at; size = 0 })
+    pub slot-free : t ≡ false → SlotOf b n index count k (record { at = at; size = 0 })
     slot-free e = record { stretch = go }
       where
         go : (cs : List Cell) → Ready b n index count cs → Stretch b n cs k at 0
@@ -195,7 +196,7 @@ module _ (b : List ℕ) (n : ℕ) (index : List ℕ) (count k p : ℕ) (q : Posi
             let s = l .picked .split in
             let hb = held-some b n cs (r .holds) in
             let f = q .first (sorted b n index count cs r) in
-            let ne : numberOf c ≡ k → ⊥ = λ m. e (key-is cs r ∙ m) in
+            let ne : numberOf c ≡ k → ⊥ = no-cell cs r in
             let ge : k ≤ numberOf c = omega (arith, higher-keys b n index count cs r k p f p (omega arith) (omega (arith, r .tally)), l .number) in
             let gt : k < numberOf c = lt-of-le-of-ne ge (λ m. ne (sym m)) in
             let a : at ≡ length (encode x) = pl ∙ l .place in
@@ -210,10 +211,13 @@ module _ (b : List ℕ) (n : ℕ) (index : List ℕ) (count k p : ℕ) (q : Posi
               found = λ v. absurd (omega arith);
             }
           where
+            no-cell : (cs : List Cell) (r : Ready b n index count cs) → numberOf (here cs r .picked .cell) ≡ k → ⊥
+            no-cell cs r m = false≢true (sym e ∙ key-is cs r ∙ eq-eqb _ _ m)
+
             no-key : (cs : List Cell) → Ready b n index count cs → (i : ℕ) → i < length cs → getD (keys cs) i 0 ≡ k → ⊥
             no-key cs r i u g =
                 let f = q .first (sorted b n index count cs r) in
                 split-at i p
                 (λ a. omega (arith, lower-keys b n index count cs r k p f i a))
-                (λ a. e (key-is cs r ∙ sym (here cs r .number) ∙ ap (λ (j : ℕ). getD (keys cs) j 0) (sym a) ∙ g))
+                (λ a. no-cell cs r (sym (here cs r .number) ∙ ap (λ (j : ℕ). getD (keys cs) j 0) (sym a) ∙ g))
                 (λ a. omega (arith, keys-rise cs p i (rise cs r) a u, higher-keys b n index count cs r k p f p (omega arith) (omega arith)))

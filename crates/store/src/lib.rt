@@ -39,7 +39,7 @@ fn locate(store: &[u8], len: usize, places: &[u16], count: usize, key: u64) -> S
         return Slot { at: len, size: 0 };
     }
     let at = find::place_of(places, i);
-    if find::key_at(store, at) == key {
+    if find::has_key(store, at, key) {
         return Slot {
             at: at,
             size: find::size_at(store, at),

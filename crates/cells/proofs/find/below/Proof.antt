@@ -1,16 +1,15 @@
--- By the test.
-use borrow.Author.Tests.{lt-ltb, le-ltb}
-use Rattle.cells.specs.Index.{belowOf}
+-- The highest bit of the wrapped difference. Assumes nothing.
+use native.Mathlib.Omega.{arith}
+use Rattle.cells.proofs.Halving.{wrapped-below}
+use borrow.Author.Needs.{needs}
 use Rattle.cells.proofs.find.below.Statement.{statement}
 use Rattle.cells.proofs.find.below.Tie as tie
 
-returns : tie.Need-returns
-unfolding belowOf
-returns c = rw (lt-ltb _ _ (c .if1 .taken))
+wrapping-sub-u64-requires : tie.Need-wrapping-sub-u64-requires
+wrapping-sub-u64-requires c κs = search needs
 
-returns-2 : tie.Need-returns-2
-unfolding belowOf
-returns-2 c = rw (le-ltb _ _ (c .if1 .left))
+returns : tie.Need-returns
+returns c = (omega arith, λ h g. wrapped-below _ _ _ (c .wrapping-sub-u64 .ensures) (omega arith) h g)
 
 pub below-spec : {M : Type 1} → statement M
-below-spec = tie.close (tie.spec returns returns-2)
+below-spec = tie.close (tie.spec wrapping-sub-u64-requires returns)

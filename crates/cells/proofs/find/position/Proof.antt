@@ -1,42 +1,59 @@
 -- The loop keeps what `Halved` says.
 use native.Mathlib.Omega.{arith}
-use mathlib.Core.Path.{refl}
-use Prim.Native.Nat.{_/_}
-use Rattle.cells.proofs.Halving.{Halved, half-most, below-short, halved-start, halved-step, halved-last, halved-none}
+use Prim.Native.Nat.{_+_, _-_, _/_}
+use Rattle.cells.proofs.Halving.{Halved, half-most, halved-start, halved-step, halved-all, no-room}
 use borrow.Author.Needs.{needs}
 use Rattle.cells.proofs.find.position.Statement.{statement}
 use Rattle.cells.proofs.find.position.Tie as tie
 
 abbrev Inv-loop : tie.InvT-loop
-Inv-loop store places count key low₀ size₀ low size = Halved store places count key low size
+Inv-loop store places count key bound low₀ size₀ low size = Halved store places count key low size
 
 abbrev μ-loop : tie.MeasureT-loop
-μ-loop store places count key low₀ size₀ low size = size
+μ-loop store places count key bound low₀ size₀ low size = size
+
+returns : tie.Need-returns Inv-loop μ-loop
+returns c = no-room _ _ _ _ (c .if1 .taken)
+
+bound-of-requires : tie.Need-bound-of-requires Inv-loop μ-loop
+bound-of-requires c κs = search needs
 
 loop-holds : tie.Need-loop-holds Inv-loop μ-loop
 loop-holds c = halved-start _ _ _ _
 
-add-place-of : tie.Need-add-place-of Inv-loop μ-loop
-add-place-of c = omega (arith, c .before .loop .inv .few)
+sub-half : tie.Need-sub-half Inv-loop μ-loop
+sub-half c = search needs
 
-place-of-requires : tie.Need-place-of-requires Inv-loop μ-loop
-place-of-requires c κs = search needs
+add-wide-place : tie.Need-add-wide-place Inv-loop μ-loop
+add-wide-place c = search needs
 
-key-at-requires : tie.Need-key-at-requires Inv-loop μ-loop
-key-at-requires c κs = search needs
+sub-wide-place : tie.Need-sub-wide-place Inv-loop μ-loop
+sub-wide-place c = search needs
+
+mul-wide-place : tie.Need-mul-wide-place Inv-loop μ-loop
+mul-wide-place c = search needs
+
+shared-slice-read-wide-place : tie.Need-shared-slice-read-wide-place Inv-loop μ-loop
+shared-slice-read-wide-place c = search needs
+
+wide-place-requires : tie.Need-wide-place-requires Inv-loop μ-loop
+wide-place-requires c κs = search needs
+
+key-and-byte-requires : tie.Need-key-and-byte-requires Inv-loop μ-loop
+key-and-byte-requires c κs = search needs
 
 below-requires : tie.Need-below-requires Inv-loop μ-loop
 below-requires c κs = search needs
 
 mul-low : tie.Need-mul-low Inv-loop μ-loop
 mul-low c =
-    let l = c .before .before .before .before .loop in
-    omega (arith, half-most (l .size / 2) _ _ _ (c .below .ensures), l .inv .few)
+    let l = c .before .before .before .before .before .loop in
+    omega (arith, half-most (l .size - l .size / 2) _ (c .below .ensures .0), l .inv .few)
 
 add-low : tie.Need-add-low Inv-loop μ-loop
 add-low c =
-    let l = c .before .before .before .before .loop in
-    omega (arith, half-most (l .size / 2) _ _ _ (c .below .ensures), l .inv .few)
+    let l = c .before .before .before .before .before .loop in
+    omega (arith, half-most (l .size - l .size / 2) _ (c .below .ensures .0), l .inv .few)
 
 sub-size : tie.Need-sub-size Inv-loop μ-loop
 sub-size c = search needs
@@ -46,28 +63,12 @@ loop-less c = search needs
 
 loop-again : tie.Need-loop-again Inv-loop μ-loop
 loop-again c =
-    let l = c .before .before .before .before .loop in
-    halved-step _ _ _ _ _ _ (l .inv) _ _ _ (omega arith) (omega arith) (c .before .before .place-of .ensures) (c .before .key-at .ensures) _ _ refl (omega arith) (c .below .ensures)
-
-returns : tie.Need-returns Inv-loop μ-loop
-returns c = halved-none _ _ _ _ _ _ (c .before .before .loop .inv) (c .if1 .taken)
-
-place-of-requires-2 : tie.Need-place-of-requires-2 Inv-loop μ-loop
-place-of-requires-2 c κs = search needs
-
-key-at-requires-2 : tie.Need-key-at-requires-2 Inv-loop μ-loop
-key-at-requires-2 c κs = search needs
-
-below-requires-2 : tie.Need-below-requires-2 Inv-loop μ-loop
-below-requires-2 c κs = search needs
-
-add-result : tie.Need-add-result Inv-loop μ-loop
-add-result c = omega (arith, below-short _ _ _ (c .below2 .ensures), c .before .before .before .before .before .loop .inv .few)
+    let l = c .before .before .before .before .before .loop in
+    let h = l .size - l .size / 2 in
+    halved-step _ _ _ _ _ _ (l .inv) (l .low + h - 1) _ _ _ (omega arith) (omega arith) (c .before .before .wide-place .ensures) (c .before .key-and-byte .ensures) _ (c .before .before .before .before .before .before .bound-of .ensures) (c .below .ensures .0) (c .below .ensures .1) h (omega arith) (omega arith) (omega arith)
 
 returns-2 : tie.Need-returns-2 Inv-loop μ-loop
-returns-2 c =
-    let l = c .before .before .before .before .before .loop in
-    halved-last _ _ _ _ _ _ (l .inv) _ _ _ (omega arith) (omega arith) (c .before .before .place-of2 .ensures) (c .before .key-at2 .ensures) _ refl (omega arith) (c .below2 .ensures)
+returns-2 c = halved-all _ _ _ _ _ _ (c .before .loop .inv) (c .loop-test .left)
 
 pub position-spec : {M : Type 1} → statement M
 position-spec =
@@ -75,19 +76,20 @@ position-spec =
     (tie.spec
     Inv-loop
     μ-loop
+    returns
+    bound-of-requires
     loop-holds
-    add-place-of
-    place-of-requires
-    key-at-requires
+    sub-half
+    add-wide-place
+    sub-wide-place
+    mul-wide-place
+    shared-slice-read-wide-place
+    wide-place-requires
+    key-and-byte-requires
     below-requires
     mul-low
     add-low
     sub-size
     loop-less
     loop-again
-    returns
-    place-of-requires-2
-    key-at-requires-2
-    below-requires-2
-    add-result
     returns-2)

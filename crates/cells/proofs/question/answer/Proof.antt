@@ -1,5 +1,6 @@
 -- The kind picks the answer, as in the definition. Assumes nothing.
-use Rattle.cells.proofs.Questions.{answers-refused, key-inside, answers-cell, answers-records, answers-entries}
+use native.Mathlib.Omega.{arith}
+use Rattle.cells.proofs.Questions.{answers-refused, key-inside, answers-cell, answers-highest, reach-most, offset-most}
 use denote.Ref.{now}
 use borrow.Author.Needs.{needs}
 use Rattle.cells.proofs.question.answer.Statement.{statement}
@@ -22,27 +23,22 @@ returns-2 c =
     let k = c .before .before in
     answers-cell _ _ _ _ _ (k .before .before .allowed .ensures) (k .before .if1 .left) _ (k .number-of .ensures .0) (c .before .if2 .taken) _ (c .cell-answer .ensures)
 
-add-highest : tie.Need-add-highest
-add-highest c = search needs
+reach-of-requires : tie.Need-reach-of-requires
+reach-of-requires c κs = search needs
+
+add-end : tie.Need-add-end
+add-end c = omega (arith, c .reach-of .ensures, reach-most (c .before .before .before .before .before .before .before .args .question .kind))
+
+offset-of-requires : tie.Need-offset-of-requires
+offset-of-requires c κs = search needs
 
 highest-requires : tie.Need-highest-requires
-highest-requires c κs = search needs
+highest-requires c κs = (omega (arith, c .offset-of .ensures, offset-most (c .before .before .before .before .before .before .before .before .args .question .kind)), c .before .before .before .number-of .ensures .1)
 
 returns-3 : tie.Need-returns-3
 returns-3 c =
-    let k = c .before .before .before in
-    answers-records _ _ _ _ _ (k .before .before .allowed .ensures) (k .before .if1 .left) _ (k .number-of .ensures .0) (c .before .before .if2 .left) _ (c .before .if3 .taken) (c .highest .ensures)
-
-add-highest-2 : tie.Need-add-highest-2
-add-highest-2 c = search needs
-
-highest-requires-2 : tie.Need-highest-requires-2
-highest-requires-2 c κs = search needs
-
-returns-4 : tie.Need-returns-4
-returns-4 c =
-    let k = c .before .before .before in
-    answers-entries _ _ _ _ _ (k .before .before .allowed .ensures) (k .before .if1 .left) _ (k .number-of .ensures .0) (c .before .before .if2 .left) _ (c .before .if3 .left) (c .highest2 .ensures)
+    let k = c .before .before .before .before in
+    answers-highest _ _ _ _ _ (k .before .before .allowed .ensures) (k .before .if1 .left) _ (k .number-of .ensures .0) (c .before .before .before .if2 .left) _ _ _ (c .before .before .reach-of .ensures) (c .before .offset-of .ensures) (c .highest .ensures)
 
 pub answer-spec : {M : Type 1} → statement M
 answer-spec =
@@ -53,9 +49,8 @@ answer-spec =
     number-of-requires
     cell-answer-requires
     returns-2
-    add-highest
+    reach-of-requires
+    add-end
+    offset-of-requires
     highest-requires
-    returns-3
-    add-highest-2
-    highest-requires-2
-    returns-4)
+    returns-3)

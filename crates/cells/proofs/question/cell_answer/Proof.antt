@@ -13,8 +13,8 @@ returns c = cell-past _ _ _ _ _ (c .before .position .ensures) (c .if1 .taken)
 place-of-requires : tie.Need-place-of-requires
 place-of-requires c κs = search needs
 
-key-at-requires : tie.Need-key-at-requires
-key-at-requires c κs = search needs
+has-key-requires : tie.Need-has-key-requires
+has-key-requires c κs = search needs
 
 value-at-requires : tie.Need-value-at-requires
 value-at-requires c κs = search needs
@@ -22,12 +22,12 @@ value-at-requires c κs = search needs
 returns-2 : tie.Need-returns-2
 returns-2 c =
     let k = c .before .before .before in
-    cell-found _ _ _ _ _ (k .before .before .position .ensures) (k .before .if1 .left) _ _ (k .place-of .ensures) (c .before .before .key-at .ensures) (c .before .if2 .taken) _ (c .value-at .ensures)
+    cell-found _ _ _ _ _ (k .before .before .position .ensures) (k .before .if1 .left) _ _ (k .place-of .ensures) (c .before .before .has-key .ensures) (c .before .if2 .taken) _ (c .value-at .ensures)
 
 returns-3 : tie.Need-returns-3
 returns-3 c =
     let k = c .before .before in
-    cell-other _ _ _ _ _ (k .before .before .position .ensures) (k .before .if1 .left) _ _ (k .place-of .ensures) (c .before .key-at .ensures) (c .if2 .left)
+    cell-other _ _ _ _ _ (k .before .before .position .ensures) (k .before .if1 .left) _ _ (k .place-of .ensures) (c .before .has-key .ensures) (c .if2 .left)
 
 pub cell-answer-spec : {M : Type 1} → statement M
 cell-answer-spec =
@@ -36,7 +36,7 @@ cell-answer-spec =
     position-requires
     returns
     place-of-requires
-    key-at-requires
+    has-key-requires
     value-at-requires
     returns-2
     returns-3)

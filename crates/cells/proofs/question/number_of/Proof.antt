@@ -1,7 +1,7 @@
 -- Within the limits nothing overflows. Assumes nothing.
 use native.Mathlib.Omega.{arith}
 use Rattle.cells.specs.Cell.{number}
-use Rattle.cells.proofs.Questions.{limits}
+use Rattle.cells.proofs.CellForm.{limits}
 use borrow.Author.Needs.{needs}
 use Rattle.cells.proofs.question.number_of.Statement.{statement}
 use Rattle.cells.proofs.question.number_of.Tie as tie
