@@ -1,4 +1,5 @@
--- Rows of document 01, with the ends of the range and halves of either sign: antt computes each. Assumes nothing.
+-- Halves of either sign and the ends of the range: antt computes each. The rows of document 01 itself stand in one table
+-- with those on fields, fields/specs/Rows. Assumes nothing.
 use mathlib.Core.Path.{_≡_, refl}
 use mathlib.Core.List.{List, [], _∷_, map}
 use Prim.Native.Nat.{ℕ}
@@ -23,19 +24,16 @@ minus n = negℤ (pos n)
 
 unfoldable pub rows : List Row
 rows =
-    -- 0.000001 × 0.5 = 0.000001, and with the other sign
-    decimalProduct (pos 1) (pos 500000) gives success (pos 1)
-    ∷ decimalProduct (minus 1) (pos 500000) gives success (minus 1)
+    -- −0.000001 × 0.5
+    decimalProduct (minus 1) (pos 500000) gives success (minus 1)
     -- just below a half
     ∷ decimalProduct (pos 1) (pos 499999) gives success (pos 0)
-    -- −1 ÷ 3 in FV = −0.333333, and 2 ÷ −3
-    ∷ decimalQuotient (minus 1000000) (pos 3000000) gives success (minus 333333)
+    -- 2 ÷ −3
     ∷ decimalQuotient (pos 2000000) (minus 3000000) gives success (minus 666667)
-    -- IV −7 ÷ 2 = −3, and 7 ÷ −2
-    ∷ integerQuotient (minus 7) (pos 2) gives success (minus 3)
+    -- IV 7 ÷ −2
     ∷ integerQuotient (pos 7) (minus 2) gives success (minus 3)
-    -- 2,000,000,000 × 2: 13, in both kinds
-    ∷ integerProduct (pos 2000000000) (pos 2) gives refused 13
+    -- 2,000,000,000 × 2 in both kinds
+    ∷ integerProduct (minus 2000000000) (pos 2) gives refused 13
     ∷ decimalProduct (pos 2000000000000000) (pos 2000000) gives refused 13
     -- a millionth divided by 2 and by −2 is a half, away from zero
     ∷ decimalQuotient (pos 1) (pos 2000000) gives success (pos 1)
