@@ -2,7 +2,7 @@
 use mathlib.Core.Path.{_≡_, refl, sym, ap, ap₂, _∙_}
 use mathlib.Core.Bool.{Bool, true, false, cond}
 use mathlib.Core.List.{List, [], _++_}
-use Prim.Native.Nat.{ℕ, zero, suc, _+_, _*_, _-_, _/_, _^_, _≤_, _<_}
+use Prim.Native.Nat.{ℕ, zero, suc, _+_, _*_, _-_, _/_, _%_, _^_, _≤_, _<_}
 use native.Mathlib.Nat.{add-zero}
 use native.Mathlib.Omega.{arith}
 use borrow.Author.Tests.{lt-ltb, le-ltb, eq-eqb, ne-eqb, ltb-true, ltb-false}
@@ -39,6 +39,19 @@ module _ (top n : ℕ) where
 pub minus-one : (m : ℕ) → negsuc 0 -ℤ pos m ≡ negsuc m
 minus-one zero = refl
 minus-one (suc m) = ap negsuc (omega arith)
+
+-- 32 bits, half of the width up and down again
+pub signed-around : (n : ℕ) → n < 4294967296 → pos ((n + 2147483648) % 4294967296) -ℤ pos 2147483648 ≡ signed 4294967296 n
+unfolding signed
+signed-around n h = go (ltb (2 * n) 4294967296) refl
+  where
+    go : (t : Bool) → ltb (2 * n) 4294967296 ≡ t → pos ((n + 2147483648) % 4294967296) -ℤ pos 2147483648 ≡ cond t (pos n) (negsuc (4294967296 - suc n))
+    go true e =
+        let l : 2 * n < 4294967296 = ltb-true _ _ e in
+        rw (le-ltb ((n + 2147483648) % 4294967296) 2147483648 (omega arith)) (ap pos (omega arith))
+    go false e =
+        let l : 4294967296 ≤ 2 * n = ltb-false _ _ e in
+        rw (lt-ltb ((n + 2147483648) % 4294967296) 2147483648 (omega arith)) (ap negsuc (omega arith))
 
 -- a number of two's complement in 64 bits is read back from its bits
 pub signed-fits : (top n : ℕ) → n ≤ top → top < 2 ^ 64 → SFits w64 (signed (top + 1) n)

@@ -8,6 +8,14 @@ ghost use lib.ListN.{length};
 ghost use Rattle.cells.specs.Bytes.{pairAt, signed};
 ghost use Rattle.cells.specs.Index.{ValueAt};
 
+// The value of 32 bits in two's complement, without a branch.
+fn signed_quad(n: u64) -> i64
+    requires { ⌜ n < 4294967296 ⌝ }
+    ensures { λ r. ⌜ r ≡ signed 4294967296 n ⌝ }
+{
+    ((n + 2147483648) % 4294967296) as i64 - 2147483648
+}
+
 // The value of a number in two's complement, `top` being the highest of its width.
 fn signed_of(n: u64, top: u64) -> i64
     requires { ⌜ n ≤ top ⌝ }
@@ -46,7 +54,7 @@ pub fn value_at(store: &[u8], at: usize) -> Answered
         return Answered::Missing;
     }
     if store[at] == form::INTEGER {
-        return Answered::Integer(signed_of(bytes::quad(store, at + 8), 4294967295));
+        return Answered::Integer(signed_quad(bytes::quad(store, at + 8)));
     }
     if store[at] == form::DECIMAL {
         return Answered::Decimal(signed_of(bytes::octet(store, at + 8), 18446744073709551615));

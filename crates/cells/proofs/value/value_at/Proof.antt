@@ -31,12 +31,12 @@ add-quad c = search needs
 quad-requires : tie.Need-quad-requires
 quad-requires c κs = omega (arith, size-integer _ (c .if3 .taken))
 
-signed-of-requires : tie.Need-signed-of-requires
-signed-of-requires c κs = search needs
+signed-quad-requires : tie.Need-signed-quad-requires
+signed-quad-requires c κs = search needs
 
 returns-3 : tie.Need-returns-3
 returns-3 c =
-    value-integer _ _ (c .before .before .if3 .taken) _ (c .before .quad .ensures .0) _ (bits-back 4294967295 _ _ (c .signed-of .ensures) (omega arith) (omega arith))
+    value-integer _ _ (c .before .before .if3 .taken) _ (c .before .quad .ensures .0) _ (bits-back 4294967295 _ _ (c .signed-quad .ensures) (omega arith) (omega arith))
 
 shared-slice-read-if4 : tie.Need-shared-slice-read-if4
 shared-slice-read-if4 c = search needs
@@ -47,13 +47,13 @@ add-octet c = search needs
 octet-requires : tie.Need-octet-requires
 octet-requires c κs = omega (arith, size-decimal _ (c .if4 .taken))
 
-signed-of-requires-2 : tie.Need-signed-of-requires-2
-signed-of-requires-2 c κs = search needs
+signed-of-requires : tie.Need-signed-of-requires
+signed-of-requires c κs = search needs
 
 returns-4 : tie.Need-returns-4
 returns-4 c =
     let k = c .before .before in
-    value-decimal _ _ (k .before .before .if3 .left) (k .if4 .taken) _ (c .before .octet .ensures .0) _ (bits-back 18446744073709551615 _ _ (c .signed-of2 .ensures) (omega arith) (omega arith))
+    value-decimal _ _ (k .before .before .if3 .left) (k .if4 .taken) _ (c .before .octet .ensures .0) _ (bits-back 18446744073709551615 _ _ (c .signed-of .ensures) (omega arith) (omega arith))
 
 returns-5 : tie.Need-returns-5
 returns-5 c =
@@ -89,12 +89,12 @@ value-at-spec =
     shared-slice-read-if3
     add-quad
     quad-requires
-    signed-of-requires
+    signed-quad-requires
     returns-3
     shared-slice-read-if4
     add-octet
     octet-requires
-    signed-of-requires-2
+    signed-of-requires
     returns-4
     returns-5
     add-t4
