@@ -4,3 +4,4 @@ mod field; // field.rt: fields
 mod question; // question.rt: questions to a store
 mod edit; // edit.rt: puts and removes
 mod check; // check.rt: the checks of a template
+mod line; // line.rt: the parsed form of a line

@@ -1,0 +1,4 @@
+pub mod Row
+pub mod Argument
+pub mod Line
+pub mod Piece
