@@ -2,6 +2,9 @@
 
 pub mod arithmetic;
 pub mod field;
+pub mod line;
 pub mod random;
+pub mod rows;
+pub mod samples;
 pub mod store;
 pub mod template;
