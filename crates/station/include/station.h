@@ -59,28 +59,38 @@ uint32_t station_remove(uint8_t *buffer, size_t buffer_length, size_t length, co
 uint32_t station_check(const uint8_t *text, size_t text_length, const uint8_t *section, size_t section_length,
                        uint32_t *line);
 
-/* The parsed form of a line without its line end, and of the piece of its text at a place, as 16 numbers: a form, a
-   number, then seven numbers each of a first and a second argument. What is not there is 0. False, and nothing
-   written, where there are fewer than 16 places.
+/* The parsed form of a line without its line end, and of the piece of its text at `at`, as 16 numbers: a form, a
+   number, seven numbers each of a first and a second argument. What is not there is 0. False, and nothing written, where
+   there are fewer than 16 places.
 
-   A line's form, its number and what the arguments hold:
-    0 no form            1 text (see the pieces)       2 $SEC: the name's start and end in the line
-    3 $SET.: 1 to 5 for E A S M D; the variable, the argument
-    4 $IFNOT  5 $IF: the argument
-    6 other tests: 1 to 8 for EQSS EQSI EQ NE LT LE GT GE; two arguments
-    7 $ELSE   8 $ENDIF   9 $BT, 10 $ET, 15 $NP: the argument
-   11 $REC, 12 $TBL: n; the parameter, and three indexes of two numbers
-   13 $SETDS: the index  14 $NOFF  18 $REM
-   16 $PHn with a text: n; the text's start in the line   17 $PHn alone: n
+   line                            form  number                  first                            second
+   without a form                    0
+   text                              1
+   $SEC                              2                           the name's start and end
+   $SETE $SETA $SETS $SETM $SETD     3   1 to 5                  the variable                     the argument
+   $IFNOT                            4                           the argument
+   $IF                               5                           the argument
+   $IFEQSS $IFEQSI $IFEQ $IFNE       6   1 to 4                  the argument                     the argument
+   $IFLT $IFLE $IFGT $IFGE           6   5 to 8                  the argument                     the argument
+   $ELSE, $ENDIF                   7, 8
+   $BT, $ET                       9, 10                          the argument
+   $REC, $TBL                    11, 12  n                       the parameter, three indexes
+   $SETDS                           13                           the index
+   $NOFF                            14
+   $NP                              15                           the argument
+   $PHn with a text                 16   n                       the text's start
+   $PHn alone                       17   n
+   $REM                             18
 
-   A piece's form: 0 none, or behind the end; 1 a byte; 2 a field. Its number is the place behind it. The first argument is
-   the byte, or the field's argument; the second a field's width, 1 where places are said, and the places.
+   piece
+   none, also behind the end         0
+   a byte                            1   the place behind it     the byte
+   a field                           2   the place behind it     the argument                     w, 1 with .d, d
 
-   An argument: what it is, five numbers, the filter (1 to 6 for ABS INT UPPER LEN RECCNT ENTCNT):
-    1 integer, 2 decimal in millionths: 1 below zero; the magnitude      3 string: its start and end in the line
-    4 IVn  5 FVn  6 SVn: n   7 PAGENUM  8 LINENUM  9 LOOP  10 Rn  11 Tn: n
-   12 Pn: n   13 Pn.r: n, an index   14 Pn.r.e: n, two indexes
-   An index: 1 and its value, 2 and n for IVn, 3 and 0 for LOOP. */
+   An argument is a kind, five numbers and a filter: 0 for none, 1 to 6 for ABS INT UPPER LEN RECCNT ENTCNT.
+   1 an integer, 2 a decimal in millionths: 1 below zero, the magnitude. 3 a string: its start and end in the line.
+   4 IVn, 5 FVn, 6 SVn, 10 Rn, 11 Tn: n. 7 PAGENUM, 8 LINENUM, 9 LOOP. 12 Pn, 13 Pn.r, 14 Pn.r.e: n, the indexes.
+   An index is two numbers: 1 and its value, 2 and n for IVn, 3 and 0 for LOOP. */
 bool station_line(const uint8_t *line, size_t line_length, uint64_t *numbers, size_t numbers_length);
 bool station_piece(const uint8_t *line, size_t line_length, size_t at, uint64_t *numbers, size_t numbers_length);
 
