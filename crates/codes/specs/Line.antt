@@ -1,4 +1,5 @@
 -- Lines as rows. Assumes nothing.
+use mathlib.Core.List.{List}
 use Prim.Native.Nat.{ℕ}
 use Rattle.arguments.specs.declared.index.Index.{Index}
 use Rattle.lines.specs.declared.command.Operation.{Operation}
@@ -12,10 +13,11 @@ use Rattle.lines.specs.declared.command.Optional.the-variants.{Given, Absent}
 use Rattle.lines.specs.declared.command.Fetch.{Fetch}
 use Rattle.lines.specs.declared.command.Line.{Line}
 use Rattle.lines.specs.declared.command.Line.the-variants.{NoForm, Text, Section, Set, IfZero, IfNonZero, Compare, Else, EndIf, BeginTable, EndTable, Records, Entries, Datasource, NoFormFeed, NewPage, Heading, NoHeading, Remark}
+use Rattle.lines.specs.Command.{parseLine}
 use Rattle.codes.specs.declared.row.Pair.{Pair}
 use Rattle.codes.specs.declared.row.Seven.{Seven}
 use Rattle.codes.specs.declared.row.Row.{Row}
-use Rattle.codes.specs.Row.{nothing, bareRow, rowWith}
+use Rattle.codes.specs.Row.{rowNumbers, nothing, bareRow, rowWith}
 use Rattle.codes.specs.Argument.{indexCodes, argumentCodes}
 
 -- "set, add, subtract, multiply, divide"
@@ -81,3 +83,7 @@ lineRow (NewPage n) = rowWith 15 0 (optionalCodes n)
 lineRow (Heading n at) = rowWith 16 n (at, 0, 0, 0, 0, 0, 0)
 lineRow (NoHeading n) = bareRow 17 n
 lineRow Remark = bareRow 18 0
+
+-- the numbers of a line's bytes
+abbrev pub lineNumbers : List ℕ → List ℕ
+lineNumbers l = rowNumbers (lineRow (parseLine l))

@@ -1,4 +1,5 @@
 -- Pieces of texts as rows, their number being the place behind them. Assumes nothing.
+use mathlib.Core.List.{List}
 use Prim.Native.Nat.{ℕ}
 use Rattle.texts.specs.declared.text.Places.{Places}
 use Rattle.texts.specs.declared.text.Places.the-variants.{Unsaid, Said}
@@ -7,10 +8,11 @@ use Rattle.texts.specs.declared.text.Piece.{Piece}
 use Rattle.texts.specs.declared.text.Piece.the-variants.{Plain, Placed}
 use Rattle.texts.specs.declared.text.PieceRead.{PieceRead}
 use Rattle.texts.specs.declared.text.PieceRead.the-variants.{PieceTo, NoPiece}
+use Rattle.texts.specs.Text.{pieceAt}
 use Rattle.codes.specs.declared.row.Pair.{Pair}
 use Rattle.codes.specs.declared.row.Seven.{Seven}
 use Rattle.codes.specs.declared.row.Row.{Row}
-use Rattle.codes.specs.Row.{bareRow, rowWith}
+use Rattle.codes.specs.Row.{rowNumbers, bareRow, rowWith}
 use Rattle.codes.specs.Argument.{argumentCodes}
 
 -- whether places are said, and how many
@@ -31,3 +33,7 @@ pieceRow (Placed f) next = fieldRow f next
 abbrev pub readRow : PieceRead → Row
 readRow NoPiece = bareRow 0 0
 readRow (PieceTo p next) = pieceRow p next
+
+-- the numbers of the piece at a place of a line's bytes
+abbrev pub pieceNumbers : List ℕ → ℕ → List ℕ
+pieceNumbers l at = rowNumbers (readRow (pieceAt l at))

@@ -13,9 +13,7 @@ use lines::command::Optional;
 use lines::command::Target;
 ghost use mathlib.Core.Path.{_≡_};
 ghost use Rattle.buffers.specs.Buffer.{Stored};
-ghost use Rattle.lines.specs.Command.{parseLine};
-ghost use Rattle.codes.specs.Row.{rowNumbers};
-ghost use Rattle.codes.specs.Line.{operationCode, comparisonCode, targetCodes, optionalCodes, fetchRow, datasourceRow, lineRow};
+ghost use Rattle.codes.specs.Line.{operationCode, comparisonCode, targetCodes, optionalCodes, fetchRow, datasourceRow, lineRow, lineNumbers};
 
 fn operation_code(operation: Operation) -> u64
     ensures { λ r. ⌜ r ≡ operationCode operation ⌝ }
@@ -126,7 +124,7 @@ fn line_row(line: Line) -> Row
 }
 
 pub fn write_line(line: &[u8], numbers: &mut [u64]) -> bool
-    ensures { λ r. ⌜ Stored (now (numbers .entry)) 0 (rowNumbers (lineRow (parseLine (now (line .entry))))) (now (numbers .exit)) r ⌝ }
+    ensures { λ r. ⌜ Stored (now (numbers .entry)) 0 (lineNumbers (now (line .entry))) (now (numbers .exit)) r ⌝ }
 {
     let parsed = command::parse_line(line);
     row::put_row(numbers, line_row(parsed))

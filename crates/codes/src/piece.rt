@@ -11,9 +11,7 @@ use texts::text::PieceRead;
 use texts::text::Places;
 ghost use mathlib.Core.Path.{_≡_};
 ghost use Rattle.buffers.specs.Buffer.{Stored};
-ghost use Rattle.texts.specs.Text.{pieceAt};
-ghost use Rattle.codes.specs.Row.{rowNumbers};
-ghost use Rattle.codes.specs.Piece.{placesCodes, fieldRow, pieceRow, readRow};
+ghost use Rattle.codes.specs.Piece.{placesCodes, fieldRow, pieceRow, readRow, pieceNumbers};
 
 fn places_codes(places: Places) -> Pair
     ensures { λ r. ⌜ r ≡ placesCodes places ⌝ }
@@ -58,7 +56,7 @@ fn read_row(read: PieceRead) -> Row
 }
 
 pub fn write_piece(line: &[u8], at: usize, numbers: &mut [u64]) -> bool
-    ensures { λ r. ⌜ Stored (now (numbers .entry)) 0 (rowNumbers (readRow (pieceAt (now (line .entry)) at))) (now (numbers .exit)) r ⌝ }
+    ensures { λ r. ⌜ Stored (now (numbers .entry)) 0 (pieceNumbers (now (line .entry)) at) (now (numbers .exit)) r ⌝ }
 {
     let read = text::piece_at(line, at);
     row::put_row(numbers, read_row(read))

@@ -1,21 +1,18 @@
 // The parsed form of a line, and of a piece of its text.
 ghost use Rattle.buffers.specs.Buffer.{Stored};
-ghost use Rattle.lines.specs.Command.{parseLine};
-ghost use Rattle.texts.specs.Text.{pieceAt};
-ghost use Rattle.codes.specs.Row.{rowNumbers};
-ghost use Rattle.codes.specs.Line.{lineRow};
-ghost use Rattle.codes.specs.Piece.{readRow};
+ghost use Rattle.codes.specs.Line.{lineNumbers};
+ghost use Rattle.codes.specs.Piece.{pieceNumbers};
 
 #[no_mangle]
 pub extern "C" fn station_line(line: &[u8], numbers: &mut [u64]) -> bool
-    ensures { λ r. ⌜ Stored (now (numbers .entry)) 0 (rowNumbers (lineRow (parseLine (now (line .entry))))) (now (numbers .exit)) r ⌝ }
+    ensures { λ r. ⌜ Stored (now (numbers .entry)) 0 (lineNumbers (now (line .entry))) (now (numbers .exit)) r ⌝ }
 {
     codes::line::write_line(line, numbers)
 }
 
 #[no_mangle]
 pub extern "C" fn station_piece(line: &[u8], at: usize, numbers: &mut [u64]) -> bool
-    ensures { λ r. ⌜ Stored (now (numbers .entry)) 0 (rowNumbers (readRow (pieceAt (now (line .entry)) at))) (now (numbers .exit)) r ⌝ }
+    ensures { λ r. ⌜ Stored (now (numbers .entry)) 0 (pieceNumbers (now (line .entry)) at) (now (numbers .exit)) r ⌝ }
 {
     codes::piece::write_piece(line, at, numbers)
 }
