@@ -3,7 +3,7 @@ use mathlib.Core.Path.{_≡_, refl, sym, ap, ap₂, _∙_, subst}
 use mathlib.Core.Bool.{Bool, true, false, not, cond, _&&_, false≢true}
 use mathlib.Core.List.{List, [], _∷_, _++_, append-assoc}
 use mathlib.Core.Option.{Option, none, some}
-use Prim.Native.Nat.{ℕ, zero, suc, _+_, _-_, _/_, _%_, _≤_, _<_}
+use Prim.Native.Nat.{ℕ, zero, suc, _+_, _*_, _-_, _/_, _%_, _≤_, _<_}
 use native.Mathlib.Omega.{arith}
 use borrow.Author.Tests.{leb-true, eqb-true, ne-eqb, not-true, not-false}
 use lib.Dec.{leb, eqb}
@@ -41,6 +41,20 @@ limits k e =
 pub number-small : (k : Key) → keyAllowed k ≡ true → number k < 18014398509481984
 unfolding number
 number-small k e = let l = limits k e in omega arith
+
+split : (a b c d : ℕ) → b < 65536 → d < 65536 → a * 65536 + b ≡ c * 65536 + d → (a ≡ c) × (b ≡ d)
+split a b c d h k e = (omega arith, omega arith)
+
+-- Keys within the limits are told apart by their numbers.
+pub same-key : (k l : Key) → keyAllowed k ≡ true → keyAllowed l ≡ true → number k ≡ number l → k ≡ l
+unfolding number
+same-key k l h g e =
+    let u = limits k h in
+    let v = limits l g in
+    let x = split _ _ _ _ (omega (arith, u .entryNumber)) (omega (arith, v .entryNumber)) e in
+    let y = split _ _ _ _ (omega (arith, u .recordNumber)) (omega (arith, v .recordNumber)) (x .0) in
+    let z = split _ _ _ _ (omega (arith, u .parameter)) (omega (arith, v .parameter)) (y .0) in
+    λ i. record { datasource = z .0 i; parameter = z .1 i; recordNumber = y .1 i; entryNumber = x .1 i }
 
 -- ---- a cell's bytes
 
