@@ -1,15 +1,15 @@
 -- Laws of section names, and of the loop that looks for one.
 use mathlib.Core.Path.{_≡_, sym, ap, _∙_}
 use mathlib.Core.Bool.{Bool, true, false}
-use mathlib.Core.List.{List}
+use mathlib.Core.List.{List, []}
 use mathlib.Core.Option.{none, some}
 use Prim.Native.Nat.{ℕ, _+_, _<_, _≤_}
 use native.Mathlib.Omega.{arith}
 use lib.ListN.{length, take, drop}
 use Rattle.scan.specs.Line.{lineAt, nextLine, window}
-use Rattle.template.specs.declared.nest.Shape.{Shape}
+use Rattle.scan.specs.Words.{begins}
 use Rattle.template.specs.Lines.{linesOf}
-use Rattle.template.specs.Form.{shapeOf, isSection, nameOf}
+use Rattle.template.specs.Form.{sectionWord, nameOf}
 use Rattle.template.specs.Checks.{sameBytes, hasName, cameBefore, nameStep}
 use Rattle.template.proofs.LineLaws.{lines-none, lines-more}
 
@@ -41,11 +41,11 @@ module _ (t line name : List ℕ) (at : ℕ) (b : Bool) (o : name ≡ nameOf lin
   name-fresh x = rw (← o, ← q, x)
 
 -- a section's name, and the empty name of other lines
-module _ (l : List ℕ) (shape : Shape) (b : Bool) (q : shape ≡ shapeOf l) (r : b ≡ isSection shape) where
+module _ (l : List ℕ) (b : Bool) (q : b ≡ begins sectionWord l) where
   pub named : b ≡ true → nameOf l ≡ window l 5 8
   unfolding nameOf
-  named k = rw (← q, ← r, k)
+  named k = rw (← q, k)
 
-  pub unnamed : b ≡ false → nameOf l ≡ window l 0 0
+  pub unnamed : b ≡ false → nameOf l ≡ []
   unfolding nameOf
-  unnamed k = rw (← q, ← r, k)
+  unnamed k = rw (← q, k)

@@ -1,8 +1,9 @@
 -- What a line is to the checks of a whole template. Assumes nothing.
 use mathlib.Core.Bool.{Bool, true, false, cond}
-use mathlib.Core.List.{List}
+use mathlib.Core.List.{List, [], _∷_}
 use Prim.Native.Nat.{ℕ}
 use Rattle.scan.specs.Line.{window}
+use Rattle.scan.specs.Words.{begins}
 use Rattle.lines.specs.declared.command.Line.{Line}
 use Rattle.lines.specs.declared.command.Line.the-variants as form
 use Rattle.lines.specs.Command.{parseLine}
@@ -33,17 +34,6 @@ shapeIn form.Remark = Remark
 unfoldable pub shapeOf : List ℕ → Shape
 shapeOf l = shapeIn (parseLine l)
 
-unfoldable pub isSection : Shape → Bool
-isSection Section = true
-isSection Remark = false
-isSection Test = false
-isSection Else = false
-isSection EndTest = false
-isSection Table = false
-isSection EndTable = false
-isSection Plain = false
-isSection NoForm = false
-
 -- 3: "A line has no form above, a number literal exceeds ±2,000,000,000, or fields widen a line past 132 bytes."
 unfoldable pub hasForm : Shape → Bool
 hasForm Section = true
@@ -59,7 +49,11 @@ hasForm NoForm = false
 unfoldable pub isFormed : List ℕ → Bool
 isFormed l = hasForm (shapeOf l)
 
--- "`$SEC name`", "Names are compared by their first eight characters": the name stands behind the word's four bytes and a
--- space, and nothing behind it. Empty where the line isn't $SEC
+-- `$SEC` and the space before the name
+abbrev pub sectionWord : List ℕ
+sectionWord = 36 ∷ 83 ∷ 69 ∷ 67 ∷ 32 ∷ []
+
+-- "`$SEC name`", "Names are compared by their first eight characters". Empty where the line isn't $SEC. Of the lines that
+-- check 3 lets through, those that begin with `$SEC ` are the sections, and nothing stands behind the name
 unfoldable pub nameOf : List ℕ → List ℕ
-nameOf l = cond (isSection (shapeOf l)) (window l 5 8) (window l 0 0)
+nameOf l = cond (begins sectionWord l) (window l 5 8) []

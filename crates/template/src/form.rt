@@ -3,7 +3,7 @@ use crate::nest::Shape;
 use lines::command;
 use lines::command::Line;
 ghost use mathlib.Core.Path.{_≡_};
-ghost use Rattle.template.specs.Form.{shapeIn, shapeOf, isSection, hasForm, isFormed, nameOf};
+ghost use Rattle.template.specs.Form.{shapeIn, shapeOf, hasForm, isFormed, nameOf};
 
 fn shape_in(form: Line) -> Shape
     ensures { λ r. ⌜ r ≡ shapeIn form ⌝ }
@@ -38,28 +38,11 @@ pub fn shape_of(line: &[u8]) -> Shape
     shape_in(form)
 }
 
-fn is_section(shape: Shape) -> bool
-    ensures { λ r. ⌜ r ≡ isSection shape ⌝ }
-{
-    match shape {
-        Shape::Section => true,
-        Shape::Remark => false,
-        Shape::Test => false,
-        Shape::Else => false,
-        Shape::EndTest => false,
-        Shape::Table => false,
-        Shape::EndTable => false,
-        Shape::Plain => false,
-        Shape::NoForm => false,
-    }
-}
-
 // A section's name by its first eight characters; empty where the line isn't $SEC.
 pub fn name_of<'a>(line: &'a [u8]) -> &'a [u8]
     ensures { λ r. ⌜ now r ≡ nameOf (now (line .entry)) ⌝ }
 {
-    let shape = shape_of(line);
-    if is_section(shape) {
+    if scan::words::begins_with(line, 0, b"$SEC ") {
         return scan::bytes::part(line, 5, 8);
     }
     scan::bytes::part(line, 0, 0)
