@@ -3,6 +3,7 @@ pub mod WalkLaws
 pub mod OpenLaws
 pub mod NameLaws
 pub mod NestLaws
+pub mod FormLaws
 pub mod SectionLaws
 pub mod OrderLaws
 pub mod SeekLaws

@@ -8,9 +8,11 @@ use borrow.Author.Tests.{ltb-true, ltb-false}
 use lib.Dec.{ltb}
 use lib.ListN.{length}
 use Rattle.meaning.specs.declared.refusal.Refusal.{Refusal}
-use Rattle.meaning.specs.declared.refusal.Refusal.the-variants.{NoSection}
+use Rattle.meaning.specs.declared.refusal.Refusal.the-variants.{BadLine, BadNesting, NoSection}
 use Rattle.template.specs.declared.Verdict.{Verdict}
 use Rattle.template.specs.declared.Verdict.the-variants.{Fine, Fault}
+use Rattle.template.specs.declared.forms.Faults.{Faults}
+use Rattle.template.specs.declared.forms.Faults.the-variants.{NoFault, InForm, InNesting}
 use Rattle.template.specs.declared.Checked.{Checked}
 use Rattle.template.specs.declared.Checked.the-variants.{Accepted, Refused}
 use Rattle.template.specs.declared.Run.{Run}
@@ -18,6 +20,7 @@ use Rattle.template.specs.declared.sections.Selection.{Selection}
 use Rattle.template.specs.declared.sections.Selection.the-variants.{Lines, NotThere}
 use Rattle.template.specs.Sections.{selected}
 use Rattle.template.specs.Verdicts.{bytesCheck}
+use Rattle.template.specs.Checks.{formBeforeNesting}
 use Rattle.template.specs.Order.{unlessFault, acceptedRun, sectionChecked}
 use Rattle.template.proofs.LineLaws.{too-long}
 
@@ -29,6 +32,31 @@ module _ (e : Refusal) (next : Checked) (v w : Verdict) (q : w ≡ v) where
   pub a-fault : (n : ℕ) → w ≡ Fault n → Refused e n ≡ unlessFault e v next
   unfolding unlessFault
   a-fault n k = rw (← q, k)
+
+-- the faults of 3 and 4 in one, or else what follows them
+onFaults : Faults → Checked → Checked
+onFaults NoFault next = next
+onFaults (InForm n) next = Refused BadLine n
+onFaults (InNesting n) next = Refused BadNesting n
+
+one-by-one : (f v : Verdict) (next : Checked) → onFaults (formBeforeNesting f v) next ≡ unlessFault BadLine f (unlessFault BadNesting v next)
+unfolding onFaults formBeforeNesting unlessFault
+one-by-one (Fault n) v next = refl
+one-by-one Fine (Fault n) next = refl
+one-by-one Fine Fine next = refl
+
+module _ (f v : Verdict) (next : Checked) (w : Faults) (q : w ≡ formBeforeNesting f v) where
+  pub no-faults-met : (r : Checked) → w ≡ NoFault → r ≡ next → r ≡ unlessFault BadLine f (unlessFault BadNesting v next)
+  unfolding onFaults
+  no-faults-met r k h = rw (← one-by-one f v next, ← q, k) h
+
+  pub form-fault-met : (n : ℕ) → w ≡ InForm n → Refused BadLine n ≡ unlessFault BadLine f (unlessFault BadNesting v next)
+  unfolding onFaults
+  form-fault-met n k = rw (← one-by-one f v next, ← q, k)
+
+  pub nesting-fault-met : (n : ℕ) → w ≡ InNesting n → Refused BadNesting n ≡ unlessFault BadLine f (unlessFault BadNesting v next)
+  unfolding onFaults
+  nesting-fault-met n k = rw (← one-by-one f v next, ← q, k)
 
 -- a template without a fault in its bytes is within its length
 pub within-length : (t : List ℕ) (w : Verdict) → w ≡ bytesCheck t → w ≡ Fine → length t ≤ 32768

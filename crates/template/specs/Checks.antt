@@ -8,6 +8,8 @@ use lib.ListN.{length, take}
 use Rattle.scan.specs.Words.{begins}
 use Rattle.template.specs.declared.Verdict.{Verdict}
 use Rattle.template.specs.declared.Verdict.the-variants.{Fine, Fault}
+use Rattle.template.specs.declared.forms.Faults.{Faults}
+use Rattle.template.specs.declared.forms.Faults.the-variants.{NoFault, InForm, InNesting}
 use Rattle.template.specs.Lines.{linesOf}
 use Rattle.template.specs.Verdicts.{firstFault}
 use Rattle.template.specs.Walk.{walk}
@@ -28,6 +30,12 @@ nestEnd s n = cond (allClosed s) Fine (Fault n)
 
 unfoldable pub nestCheck : List ℕ → Verdict
 nestCheck t = walk nestStep nestEnd [] 0 (linesOf t)
+
+-- "Checks 2–5 each cover the whole template, then the next": the verdict of 3, then that of 4
+unfoldable pub formBeforeNesting : Verdict → Verdict → Faults
+formBeforeNesting (Fault n) v = InForm n
+formBeforeNesting Fine (Fault n) = InNesting n
+formBeforeNesting Fine Fine = NoFault
 
 abbrev pub sameBytes : List ℕ → List ℕ → Bool
 sameBytes a b = eqb (length a) (length b) && begins a b

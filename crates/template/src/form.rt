@@ -48,7 +48,8 @@ pub fn name_of<'a>(line: &'a [u8]) -> &'a [u8]
     scan::bytes::part(line, 0, 0)
 }
 
-fn has_form(shape: Shape) -> bool
+// 3: "A line has no form above, a number literal exceeds ±2,000,000,000, or fields widen a line past 132 bytes."
+pub fn has_form(shape: Shape) -> bool
     ensures { λ r. ⌜ r ≡ hasForm shape ⌝ }
 {
     match shape {
@@ -64,7 +65,6 @@ fn has_form(shape: Shape) -> bool
     }
 }
 
-// "A line has no form above, a number literal exceeds ±2,000,000,000, or fields widen a line past 132 bytes."
 pub fn is_formed(line: &[u8]) -> bool
     ensures { λ r. ⌜ r ≡ isFormed (now (line .entry)) ⌝ }
 {

@@ -3,18 +3,18 @@
 // check           2 to 5, each over the whole template, then 6
 // bytes::check    2: too long, a byte or a line outside its limits
 // seek::skip_lines   where a failed test, an executed $ELSE and a $BT with n below 1 go on
+use crate::forms::Faults;
 use crate::sections::Selection;
 use meaning::refusal::Refusal;
 ghost use mathlib.Core.Path.{_≡_};
 ghost use Prim.Native.Nat.{_≤_};
 ghost use lib.ListN.{length};
-ghost use Rattle.template.specs.Order.{sectionChecked, namesChecked, nestingChecked, formsChecked, templateChecked};
+ghost use Rattle.template.specs.Order.{sectionChecked, namesChecked, formsChecked, templateChecked};
 
 pub mod bytes; // bytes.rt: check 2
 mod nest; // nest.rt: what is open, from one line to the next
 mod form; // form.rt: what a line is to the checks
-mod forms; // forms.rt: check 3
-mod nesting; // nesting.rt: check 4
+mod forms; // forms.rt: checks 3 and 4
 mod names; // names.rt: check 5
 pub mod seek; // seek.rt: where a failed test, an executed $ELSE and a skipped table go on
 mod sections; // sections.rt: check 6
@@ -60,25 +60,15 @@ fn names_checked(template: &[u8], section: &[u8]) -> Checked
     }
 }
 
-fn nesting_checked(template: &[u8], section: &[u8]) -> Checked
-    requires { ⌜ length (now template) ≤ 32768 ⌝ }
-    ensures { λ r. ⌜ r ≡ nestingChecked (now (template .entry)) (now (section .entry)) ⌝ }
-{
-    let verdict = nesting::check(template);
-    match verdict {
-        Verdict::Fine => names_checked(template, section),
-        Verdict::Fault(line) => Checked::Refused(Refusal::BadNesting, line),
-    }
-}
-
 fn forms_checked(template: &[u8], section: &[u8]) -> Checked
     requires { ⌜ length (now template) ≤ 32768 ⌝ }
     ensures { λ r. ⌜ r ≡ formsChecked (now (template .entry)) (now (section .entry)) ⌝ }
 {
-    let verdict = forms::check(template);
-    match verdict {
-        Verdict::Fine => nesting_checked(template, section),
-        Verdict::Fault(line) => Checked::Refused(Refusal::BadLine, line),
+    let faults = forms::check(template);
+    match faults {
+        Faults::NoFault => names_checked(template, section),
+        Faults::InForm(line) => Checked::Refused(Refusal::BadLine, line),
+        Faults::InNesting(line) => Checked::Refused(Refusal::BadNesting, line),
     }
 }
 

@@ -1,5 +1,5 @@
-use Rattle.template.specs.Order.{formsChecked}
-use Rattle.template.proofs.OrderLaws.{no-fault, a-fault}
+use Rattle.template.specs.Order.{formsChecked, nestingChecked}
+use Rattle.template.proofs.OrderLaws.{no-faults-met, form-fault-met, nesting-fault-met}
 use borrow.Author.Needs.{needs}
 use Rattle.template.proofs.forms_checked.Statement.{statement}
 use Rattle.template.proofs.forms_checked.Tie as tie
@@ -10,19 +10,26 @@ check-requires c κs = search needs
 enum-told : tie.Need-enum-told
 enum-told c = search needs
 
-nesting-checked-requires : tie.Need-nesting-checked-requires
-nesting-checked-requires c κs = search needs
+names-checked-requires : tie.Need-names-checked-requires
+names-checked-requires c κs = search needs
 
-enum-known-verdict : tie.Need-enum-known-verdict
-enum-known-verdict c = search needs
+enum-known-faults : tie.Need-enum-known-faults
+enum-known-faults c = search needs
+
+enum-known-faults-2 : tie.Need-enum-known-faults-2
+enum-known-faults-2 c = search needs
 
 returns : tie.Need-returns
-unfolding formsChecked
-returns c = no-fault _ _ _ _ (c .before .before .before .check .ensures) _ (c .before .enum-told .given .1) (c .nesting-checked .ensures)
+unfolding formsChecked nestingChecked
+returns c = no-faults-met _ _ _ _ (c .before .before .before .check .ensures) _ (c .before .enum-told .given .1) (c .names-checked .ensures)
 
 returns-2 : tie.Need-returns-2
-unfolding formsChecked
-returns-2 c = a-fault _ _ _ _ (c .before .before .before .check .ensures) _ (c .before .verdict .given .1)
+unfolding formsChecked nestingChecked
+returns-2 c = form-fault-met _ _ _ _ (c .before .before .before .check .ensures) _ (c .before .faults .given .1)
+
+returns-3 : tie.Need-returns-3
+unfolding formsChecked nestingChecked
+returns-3 c = nesting-fault-met _ _ _ _ (c .before .before .before .check .ensures) _ (c .before .faults2 .given .1)
 
 pub forms-checked-spec : {M : Type 1} → statement M
 forms-checked-spec =
@@ -30,7 +37,9 @@ forms-checked-spec =
     (tie.spec
     check-requires
     enum-told
-    nesting-checked-requires
-    enum-known-verdict
+    names-checked-requires
+    enum-known-faults
+    enum-known-faults-2
     returns
-    returns-2)
+    returns-2
+    returns-3)
