@@ -2,6 +2,7 @@ pub mod LineLaws
 pub mod WalkLaws
 pub mod OpenLaws
 pub mod NameLaws
+pub mod KeyLaws
 pub mod NestLaws
 pub mod FormLaws
 pub mod SectionLaws

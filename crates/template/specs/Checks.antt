@@ -49,12 +49,12 @@ hasName name (l ∷ ls) = cond (sameBytes name (nameOf l)) true (hasName name ls
 unfoldable pub cameBefore : List ℕ → List (List ℕ) → Bool
 cameBefore name ls = cond (eqb (length name) 0) false (hasName name ls)
 
--- 5: "A section name came before; the later line is named": the state is where the line starts
+-- 5: "A section name came before; the later line is named": the state is how many lines came before
 unfoldable pub nameStep : List ℕ → ℕ → List ℕ → Option ℕ
-nameStep t at l = cond (cameBefore (nameOf l) (linesOf (take at t))) none (some (at + (length l + 1)))
+nameStep t n l = cond (cameBefore (nameOf l) (take n (linesOf t))) none (some (n + 1))
 
 unfoldable pub nameEnd : ℕ → ℕ → Verdict
-nameEnd at n = Fine
+nameEnd s n = Fine
 
 unfoldable pub nameCheck : List ℕ → Verdict
 nameCheck t = walk (nameStep t) nameEnd 0 0 (linesOf t)

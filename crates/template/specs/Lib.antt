@@ -5,6 +5,7 @@ pub mod Nest
 pub mod Open
 pub mod Form
 pub mod Checks
+pub mod Keys
 pub mod Sections
 pub mod Order
 pub mod Seek

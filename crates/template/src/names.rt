@@ -2,10 +2,12 @@
 use crate::Verdict;
 use crate::form;
 ghost use mathlib.Core.Path.{_≡_};
+ghost use mathlib.Core.Bool.{false};
 ghost use Prim.Native.Nat.{_≤_};
-ghost use lib.ListN.{length};
+ghost use lib.ListN.{length, take};
 ghost use Rattle.template.specs.Lines.{linesOf};
 ghost use Rattle.template.specs.Checks.{sameBytes, hasName, cameBefore, nameCheck};
+ghost use Rattle.template.specs.Keys.{keyOf};
 
 pub fn same_bytes(a: &[u8], b: &[u8]) -> bool
     ensures { λ r. ⌜ r ≡ sameBytes (now (a .entry)) (now (b .entry)) ⌝ }
@@ -16,46 +18,71 @@ pub fn same_bytes(a: &[u8], b: &[u8]) -> bool
     scan::words::begins_with(b, 0, a)
 }
 
-// Whether a line of this part of a template is the section of a name.
-fn has_name(part: &[u8], name: &[u8]) -> bool
-    requires { ⌜ length (now part) ≤ 32768 ⌝ }
-    ensures { λ r. ⌜ r ≡ hasName (now (name .entry)) (linesOf (now (part .entry))) ⌝ }
+// A name's key, below 8,192: the same for the same name.
+fn key_of(name: &[u8]) -> usize
+    ensures { λ r. ⌜ r ≡ keyOf (now (name .entry)) ⌝ }
+{
+    let mut key: usize = 0;
+    let mut i = 0;
+    while i < name.len() {
+        key = (key * 37 + scan::bytes::byte(name, i) as usize) % 8192;
+        i += 1;
+    }
+    key
+}
+
+// Whether one of a template's first lines is the section of a name.
+fn has_name(template: &[u8], lines: u32, name: &[u8]) -> bool
+    requires { ⌜ length (now template) ≤ 32768 ⌝ }
+    ensures { λ r. ⌜ r ≡ hasName (now (name .entry)) (take lines (linesOf (now (template .entry)))) ⌝ }
 {
     let mut at = 0;
-    while at < part.len() {
-        let line = scan::bytes::line_of(&part[at..]);
+    let mut left: u32 = lines;
+    while at < template.len() {
+        if left == 0 {
+            return false;
+        }
+        let line = scan::bytes::line_of(&template[at..]);
         let other = form::name_of(line);
         if same_bytes(name, other) {
             return true;
         }
         at += line.len() + 1;
+        left -= 1;
     }
     false
 }
 
-// A line that isn't $SEC has the empty name, which never came before.
-fn came_before(part: &[u8], name: &[u8]) -> bool
-    requires { ⌜ length (now part) ≤ 32768 ⌝ }
-    ensures { λ r. ⌜ r ≡ cameBefore (now (name .entry)) (linesOf (now (part .entry))) ⌝ }
+// A line that isn't $SEC has the empty name, which never came before; nor did a name whose key isn't noted.
+fn came_before(template: &[u8], lines: u32, name: &[u8], noted: u8) -> bool
+    requires { ⌜ (length (now template) ≤ 32768) × (noted ≡ 0 → hasName (now name) (take lines (linesOf (now template))) ≡ false) ⌝ }
+    ensures { λ r. ⌜ r ≡ cameBefore (now (name .entry)) (take lines (linesOf (now (template .entry)))) ⌝ }
 {
     if name.len() == 0 {
         return false;
     }
-    has_name(part, name)
+    if noted == 0 {
+        return false;
+    }
+    has_name(template, lines, name)
 }
 
+// The keys of earlier names are noted, so that only a name with the key of another is sought.
 pub fn check(template: &[u8]) -> Verdict
     requires { ⌜ length (now template) ≤ 32768 ⌝ }
     ensures { λ r. ⌜ r ≡ nameCheck (now (template .entry)) ⌝ }
 {
     let mut at = 0;
     let mut lines: u32 = 0;
+    let mut noted = [0u8; 8192];
     while at < template.len() {
         let line = scan::bytes::line_of(&template[at..]);
         let name = form::name_of(line);
-        if came_before(&template[..at], name) {
+        let key = key_of(name);
+        if came_before(template, lines, name, noted[key]) {
             return Verdict::Fault(lines + 1);
         }
+        noted[key] = 1;
         at += line.len() + 1;
         lines += 1;
     }

@@ -1,3 +1,4 @@
+use mathlib.Core.Path.{sym}
 use borrow.Author.Tests.{eq-eqb, ne-eqb}
 use Rattle.template.specs.Checks.{cameBefore}
 use borrow.Author.Needs.{needs}
@@ -8,12 +9,16 @@ returns : tie.Need-returns
 unfolding cameBefore
 returns c = rw (eq-eqb _ _ (c .if1 .taken))
 
+returns-2 : tie.Need-returns-2
+unfolding cameBefore
+returns-2 c = rw (ne-eqb _ _ (c .before .if1 .left)) (sym (c .before .before .before .before .pre .1 (c .if2 .taken)))
+
 has-name-requires : tie.Need-has-name-requires
 has-name-requires c κs = search needs
 
-returns-2 : tie.Need-returns-2
+returns-3 : tie.Need-returns-3
 unfolding cameBefore
-returns-2 c = rw (ne-eqb _ _ (c .before .if1 .left)) (c .has-name .ensures)
+returns-3 c = rw (ne-eqb _ _ (c .before .before .if1 .left)) (c .has-name .ensures)
 
 pub came-before-spec : {M : Type 1} → statement M
-came-before-spec = tie.close (tie.spec returns has-name-requires returns-2)
+came-before-spec = tie.close (tie.spec returns returns-2 has-name-requires returns-3)

@@ -1,28 +1,29 @@
--- The loop keeps: the lines from its place on, counted on, give what the whole template gives.
-use mathlib.Core.Path.{_≡_, refl, sym}
-use Prim.Native.Nat.{_-_, _≤_, zero-le}
+-- The loop keeps: the lines from its place on, counted on, give what the whole template gives, and the names before have their
+-- keys noted.
+use mathlib.Core.Path.{_≡_, refl, sym, _∙_}
+use Prim.Native.Nat.{ℕ, _-_, _≤_, zero-le}
 use native.Mathlib.Omega.{arith}
-use lib.ListN.{length, drop, length-take}
-use lib.Seq.{length-take-le}
+use lib.ListN.{length, take, drop, length-replicate}
 use Rattle.template.specs.Lines.{linesOf}
 use Rattle.template.specs.Walk.{walk}
 use Rattle.template.specs.Checks.{nameStep, nameEnd, nameCheck}
 use Rattle.template.proofs.LineLaws.{part-line}
 use Rattle.template.proofs.WalkLaws.{walk-end, walk-here, walk-later}
 use Rattle.template.proofs.NameLaws.{name-repeated, name-fresh}
+use Rattle.template.proofs.KeyLaws.{Noted, key-bound, none-noted, lines-on, noted-on}
 use borrow.Author.Needs.{needs}
 use Rattle.template.proofs.names.check.Statement.{statement}
 use Rattle.template.proofs.names.check.Tie as tie
 
 abbrev Inv-loop : tie.InvT-loop
-Inv-loop template at₀ lines₀ at lines = (walk (nameStep template) nameEnd at lines (linesOf (drop at template)) ≡ nameCheck template) × (lines ≤ at)
+Inv-loop template at₀ lines₀ noted₀ at lines noted = (walk (nameStep template) nameEnd lines lines (linesOf (drop at template)) ≡ nameCheck template) × (drop lines (linesOf template) ≡ linesOf (drop at template)) × (Noted noted (take lines (linesOf template))) × (lines ≤ at)
 
 abbrev μ-loop : tie.MeasureT-loop
-μ-loop template at₀ lines₀ at lines = length template - at
+μ-loop template at₀ lines₀ noted₀ at lines noted = length template - at
 
 loop-holds : tie.Need-loop-holds Inv-loop μ-loop
 unfolding nameCheck
-loop-holds c = (refl, zero-le)
+loop-holds c = (refl, refl, none-noted _ (length-replicate {A = ℕ} 8192 0), zero-le)
 
 sub-line-of : tie.Need-sub-line-of Inv-loop μ-loop
 sub-line-of c = search needs
@@ -39,19 +40,29 @@ line-of-requires c κs = search needs
 name-of-requires : tie.Need-name-of-requires Inv-loop μ-loop
 name-of-requires c κs = search needs
 
-slice-aggregate-came-before : tie.Need-slice-aggregate-came-before Inv-loop μ-loop
-slice-aggregate-came-before c = sym (length-take-le _ _ (omega arith))
+key-of-requires : tie.Need-key-of-requires Inv-loop μ-loop
+key-of-requires c κs = search needs
+
+array-read-came-before : tie.Need-array-read-came-before Inv-loop μ-loop
+array-read-came-before c = omega (arith, c .key-of .ensures, key-bound (c .before .name-of .result .now), c .before .before .before .before .before .loop .inv .2 .size)
 
 came-before-requires : tie.Need-came-before-requires Inv-loop μ-loop
-came-before-requires c κs = simp length-take (omega arith)
+came-before-requires c κs =
+    let k = c .before .before .before .before .before in
+    (k .before .before .pre, λ z. k .loop .inv .2 .unseen _ (rw (← c .key-of .ensures) z))
 
-add-t14 : tie.Need-add-t14 Inv-loop μ-loop
-add-t14 c = search needs
+add-t17 : tie.Need-add-t17 Inv-loop μ-loop
+add-t17 c = search needs
 
 returns : tie.Need-returns Inv-loop μ-loop
 returns c =
     let k = c .before .before .before .before .before .before in
-    walk-here (nameStep _) nameEnd _ _ _ _ (k .before .loop .inv .0) _ (k .loop-test .taken) (part-line (k .before .before .before .args .template .now) _ (k .before .loop .at) (c .before .before .before .before .line-of .ensures)) (name-repeated _ _ _ _ _ (c .before .before .before .name-of .ensures) (c .before .came-before .ensures) (c .if1 .taken))
+    let i = k .before .loop .inv in
+    let e = part-line (k .before .before .before .args .template .now) _ (k .before .loop .at) (c .before .before .before .before .line-of .ensures) in
+    walk-here (nameStep _) nameEnd _ _ _ _ (i .0) _ (k .loop-test .taken) e (name-repeated _ _ _ _ _ (c .before .before .before .name-of .ensures) (c .before .came-before .ensures) (c .if1 .taken))
+
+array-write-noted : tie.Need-array-write-noted Inv-loop μ-loop
+array-write-noted c = omega (arith, c .before .before .key-of .ensures, key-bound (c .before .before .before .name-of .result .now), c .before .before .before .before .before .before .before .loop .inv .2 .size)
 
 add-at : tie.Need-add-at Inv-loop μ-loop
 add-at c = search needs
@@ -68,7 +79,12 @@ loop-less c = search needs
 loop-again : tie.Need-loop-again Inv-loop μ-loop
 loop-again c =
     let k = c .before .before .before .before .before .before in
-    (walk-later (nameStep _) nameEnd _ _ _ _ (k .before .loop .inv .0) _ (k .loop-test .taken) (part-line (k .before .before .before .args .template .now) _ (k .before .loop .at) (c .before .before .before .before .line-of .ensures)) _ (name-fresh _ _ _ _ _ (c .before .before .before .name-of .ensures) (c .before .came-before .ensures) (c .if1 .left)), omega arith)
+    let i = k .before .loop .inv in
+    let n = k .before .loop .lines in
+    let h = k .loop-test .taken in
+    let e = part-line (k .before .before .before .args .template .now) _ (k .before .loop .at) (c .before .before .before .before .line-of .ensures) in
+    let o = c .before .before .before .name-of .ensures in
+    (walk-later (nameStep _) nameEnd _ _ _ _ (i .0) _ h e _ (name-fresh _ _ _ _ _ o (c .before .came-before .ensures) (c .if1 .left)), lines-on _ _ _ n (i .1) h e, noted-on _ _ _ n (i .1) h e _ _ _ (i .2) o (c .before .before .key-of .ensures), omega arith)
 
 returns-2 : tie.Need-returns-2 Inv-loop μ-loop
 unfolding nameEnd
@@ -86,10 +102,12 @@ check-spec =
     part-line-of-end
     line-of-requires
     name-of-requires
-    slice-aggregate-came-before
+    key-of-requires
+    array-read-came-before
     came-before-requires
-    add-t14
+    add-t17
     returns
+    array-write-noted
     add-at
     add-at-2
     add-lines
