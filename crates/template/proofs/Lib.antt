@@ -1,6 +1,5 @@
 pub mod LineLaws
 pub mod WalkLaws
-pub mod OpenLaws
 pub mod NameLaws
 pub mod KeyLaws
 pub mod NestLaws

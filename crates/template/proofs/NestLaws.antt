@@ -8,17 +8,22 @@ use lib.ListN.{length, drop}
 use Rattle.scan.specs.Line.{lineAt}
 use Rattle.template.specs.declared.Verdict.{Verdict}
 use Rattle.template.specs.declared.Verdict.the-variants.{Fine, Fault}
-use Rattle.template.specs.declared.nest.Shape.{Shape}
-use Rattle.template.specs.declared.nest.Open.{Open}
-use Rattle.template.specs.declared.nest.Step.{Step}
-use Rattle.template.specs.declared.nest.Step.the-variants.{Went, Wrong}
+use Rattle.nesting.specs.declared.Shape.{Shape}
+use Rattle.nesting.specs.declared.Open.{Open}
+use Rattle.nesting.specs.declared.Step.{Step}
+use Rattle.nesting.specs.declared.Step.the-variants.{Went, Wrong}
 use Rattle.template.specs.Lines.{linesOf}
 use Rattle.template.specs.Walk.{walk}
 use Rattle.template.specs.Form.{shapeOf}
-use Rattle.template.specs.Nest.{Mark, tests, tables, behind}
-use Rattle.template.specs.Open.{code, Sound, Follows, Steps, Ends}
+use Rattle.nesting.specs.Nest.{Mark, tests, tables, behind}
+use Rattle.nesting.specs.Open.{code, HoldsOpen, Follows, Steps, Ends}
 use Rattle.template.specs.Checks.{nestStep, nestEnd, nestCheck}
 use Rattle.template.proofs.WalkLaws.{walk-end, walk-here, walk-later}
+
+-- a state of the code that holds what some marks say is open
+pub record Sound (state : Open) : Type 0 where
+  pub list : List Mark
+  pub holds : HoldsOpen state list
 
 -- nothing is open at first
 nothing-open : Sound (record { marks = 0; tests = 0; tables = 0 })

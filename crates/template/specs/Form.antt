@@ -7,8 +7,8 @@ use Rattle.scan.specs.Words.{begins}
 use Rattle.lines.specs.declared.command.Line.{Line}
 use Rattle.lines.specs.declared.command.Line.the-variants as form
 use Rattle.lines.specs.Command.{parseLine}
-use Rattle.template.specs.declared.nest.Shape.{Shape}
-use Rattle.template.specs.declared.nest.Shape.the-variants.{Section, Remark, Test, Else, EndTest, Table, EndTable, Plain, NoForm}
+use Rattle.nesting.specs.declared.Shape.{Shape}
+use Rattle.nesting.specs.declared.Shape.the-variants.{Section, Remark, Test, Else, EndTest, Table, EndTable, Plain, NoForm}
 
 unfoldable pub shapeIn : Line → Shape
 shapeIn form.NoForm = NoForm

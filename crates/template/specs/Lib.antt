@@ -1,8 +1,6 @@
 pub mod Lines
 pub mod Verdicts
 pub mod Walk
-pub mod Nest
-pub mod Open
 pub mod Form
 pub mod Checks
 pub mod Keys

@@ -1,7 +1,7 @@
 // What a line is to the checks of a whole template.
-use crate::nest::Shape;
 use lines::command;
 use lines::command::Line;
+use nesting::Shape;
 ghost use mathlib.Core.Path.{_≡_};
 ghost use Rattle.template.specs.Form.{shapeIn, shapeOf, hasForm, isFormed, nameOf};
 

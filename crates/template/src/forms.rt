@@ -2,9 +2,8 @@
 // 4: nesting, from the first line to the last. One walk for both parses a line once.
 use crate::Verdict;
 use crate::form;
-use crate::nest;
-use crate::nest::Open;
-use crate::nest::Step;
+use nesting::Open;
+use nesting::Step;
 ghost use mathlib.Core.Path.{_≡_};
 ghost use Prim.Native.Nat.{_+_, _≤_};
 ghost use lib.ListN.{length, drop};
@@ -68,14 +67,14 @@ pub fn check(template: &[u8]) -> Faults
         if !form::has_form(shape) {
             return Faults::InForm(lines + 1);
         }
-        let Step::Went(next) = nest::after_line(state, shape) else {
+        let Step::Went(next) = nesting::after_line(state, shape) else {
             return wrong_at(template, at, lines + 1);
         };
         state = next;
         at += line.len() + 1;
         lines += 1;
     }
-    if nest::all_closed(state) {
+    if nesting::all_closed(state) {
         return Faults::NoFault;
     }
     Faults::InNesting(lines)

@@ -12,7 +12,6 @@ ghost use lib.ListN.{length};
 ghost use Rattle.template.specs.Order.{sectionChecked, namesChecked, formsChecked, templateChecked};
 
 pub mod bytes; // bytes.rt: check 2
-mod nest; // nest.rt: what is open, from one line to the next
 mod form; // form.rt: what a line is to the checks
 mod forms; // forms.rt: checks 3 and 4
 mod names; // names.rt: check 5

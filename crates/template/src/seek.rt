@@ -1,6 +1,6 @@
 // Where a failed test, an executed $ELSE and a $BT with n below 1 go on.
 use crate::form;
-use crate::nest::Shape;
+use nesting::Shape;
 ghost use mathlib.Core.Path.{_≡_};
 ghost use Prim.Native.Nat.{_≤_};
 ghost use Rattle.template.specs.Seek.{testRole, tableRole, elsePassed, roleOf, past, skipped};

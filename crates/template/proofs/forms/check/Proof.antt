@@ -8,10 +8,9 @@ use Rattle.template.specs.Lines.{linesOf}
 use Rattle.template.specs.Verdicts.{firstFault}
 use Rattle.template.specs.Walk.{walk}
 use Rattle.template.specs.Form.{isFormed}
-use Rattle.template.specs.Open.{Sound}
 use Rattle.template.specs.Checks.{nestStep, nestEnd, formCheck, nestCheck}
 use Rattle.template.proofs.LineLaws.{part-line, none-left, fault-here, passed-later}
-use Rattle.template.proofs.NestLaws.{nest-start, nest-here, nest-later, nest-closed, nest-open}
+use Rattle.template.proofs.NestLaws.{Sound, nest-start, nest-here, nest-later, nest-closed, nest-open}
 use Rattle.template.proofs.FormLaws.{formed-by, form-fault, nesting-fault, no-faults, same-faults}
 use borrow.Author.Needs.{needs}
 use Rattle.template.proofs.forms.check.Statement.{statement}
@@ -56,7 +55,7 @@ returns c =
     form-fault _ _ _ (fault-here isFormed _ _ _ (k .before .loop .inv .2) (k .loop-test .taken) (ap isFormed (sym e) ∙ sym f ∙ not-true _ (c .if1 .taken)))
 
 after-line-requires : tie.Need-after-line-requires Inv-loop μ-loop
-after-line-requires c κs = c .before .before .before .before .before .before .loop .inv .0
+after-line-requires c κs = search needs
 
 enum-known-next : tie.Need-enum-known-next Inv-loop μ-loop
 enum-known-next c = search needs

@@ -1,6 +1,6 @@
 -- The loop keeps: the lines from its place on, counted on, give what the whole template gives, and the names before have their
 -- keys noted.
-use mathlib.Core.Path.{_≡_, refl, sym, _∙_}
+use mathlib.Core.Path.{_≡_, refl}
 use Prim.Native.Nat.{ℕ, _-_, _≤_, zero-le}
 use native.Mathlib.Omega.{arith}
 use lib.ListN.{length, take, drop, length-replicate}

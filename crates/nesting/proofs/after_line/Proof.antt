@@ -1,9 +1,9 @@
 -- Each shape has a function of its own; a $REM changes nothing.
-use Rattle.template.specs.Nest.{behind}
-use Rattle.template.specs.Open.{Follows}
+use Rattle.nesting.specs.Nest.{behind}
+use Rattle.nesting.specs.Open.{Follows}
 use borrow.Author.Needs.{needs}
-use Rattle.template.proofs.nest.after_line.Statement.{statement}
-use Rattle.template.proofs.nest.after_line.Tie as tie
+use Rattle.nesting.proofs.after_line.Statement.{statement}
+use Rattle.nesting.proofs.after_line.Tie as tie
 
 enum-told : tie.Need-enum-told
 enum-told c = search needs

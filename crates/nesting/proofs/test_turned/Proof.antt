@@ -1,7 +1,7 @@
-use Rattle.template.proofs.OpenLaws.{turned, not-turned}
+use Rattle.nesting.proofs.OpenLaws.{turned, not-turned}
 use borrow.Author.Needs.{needs}
-use Rattle.template.proofs.nest.test_turned.Statement.{statement}
-use Rattle.template.proofs.nest.test_turned.Tie as tie
+use Rattle.nesting.proofs.test_turned.Statement.{statement}
+use Rattle.nesting.proofs.test_turned.Tie as tie
 
 add-t4 : tie.Need-add-t4
 add-t4 c = search needs

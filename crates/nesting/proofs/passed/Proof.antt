@@ -1,6 +1,6 @@
-use Rattle.template.proofs.OpenLaws.{early-line, same-line}
-use Rattle.template.proofs.nest.passed.Statement.{statement}
-use Rattle.template.proofs.nest.passed.Tie as tie
+use Rattle.nesting.proofs.OpenLaws.{early-line, same-line}
+use Rattle.nesting.proofs.passed.Statement.{statement}
+use Rattle.nesting.proofs.passed.Tie as tie
 
 returns : tie.Need-returns
 returns c = record { follows = λ s h. early-line s h (c .if1 .taken) }

@@ -1,6 +1,6 @@
-use Rattle.template.proofs.OpenLaws.{first-section, next-section, open-at-section}
-use Rattle.template.proofs.nest.section_begun.Statement.{statement}
-use Rattle.template.proofs.nest.section_begun.Tie as tie
+use Rattle.nesting.proofs.OpenLaws.{first-section, next-section, open-at-section}
+use Rattle.nesting.proofs.section_begun.Statement.{statement}
+use Rattle.nesting.proofs.section_begun.Tie as tie
 
 returns : tie.Need-returns
 returns c = record { follows = λ s h. first-section s h (c .if1 .taken) }

@@ -1,7 +1,10 @@
 // 4: "Nesting is crossed, unmatched, repeated ($ELSE), too deep, or open at the next $SEC or the last line, which is
 // named; or a line other than $REM has no $SEC before it."
-ghost use Rattle.template.specs.declared.nest.Shape.the-variants.{Section, Remark, Test, Else, EndTest, Table, EndTable, Plain};
-ghost use Rattle.template.specs.Open.{Sound, Steps, Ends};
+//
+// after_line   what is open behind a line, or that the line is at fault
+// all_closed   whether nothing but a section is open
+ghost use Rattle.nesting.specs.declared.Shape.the-variants.{Section, Remark, Test, Else, EndTest, Table, EndTable, Plain};
+ghost use Rattle.nesting.specs.Open.{Steps, Ends};
 
 // What a line is to nesting. Plain lines open and close nothing.
 pub enum Shape {
@@ -42,9 +45,11 @@ const MOST_TESTS: u32 = 10;
 
 const MOST_TABLES: u32 = 5;
 
+// 5 to the power of 16: a section, ten tests and five tables have a smaller number.
+const TOO_MANY: u64 = 152_587_890_625;
+
 // A $SEC: nothing may be open but the section before it.
 fn section_begun(state: Open) -> Step
-    requires { ⌜ Sound state ⌝ }
     ensures { λ r. ⌜ Steps state Section r ⌝ }
 {
     let top = state.marks % 5;
@@ -66,13 +71,15 @@ fn section_begun(state: Open) -> Step
 }
 
 fn test_begun(state: Open) -> Step
-    requires { ⌜ Sound state ⌝ }
     ensures { λ r. ⌜ Steps state Test r ⌝ }
 {
     if state.marks == 0 {
         return Step::Wrong;
     }
     if MOST_TESTS <= state.tests {
+        return Step::Wrong;
+    }
+    if TOO_MANY <= state.marks {
         return Step::Wrong;
     }
     Step::Went(Open {
@@ -83,7 +90,6 @@ fn test_begun(state: Open) -> Step
 }
 
 fn test_turned(state: Open) -> Step
-    requires { ⌜ Sound state ⌝ }
     ensures { λ r. ⌜ Steps state Else r ⌝ }
 {
     if state.marks % 5 == TEST {
@@ -97,9 +103,11 @@ fn test_turned(state: Open) -> Step
 }
 
 fn test_ended(state: Open) -> Step
-    requires { ⌜ Sound state ⌝ }
     ensures { λ r. ⌜ Steps state EndTest r ⌝ }
 {
+    if state.tests == 0 {
+        return Step::Wrong;
+    }
     let top = state.marks % 5;
     if top == TEST {
         return Step::Went(Open {
@@ -119,13 +127,15 @@ fn test_ended(state: Open) -> Step
 }
 
 fn table_begun(state: Open) -> Step
-    requires { ⌜ Sound state ⌝ }
     ensures { λ r. ⌜ Steps state Table r ⌝ }
 {
     if state.marks == 0 {
         return Step::Wrong;
     }
     if MOST_TABLES <= state.tables {
+        return Step::Wrong;
+    }
+    if TOO_MANY <= state.marks {
         return Step::Wrong;
     }
     Step::Went(Open {
@@ -136,9 +146,11 @@ fn table_begun(state: Open) -> Step
 }
 
 fn table_ended(state: Open) -> Step
-    requires { ⌜ Sound state ⌝ }
     ensures { λ r. ⌜ Steps state EndTable r ⌝ }
 {
+    if state.tables == 0 {
+        return Step::Wrong;
+    }
     if state.marks % 5 == TABLE {
         return Step::Went(Open {
             marks: state.marks / 5,
@@ -160,7 +172,6 @@ fn passed(state: Open) -> Step
 
 // What is open behind a line.
 pub fn after_line(state: Open, shape: Shape) -> Step
-    requires { ⌜ Sound state ⌝ }
     ensures { λ r. ⌜ Steps state shape r ⌝ }
 {
     match shape {

@@ -8,10 +8,10 @@ use native.Mathlib.Omega.{arith}
 use borrow.Author.Tests.{lt-ltb, le-ltb, le-leb, lt-leb}
 use lib.Dec.{leb, ltb}
 use lib.ListN.{length}
-use Rattle.template.specs.declared.nest.Shape.the-variants.{Section, Test, Else, EndTest, Table, EndTable, Plain}
-use Rattle.template.specs.declared.nest.Step.the-variants.{Went, Wrong}
-use Rattle.template.specs.Nest.{Mark, section, test, other, table, tests, tables, behind, allClosed, sectionBegun, testTurned, testEnded, tableEnded, inSection}
-use Rattle.template.specs.Open.{digit, code, Holds, Follows}
+use Rattle.nesting.specs.declared.Shape.the-variants.{Section, Test, Else, EndTest, Table, EndTable, Plain}
+use Rattle.nesting.specs.declared.Step.the-variants.{Went, Wrong}
+use Rattle.nesting.specs.Nest.{Mark, section, test, other, table, tests, tables, behind, allClosed, sectionBegun, testTurned, testEnded, tableEnded, inSection}
+use Rattle.nesting.specs.Open.{digit, code, Holds, Follows}
 
 -- ---- the number of what is open fits
 
@@ -123,29 +123,21 @@ module _ {m t b : ℕ} where
   no-table-left (other ∷ s) h e = tt
   no-table-left (table ∷ s) h e = absurd (e (omega (arith, h .coded)))
 
-  pub some-test : (s : List Mark) → Holds m t b s → m % 5 ≡ 2 → 1 ≤ t
-  unfolding code digit tests
-  some-test [] h e = absurd (omega (arith, h .coded))
-  some-test (section ∷ s) h e = absurd (omega (arith, h .coded))
-  some-test (test ∷ s) h e = omega (arith, h .tested)
-  some-test (other ∷ s) h e = absurd (omega (arith, h .coded))
-  some-test (table ∷ s) h e = absurd (omega (arith, h .coded))
+  pub no-test : (s : List Mark) → Holds m t b s → t ≡ 0 → Follows Wrong (behind EndTest s)
+  unfolding Follows behind testEnded tests
+  no-test [] h e = tt
+  no-test (section ∷ s) h e = tt
+  no-test (test ∷ s) h e = absurd (omega (arith, h .tested))
+  no-test (other ∷ s) h e = absurd (omega (arith, h .tested))
+  no-test (table ∷ s) h e = tt
 
-  pub some-other : (s : List Mark) → Holds m t b s → m % 5 ≡ 3 → 1 ≤ t
-  unfolding code digit tests
-  some-other [] h e = absurd (omega (arith, h .coded))
-  some-other (section ∷ s) h e = absurd (omega (arith, h .coded))
-  some-other (test ∷ s) h e = absurd (omega (arith, h .coded))
-  some-other (other ∷ s) h e = omega (arith, h .tested)
-  some-other (table ∷ s) h e = absurd (omega (arith, h .coded))
-
-  pub some-table : (s : List Mark) → Holds m t b s → m % 5 ≡ 4 → 1 ≤ b
-  unfolding code digit tables
-  some-table [] h e = absurd (omega (arith, h .coded))
-  some-table (section ∷ s) h e = absurd (omega (arith, h .coded))
-  some-table (test ∷ s) h e = absurd (omega (arith, h .coded))
-  some-table (other ∷ s) h e = absurd (omega (arith, h .coded))
-  some-table (table ∷ s) h e = omega (arith, h .tabled)
+  pub no-table : (s : List Mark) → Holds m t b s → b ≡ 0 → Follows Wrong (behind EndTable s)
+  unfolding Follows behind tableEnded tables
+  no-table [] h e = tt
+  no-table (section ∷ s) h e = tt
+  no-table (test ∷ s) h e = tt
+  no-table (other ∷ s) h e = tt
+  no-table (table ∷ s) h e = absurd (omega (arith, h .tabled))
 
   pub closed-by : (s : List Mark) → Holds m t b s → leb (m % 5) 1 ≡ allClosed s
   unfolding code digit allClosed

@@ -5,11 +5,11 @@ use mathlib.Core.List.{List, [], _∷_}
 use mathlib.Core.Option.{Option, none, some}
 use Prim.Native.Nat.{ℕ, _+_, _*_, _≤_}
 use lib.ListN.{length}
-use Rattle.template.specs.declared.nest.Shape.{Shape}
-use Rattle.template.specs.declared.nest.Open.{Open}
-use Rattle.template.specs.declared.nest.Step.{Step}
-use Rattle.template.specs.declared.nest.Step.the-variants.{Went, Wrong}
-use Rattle.template.specs.Nest.{Mark, section, test, other, table, tests, tables, behind, allClosed}
+use Rattle.nesting.specs.declared.Shape.{Shape}
+use Rattle.nesting.specs.declared.Open.{Open}
+use Rattle.nesting.specs.declared.Step.{Step}
+use Rattle.nesting.specs.declared.Step.the-variants.{Went, Wrong}
+use Rattle.nesting.specs.Nest.{Mark, section, test, other, table, tests, tables, behind, allClosed}
 
 unfoldable pub digit : Mark → ℕ
 digit section = 1
@@ -32,10 +32,6 @@ pub record Holds (m t b : ℕ) (s : List Mark) : Type 0 where
 
 abbrev pub HoldsOpen : Open → List Mark → Type 0
 HoldsOpen state s = Holds (state .marks) (state .tests) (state .tables) s
-
-pub record Sound (state : Open) : Type 0 where
-  pub list : List Mark
-  pub holds : HoldsOpen state list
 
 -- the code went on with what the definition has, or both are at fault
 unfoldable pub Follows : Step → Option (List Mark) → Type 0

@@ -1,9 +1,0 @@
-use Rattle.template.proofs.OpenLaws.{closed-by}
-use Rattle.template.proofs.nest.all_closed.Statement.{statement}
-use Rattle.template.proofs.nest.all_closed.Tie as tie
-
-returns : tie.Need-returns
-returns c = record { closed = λ s h. closed-by s h }
-
-pub all-closed-spec : {M : Type 1} → statement M
-all-closed-spec = tie.close (tie.spec returns)
