@@ -2,61 +2,19 @@
 use mathlib.Core.Path.{_≡_, refl, sym, ap, _∙_}
 use mathlib.Core.Bool.{Bool, true, false, false≢true}
 use mathlib.Core.List.{List, [], _∷_}
-use Prim.Native.Nat.{ℕ, zero, suc, _+_, _*_, _%_, _<_, _≤_}
+use Prim.Native.Nat.{ℕ, zero, suc, _+_, _<_}
 use native.Mathlib.Numerals.{add-one}
 use native.Mathlib.Omega.{arith}
 use borrow.Author.Tests.{eqb-true, eqb-false}
 use lib.Dec.{eqb}
-use lib.ListN.{length, getD, set, take, drop, drop-of-length-le, length-set}
-use lib.Seq.{drop-cons, drop-drop, getD-set-same, getD-set-other}
-use Rattle.scan.specs.Line.{byteAt, lineAt, nextLine}
-use Rattle.scan.specs.Words.{begins}
+use lib.ListN.{length, getD, set, take, drop, length-set}
+use lib.Seq.{drop-drop, getD-set-same, getD-set-other}
+use Rattle.scan.specs.Line.{lineAt, nextLine}
+use Rattle.names.specs.Name.{nameOf, sameBytes, keyOf}
+use Rattle.names.proofs.NameLaws.{key-bound, other-key}
 use Rattle.template.specs.Lines.{linesOf}
-use Rattle.template.specs.Form.{nameOf}
-use Rattle.template.specs.Keys.{keyFrom, keyOf}
-use Rattle.template.specs.Checks.{sameBytes, hasName}
+use Rattle.template.specs.Checks.{hasName}
 use Rattle.template.proofs.LineLaws.{lines-more}
-
--- ---- a key, byte by byte
-
-module _ (s : List ℕ) (k i : ℕ) {w : ℕ} (inv : keyFrom k (drop i s) ≡ w) where
-  pub key-end : length s ≤ i → k ≡ w
-  unfolding keyFrom
-  key-end h = sym (ap (keyFrom k) (drop-of-length-le s h)) ∙ inv
-
-  pub key-more : i < length s → (b : ℕ) → b ≡ byteAt s i → keyFrom ((k * 37 + b) % 8192) (drop (i + 1) s) ≡ w
-  unfolding keyFrom byteAt
-  key-more h b e = rw (e, add-one i) (sym (ap (keyFrom k) (drop-cons s i 0 h)) ∙ inv)
-
-key-below : (k : ℕ) (s : List ℕ) → k < 8192 → keyFrom k s < 8192
-unfolding keyFrom
-key-below k [] h = h
-key-below k (b ∷ s) h = key-below ((k * 37 + b) % 8192) s (omega arith)
-
-pub key-bound : (name : List ℕ) → keyOf name < 8192
-unfolding keyOf
-key-bound name = key-below 0 name (omega arith)
-
--- ---- the same bytes are the same list
-
-same-begin : (a b : List ℕ) → length a ≡ length b → begins a b ≡ true → a ≡ b
-unfolding begins
-same-begin [] [] h e = refl
-same-begin [] (y ∷ b) h e = absurd (omega arith)
-same-begin (x ∷ a) [] h e = absurd (omega arith)
-same-begin (x ∷ a) (y ∷ b) h e = go (eqb x y) refl e (same-begin a b (omega arith))
-  where
-    go : (p : Bool) → eqb x y ≡ p → begins (x ∷ a) (y ∷ b) ≡ true → (begins a b ≡ true → a ≡ b) → x ∷ a ≡ y ∷ b
-    go true q k more = rw (eqb-true x y q, more (rw q at k))
-    go false q k more = absurd (false≢true (rw q at k))
-
-other-key : (a b : List ℕ) → (keyOf a ≡ keyOf b → ⊥) → sameBytes a b ≡ false
-other-key a b h = go (eqb (length a) (length b)) refl (begins a b) refl
-  where
-    go : (p : Bool) → eqb (length a) (length b) ≡ p → (q : Bool) → begins a b ≡ q → sameBytes a b ≡ false
-    go false k q e = rw k
-    go true k false e = rw (k, e)
-    go true k true e = absurd (h (ap keyOf (same-begin a b (eqb-true (length a) (length b) k) e)))
 
 -- ---- the lines before, and one more
 

@@ -1,17 +1,16 @@
 -- Laws of section names, and of the loop that looks for one.
 use mathlib.Core.Path.{_≡_, sym, ap, _∙_}
 use mathlib.Core.Bool.{Bool, true, false}
-use mathlib.Core.List.{List, []}
+use mathlib.Core.List.{List}
 use mathlib.Core.Option.{none, some}
 use Prim.Native.Nat.{ℕ, suc, _+_, _-_, _<_, _≤_}
 use native.Mathlib.Omega.{arith}
 use lib.ListN.{length, take, drop}
 use lib.Seq.{take-nil}
-use Rattle.scan.specs.Line.{lineAt, nextLine, window}
-use Rattle.scan.specs.Words.{begins}
+use Rattle.scan.specs.Line.{lineAt, nextLine}
+use Rattle.names.specs.Name.{nameOf, sameBytes}
 use Rattle.template.specs.Lines.{linesOf}
-use Rattle.template.specs.Form.{sectionWord, nameOf}
-use Rattle.template.specs.Checks.{sameBytes, hasName, cameBefore, nameStep}
+use Rattle.template.specs.Checks.{hasName, cameBefore, nameStep}
 use Rattle.template.proofs.LineLaws.{lines-none, lines-more}
 
 -- looking for a name in some lines: from a place on, what the whole gives
@@ -47,13 +46,3 @@ module _ (t line name : List ℕ) (n : ℕ) (b : Bool) (o : name ≡ nameOf line
   pub name-fresh : b ≡ false → nameStep t n line ≡ some (n + 1)
   unfolding nameStep
   name-fresh x = rw (← o, ← q, x)
-
--- a section's name, and the empty name of other lines
-module _ (l : List ℕ) (b : Bool) (q : b ≡ begins sectionWord l) where
-  pub named : b ≡ true → nameOf l ≡ window l 5 8
-  unfolding nameOf
-  named k = rw (← q, k)
-
-  pub unnamed : b ≡ false → nameOf l ≡ []
-  unfolding nameOf
-  unnamed k = rw (← q, k)

@@ -1,11 +1,11 @@
 -- Checks 3 to 5. Assumes nothing.
-use mathlib.Core.Bool.{Bool, true, false, cond, _&&_}
+use mathlib.Core.Bool.{Bool, true, false, cond}
 use mathlib.Core.List.{List, [], _∷_}
 use mathlib.Core.Option.{Option, none, some}
 use Prim.Native.Nat.{ℕ, _+_}
 use lib.Dec.{eqb}
 use lib.ListN.{length, take}
-use Rattle.scan.specs.Words.{begins}
+use Rattle.names.specs.Name.{nameOf, sameBytes}
 use Rattle.template.specs.declared.Verdict.{Verdict}
 use Rattle.template.specs.declared.Verdict.the-variants.{Fine, Fault}
 use Rattle.template.specs.declared.forms.Faults.{Faults}
@@ -13,7 +13,7 @@ use Rattle.template.specs.declared.forms.Faults.the-variants.{NoFault, I
 use Rattle.template.specs.Lines.{linesOf}
 use Rattle.template.specs.Verdicts.{firstFault}
 use Rattle.template.specs.Walk.{walk}
-use Rattle.template.specs.Form.{shapeOf, isFormed, nameOf}
+use Rattle.template.specs.Form.{shapeOf, isFormed}
 use Rattle.nesting.specs.Nest.{Mark, behind, allClosed}
 
 -- 3
@@ -36,9 +36,6 @@ unfoldable pub formBeforeNesting : Verdict → Verdict → Faults
 formBeforeNesting (Fault n) v = InForm n
 formBeforeNesting Fine (Fault n) = InNesting n
 formBeforeNesting Fine Fine = NoFault
-
-abbrev pub sameBytes : List ℕ → List ℕ → Bool
-sameBytes a b = eqb (length a) (length b) && begins a b
 
 -- whether one of some lines is the section of a name
 unfoldable pub hasName : List ℕ → List (List ℕ) → Bool

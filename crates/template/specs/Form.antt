@@ -1,9 +1,7 @@
 -- What a line is to the checks of a whole template. Assumes nothing.
-use mathlib.Core.Bool.{Bool, true, false, cond}
-use mathlib.Core.List.{List, [], _∷_}
+use mathlib.Core.Bool.{Bool, true, false}
+use mathlib.Core.List.{List}
 use Prim.Native.Nat.{ℕ}
-use Rattle.scan.specs.Line.{window}
-use Rattle.scan.specs.Words.{begins}
 use Rattle.lines.specs.declared.command.Line.{Line}
 use Rattle.lines.specs.declared.command.Line.the-variants as form
 use Rattle.lines.specs.Command.{parseLine}
@@ -48,12 +46,3 @@ hasForm NoForm = false
 
 unfoldable pub isFormed : List ℕ → Bool
 isFormed l = hasForm (shapeOf l)
-
--- `$SEC` and the space before the name
-abbrev pub sectionWord : List ℕ
-sectionWord = 36 ∷ 83 ∷ 69 ∷ 67 ∷ 32 ∷ []
-
--- "`$SEC name`", "Names are compared by their first eight characters". Empty where the line isn't $SEC. Of the lines that
--- check 3 lets through, those that begin with `$SEC ` are the sections, and nothing stands behind the name
-unfoldable pub nameOf : List ℕ → List ℕ
-nameOf l = cond (begins sectionWord l) (window l 5 8) []

@@ -3,7 +3,6 @@ pub mod Verdicts
 pub mod Walk
 pub mod Form
 pub mod Checks
-pub mod Keys
 pub mod Sections
 pub mod Order
 pub mod Seek

@@ -3,7 +3,7 @@ use lines::command;
 use lines::command::Line;
 use nesting::Shape;
 ghost use mathlib.Core.Path.{_≡_};
-ghost use Rattle.template.specs.Form.{shapeIn, shapeOf, hasForm, isFormed, nameOf};
+ghost use Rattle.template.specs.Form.{shapeIn, shapeOf, hasForm, isFormed};
 
 fn shape_in(form: Line) -> Shape
     ensures { λ r. ⌜ r ≡ shapeIn form ⌝ }
@@ -36,16 +36,6 @@ pub fn shape_of(line: &[u8]) -> Shape
 {
     let form = command::parse_line(line);
     shape_in(form)
-}
-
-// A section's name by its first eight characters; empty where the line isn't $SEC.
-pub fn name_of<'a>(line: &'a [u8]) -> &'a [u8]
-    ensures { λ r. ⌜ now r ≡ nameOf (now (line .entry)) ⌝ }
-{
-    if scan::words::begins_with(line, 0, b"$SEC ") {
-        return scan::bytes::part(line, 5, 8);
-    }
-    scan::bytes::part(line, 0, 0)
 }
 
 // 3: "A line has no form above, a number literal exceeds ±2,000,000,000, or fields widen a line past 132 bytes."

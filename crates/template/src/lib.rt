@@ -14,7 +14,7 @@ ghost use Rattle.template.specs.Order.{sectionChecked, namesChecked, for
 pub mod bytes; // bytes.rt: check 2
 mod form; // form.rt: what a line is to the checks
 mod forms; // forms.rt: checks 3 and 4
-mod names; // names.rt: check 5
+mod repeats; // repeats.rt: check 5
 pub mod seek; // seek.rt: where a failed test, an executed $ELSE and a skipped table go on
 mod sections; // sections.rt: check 6
 
@@ -52,7 +52,7 @@ fn names_checked(template: &[u8], section: &[u8]) -> Checked
     requires { ⌜ length (now template) ≤ 32768 ⌝ }
     ensures { λ r. ⌜ r ≡ namesChecked (now (template .entry)) (now (section .entry)) ⌝ }
 {
-    let verdict = names::check(template);
+    let verdict = repeats::check(template);
     match verdict {
         Verdict::Fine => section_checked(template, section),
         Verdict::Fault(line) => Checked::Refused(Refusal::RepeatedSection, line),

@@ -1,7 +1,5 @@
 // 6: "The section asked for isn't there, or the name is empty and there is no $SEC."
 use crate::Run;
-use crate::form;
-use crate::names;
 ghost use mathlib.Core.Path.{_≡_};
 ghost use Prim.Native.Nat.{_+_, _<_, _≤_};
 ghost use lib.ListN.{length, drop};
@@ -23,7 +21,7 @@ pub enum Found {
 fn selects_line(name: &[u8], line: &[u8]) -> bool
     ensures { λ r. ⌜ r ≡ selects (now (name .entry)) (now (line .entry)) ⌝ }
 {
-    let other = form::name_of(line);
+    let other = names::name_of(line);
     if name.len() == 0 {
         return other.len() != 0;
     }

@@ -1,8 +1,8 @@
 use borrow.Author.Tests.{eq-eqb, ne-eqb}
 use Rattle.scan.specs.Words.{standsAt}
 use borrow.Author.Needs.{needs}
-use Rattle.template.proofs.names.same_bytes.Statement.{statement}
-use Rattle.template.proofs.names.same_bytes.Tie as tie
+use Rattle.names.proofs.same_bytes.Statement.{statement}
+use Rattle.names.proofs.same_bytes.Tie as tie
 
 returns : tie.Need-returns
 returns c = rw (ne-eqb _ _ (c .if1 .taken))

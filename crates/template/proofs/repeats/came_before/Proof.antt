@@ -2,8 +2,8 @@ use mathlib.Core.Path.{sym}
 use borrow.Author.Tests.{eq-eqb, ne-eqb}
 use Rattle.template.specs.Checks.{cameBefore}
 use borrow.Author.Needs.{needs}
-use Rattle.template.proofs.names.came_before.Statement.{statement}
-use Rattle.template.proofs.names.came_before.Tie as tie
+use Rattle.template.proofs.repeats.came_before.Statement.{statement}
+use Rattle.template.proofs.repeats.came_before.Tie as tie
 
 returns : tie.Need-returns
 unfolding cameBefore

@@ -1,35 +1,11 @@
 // 5: "A section name came before; the later line is named."
 use crate::Verdict;
-use crate::form;
 ghost use mathlib.Core.Path.{_≡_};
 ghost use mathlib.Core.Bool.{false};
 ghost use Prim.Native.Nat.{_≤_};
 ghost use lib.ListN.{length, take};
 ghost use Rattle.template.specs.Lines.{linesOf};
-ghost use Rattle.template.specs.Checks.{sameBytes, hasName, cameBefore, nameCheck};
-ghost use Rattle.template.specs.Keys.{keyOf};
-
-pub fn same_bytes(a: &[u8], b: &[u8]) -> bool
-    ensures { λ r. ⌜ r ≡ sameBytes (now (a .entry)) (now (b .entry)) ⌝ }
-{
-    if a.len() != b.len() {
-        return false;
-    }
-    scan::words::begins_with(b, 0, a)
-}
-
-// A name's key, below 8,192: the same for the same name.
-fn key_of(name: &[u8]) -> usize
-    ensures { λ r. ⌜ r ≡ keyOf (now (name .entry)) ⌝ }
-{
-    let mut key: usize = 0;
-    let mut i = 0;
-    while i < name.len() {
-        key = (key * 37 + scan::bytes::byte(name, i) as usize) % 8192;
-        i += 1;
-    }
-    key
-}
+ghost use Rattle.template.specs.Checks.{hasName, cameBefore, nameCheck};
 
 // Whether one of a template's first lines is the section of a name.
 fn has_name(template: &[u8], lines: u32, name: &[u8]) -> bool
@@ -43,8 +19,8 @@ fn has_name(template: &[u8], lines: u32, name: &[u8]) -> bool
             return false;
         }
         let line = scan::bytes::line_of(&template[at..]);
-        let other = form::name_of(line);
-        if same_bytes(name, other) {
+        let other = names::name_of(line);
+        if names::same_bytes(name, other) {
             return true;
         }
         at += line.len() + 1;
@@ -77,8 +53,8 @@ pub fn check(template: &[u8]) -> Verdict
     let mut noted = [0u8; 8192];
     while at < template.len() {
         let line = scan::bytes::line_of(&template[at..]);
-        let name = form::name_of(line);
-        let key = key_of(name);
+        let name = names::name_of(line);
+        let key = names::key_of(name);
         if came_before(template, lines, name, noted[key]) {
             return Verdict::Fault(lines + 1);
         }

@@ -1,9 +1,9 @@
 use mathlib.Core.Path.{sym, _∙_}
 use borrow.Author.Needs.{needs}
 use Rattle.scan.specs.Words.{standsAt}
-use Rattle.template.proofs.NameLaws.{named, unnamed}
-use Rattle.template.proofs.form.name_of.Statement.{statement}
-use Rattle.template.proofs.form.name_of.Tie as tie
+use Rattle.names.proofs.NameLaws.{named, unnamed}
+use Rattle.names.proofs.name_of.Statement.{statement}
+use Rattle.names.proofs.name_of.Tie as tie
 
 slice-aggregate-begins-with : tie.Need-slice-aggregate-begins-with
 slice-aggregate-begins-with c = search needs

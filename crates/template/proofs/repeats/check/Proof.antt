@@ -4,16 +4,17 @@ use mathlib.Core.Path.{_≡_, refl}
 use Prim.Native.Nat.{ℕ, _-_, _≤_, zero-le}
 use native.Mathlib.Omega.{arith}
 use lib.ListN.{length, take, drop, length-replicate}
+use Rattle.names.proofs.NameLaws.{key-bound}
 use Rattle.template.specs.Lines.{linesOf}
 use Rattle.template.specs.Walk.{walk}
 use Rattle.template.specs.Checks.{nameStep, nameEnd, nameCheck}
 use Rattle.template.proofs.LineLaws.{part-line}
 use Rattle.template.proofs.WalkLaws.{walk-end, walk-here, walk-later}
 use Rattle.template.proofs.NameLaws.{name-repeated, name-fresh}
-use Rattle.template.proofs.KeyLaws.{Noted, key-bound, none-noted, lines-on, noted-on}
+use Rattle.template.proofs.KeyLaws.{Noted, none-noted, lines-on, noted-on}
 use borrow.Author.Needs.{needs}
-use Rattle.template.proofs.names.check.Statement.{statement}
-use Rattle.template.proofs.names.check.Tie as tie
+use Rattle.template.proofs.repeats.check.Statement.{statement}
+use Rattle.template.proofs.repeats.check.Tie as tie
 
 abbrev Inv-loop : tie.InvT-loop
 Inv-loop template at₀ lines₀ noted₀ at lines noted = (walk (nameStep template) nameEnd lines lines (linesOf (drop at template)) ≡ nameCheck template) × (drop lines (linesOf template) ≡ linesOf (drop at template)) × (Noted noted (take lines (linesOf template))) × (lines ≤ at)

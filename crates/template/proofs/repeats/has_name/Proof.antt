@@ -7,8 +7,8 @@ use Rattle.template.specs.Checks.{hasName}
 use Rattle.template.proofs.LineLaws.{part-line}
 use Rattle.template.proofs.NameLaws.{name-none, name-passed, name-here, name-later}
 use borrow.Author.Needs.{needs}
-use Rattle.template.proofs.names.has_name.Statement.{statement}
-use Rattle.template.proofs.names.has_name.Tie as tie
+use Rattle.template.proofs.repeats.has_name.Statement.{statement}
+use Rattle.template.proofs.repeats.has_name.Tie as tie
 
 abbrev Inv-loop : tie.InvT-loop
 Inv-loop template lines name at₀ left₀ at left = hasName name (take left (linesOf (drop at template))) ≡ hasName name (take lines (linesOf template))

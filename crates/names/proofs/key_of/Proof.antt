@@ -3,11 +3,11 @@ use mathlib.Core.Path.{_≡_, refl}
 use Prim.Native.Nat.{_-_, _<_}
 use native.Mathlib.Omega.{arith}
 use lib.ListN.{length, drop}
-use Rattle.template.specs.Keys.{keyFrom, keyOf}
-use Rattle.template.proofs.KeyLaws.{key-end, key-more}
+use Rattle.names.specs.Name.{keyFrom, keyOf}
+use Rattle.names.proofs.NameLaws.{key-end, key-more}
 use borrow.Author.Needs.{needs}
-use Rattle.template.proofs.names.key_of.Statement.{statement}
-use Rattle.template.proofs.names.key_of.Tie as tie
+use Rattle.names.proofs.key_of.Statement.{statement}
+use Rattle.names.proofs.key_of.Tie as tie
 
 abbrev Inv-loop : tie.InvT-loop
 Inv-loop name key₀ i₀ key i = (keyFrom key (drop i name) ≡ keyOf name) × (key < 8192)

@@ -1,0 +1,66 @@
+-- Laws of the names of sections.
+use mathlib.Core.Path.{_≡_, refl, sym, ap, _∙_}
+use mathlib.Core.Bool.{Bool, true, false, false≢true}
+use mathlib.Core.List.{List, [], _∷_}
+use Prim.Native.Nat.{ℕ, _+_, _*_, _%_, _<_, _≤_}
+use native.Mathlib.Numerals.{add-one}
+use native.Mathlib.Omega.{arith}
+use borrow.Author.Tests.{eqb-true}
+use lib.Dec.{eqb}
+use lib.ListN.{length, drop, drop-of-length-le}
+use lib.Seq.{drop-cons}
+use Rattle.scan.specs.Line.{byteAt, window}
+use Rattle.scan.specs.Words.{begins}
+use Rattle.names.specs.Name.{sectionWord, nameOf, sameBytes, keyFrom, keyOf}
+
+-- a section's name, and the empty name of other lines
+module _ (l : List ℕ) (b : Bool) (q : b ≡ begins sectionWord l) where
+  pub named : b ≡ true → nameOf l ≡ window l 5 8
+  unfolding nameOf
+  named k = rw (← q, k)
+
+  pub unnamed : b ≡ false → nameOf l ≡ []
+  unfolding nameOf
+  unnamed k = rw (← q, k)
+
+-- ---- a key, byte by byte
+
+module _ (s : List ℕ) (k i : ℕ) {w : ℕ} (inv : keyFrom k (drop i s) ≡ w) where
+  pub key-end : length s ≤ i → k ≡ w
+  unfolding keyFrom
+  key-end h = sym (ap (keyFrom k) (drop-of-length-le s h)) ∙ inv
+
+  pub key-more : i < length s → (b : ℕ) → b ≡ byteAt s i → keyFrom ((k * 37 + b) % 8192) (drop (i + 1) s) ≡ w
+  unfolding keyFrom byteAt
+  key-more h b e = rw (e, add-one i) (sym (ap (keyFrom k) (drop-cons s i 0 h)) ∙ inv)
+
+key-below : (k : ℕ) (s : List ℕ) → k < 8192 → keyFrom k s < 8192
+unfolding keyFrom
+key-below k [] h = h
+key-below k (b ∷ s) h = key-below ((k * 37 + b) % 8192) s (omega arith)
+
+pub key-bound : (name : List ℕ) → keyOf name < 8192
+unfolding keyOf
+key-bound name = key-below 0 name (omega arith)
+
+-- ---- the same bytes are the same list
+
+same-begin : (a b : List ℕ) → length a ≡ length b → begins a b ≡ true → a ≡ b
+unfolding begins
+same-begin [] [] h e = refl
+same-begin [] (y ∷ b) h e = absurd (omega arith)
+same-begin (x ∷ a) [] h e = absurd (omega arith)
+same-begin (x ∷ a) (y ∷ b) h e = go (eqb x y) refl e (same-begin a b (omega arith))
+  where
+    go : (p : Bool) → eqb x y ≡ p → begins (x ∷ a) (y ∷ b) ≡ true → (begins a b ≡ true → a ≡ b) → x ∷ a ≡ y ∷ b
+    go true q k more = rw (eqb-true x y q, more (rw q at k))
+    go false q k more = absurd (false≢true (rw q at k))
+
+-- names with other keys are other names
+pub other-key : (a b : List ℕ) → (keyOf a ≡ keyOf b → ⊥) → sameBytes a b ≡ false
+other-key a b h = go (eqb (length a) (length b)) refl (begins a b) refl
+  where
+    go : (p : Bool) → eqb (length a) (length b) ≡ p → (q : Bool) → begins a b ≡ q → sameBytes a b ≡ false
+    go false k q e = rw k
+    go true k false e = rw (k, e)
+    go true k true e = absurd (h (ap keyOf (same-begin a b (eqb-true (length a) (length b) k) e)))

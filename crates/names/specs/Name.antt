@@ -1,0 +1,28 @@
+-- The names of sections. Assumes nothing.
+use mathlib.Core.Bool.{Bool, cond, _&&_}
+use mathlib.Core.List.{List, [], _∷_}
+use Prim.Native.Nat.{ℕ, _+_, _*_, _%_}
+use lib.Dec.{eqb}
+use lib.ListN.{length}
+use Rattle.scan.specs.Line.{window}
+use Rattle.scan.specs.Words.{begins}
+
+-- `$SEC` and the space before the name
+abbrev pub sectionWord : List ℕ
+sectionWord = 36 ∷ 83 ∷ 69 ∷ 67 ∷ 32 ∷ []
+
+-- "`$SEC name`", "Names are compared by their first eight characters". Empty where the line isn't $SEC. Of the lines that
+-- check 3 lets through, those that begin with `$SEC ` are the sections, and nothing stands behind the name
+unfoldable pub nameOf : List ℕ → List ℕ
+nameOf l = cond (begins sectionWord l) (window l 5 8) []
+
+abbrev pub sameBytes : List ℕ → List ℕ → Bool
+sameBytes a b = eqb (length a) (length b) && begins a b
+
+-- the key of some bytes behind others that had a key
+unfoldable pub keyFrom : ℕ → List ℕ → ℕ
+keyFrom k [] = k
+keyFrom k (b ∷ s) = keyFrom ((k * 37 + b) % 8192) s
+
+unfoldable pub keyOf : List ℕ → ℕ
+keyOf name = keyFrom 0 name
