@@ -2,8 +2,10 @@
 
 mod stack;
 mod store;
+mod template;
 mod time;
 
 fn main() {
     store::run();
+    template::run();
 }

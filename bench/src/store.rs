@@ -129,49 +129,52 @@ fn times(cells: u16) {
     let count = index(&store, store.len(), &mut places).expect("a store in form");
     let mut spare = places.clone();
     let q = |i: usize| questions[i % QUESTIONS];
-    let [lookup, called, plain, walked, checked, whole, theirs] = time::nanoseconds([
-        (20_000, &mut |i| {
-            let mut handed = Handed::default();
-            look_up(&store, &places, count, q(i), &mut handed);
-            black_box(&handed);
-        }),
-        (20_000, &mut |i| {
-            let (mut kind, mut value, mut place, mut length) = (0, 0, 0, 0);
-            let q = q(i);
-            binary_search_call(
-                store.as_ptr(),
-                store.len(),
-                places.as_ptr(),
-                places.len(),
-                count,
-                q.kind,
-                q.datasource,
-                q.parameter,
-                q.record,
-                q.entry,
-                &mut kind,
-                &mut value,
-                &mut place,
-                &mut length,
-            );
-            black_box((&kind, &value, &place, &length));
-        }),
-        (20_000, &mut |i| {
-            black_box(&binary_search(&store, &places[..count], q(i)));
-        }),
-        (1_000, &mut |i| {
-            black_box(walk(&store, q(i)));
-        }),
-        (100, &mut |_| {
-            black_box(index(&store, store.len(), &mut spare));
-        }),
-        (100, &mut |i| {
-            black_box(ask(&store, store.len(), q(i)));
-        }),
-        (100, &mut |i| {
-            black_box(second::ask(&store, store.len(), q(i)));
-        }),
-    ]);
+    let [lookup, called, plain, walked, checked, whole, theirs] = time::nanoseconds(
+        21,
+        [
+            (20_000, &mut |i| {
+                let mut handed = Handed::default();
+                look_up(&store, &places, count, q(i), &mut handed);
+                black_box(&handed);
+            }),
+            (20_000, &mut |i| {
+                let (mut kind, mut value, mut place, mut length) = (0, 0, 0, 0);
+                let q = q(i);
+                binary_search_call(
+                    store.as_ptr(),
+                    store.len(),
+                    places.as_ptr(),
+                    places.len(),
+                    count,
+                    q.kind,
+                    q.datasource,
+                    q.parameter,
+                    q.record,
+                    q.entry,
+                    &mut kind,
+                    &mut value,
+                    &mut place,
+                    &mut length,
+                );
+                black_box((&kind, &value, &place, &length));
+            }),
+            (20_000, &mut |i| {
+                black_box(&binary_search(&store, &places[..count], q(i)));
+            }),
+            (1_000, &mut |i| {
+                black_box(walk(&store, q(i)));
+            }),
+            (100, &mut |_| {
+                black_box(index(&store, store.len(), &mut spare));
+            }),
+            (100, &mut |i| {
+                black_box(ask(&store, store.len(), q(i)));
+            }),
+            (100, &mut |i| {
+                black_box(second::ask(&store, store.len(), q(i)));
+            }),
+        ],
+    );
     println!(
         "| {cells} | {:.2} | {:.2} | {:.3} | {:.2} | {:.2} | {:.2} |",
         lookup / called,

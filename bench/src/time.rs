@@ -3,8 +3,6 @@
 
 use std::time::Instant;
 
-const ROUNDS: usize = 21;
-
 /// Nanoseconds a call, over `calls` calls a round.
 fn round(calls: usize, call: &mut dyn FnMut(usize)) -> f64 {
     let start = Instant::now();
@@ -12,10 +10,13 @@ fn round(calls: usize, call: &mut dyn FnMut(usize)) -> f64 {
     start.elapsed().as_nanos() as f64 / calls as f64
 }
 
-/// The least time of each, so many calls of it a round.
-pub fn nanoseconds<const N: usize>(mut timed: [(usize, &mut dyn FnMut(usize)); N]) -> [f64; N] {
+/// The least time of each over so many rounds, so many calls of it a round.
+pub fn nanoseconds<const N: usize>(
+    rounds: usize,
+    mut timed: [(usize, &mut dyn FnMut(usize)); N],
+) -> [f64; N] {
     let mut least = [f64::INFINITY; N];
-    for _ in 0..ROUNDS {
+    for _ in 0..rounds {
         for (time, (calls, call)) in least.iter_mut().zip(&mut timed) {
             *time = time.min(round(*calls, *call));
         }
