@@ -1,2 +1,3 @@
 pub mod SignLaws
 pub mod ScaleLaws
+pub mod OnwardLaws

@@ -25,7 +25,7 @@ use Rattle.arguments.specs.declared.operand.Operand.the-variants.{Number, Integ
 use Rattle.arguments.specs.declared.operand.Operand.the-variants as operand
 use Rattle.arguments.specs.declared.operand.OperandRead.{OperandRead}
 use Rattle.arguments.specs.declared.operand.OperandRead.the-variants.{OperandTo, NoOperand}
-use Rattle.texts.specs.Text.{fitsFrom}
+use Rattle.texts.specs.Text.{textFits}
 use Rattle.lines.specs.declared.command.Operation.{Operation}
 use Rattle.lines.specs.declared.command.Operation.the-variants.{Assign, Add, Subtract, Multiply, Divide}
 use Rattle.lines.specs.declared.command.Target.{Target}
@@ -207,7 +207,7 @@ sectionAt l at =
 unfoldable pub headingOf : List ℕ → ℕ → ℕ → Line
 headingOf l at n =
     cond (leb (length l) at) (NoHeading n)
-    (cond (eqb (byteAt l at) 32) (cond (fitsFrom 133 l (at + 1) (at + 1)) (Heading n (at + 1)) NoForm) NoForm)
+    (cond (eqb (byteAt l at) 32) (cond (textFits l (at + 1)) (Heading n (at + 1)) NoForm) NoForm)
 
 -- "`$PHn text` (n 1–9, `$PH` is `$PH1`)"
 unfoldable pub headingNumber : List ℕ → ℕ → Numeral → Line
@@ -284,4 +284,4 @@ commandOf l NoWord = NoForm
 
 -- "A line beginning with `$` is a command: word, then arguments"; "Other lines are text, blank ones included"; 36 is `$`
 unfoldable pub parseLine : List ℕ → Line
-parseLine l = cond (eqb (byteAt l 0) 36) (commandOf l (wordAt commandWords l 1)) (cond (fitsFrom 133 l 0 0) Text NoForm)
+parseLine l = cond (eqb (byteAt l 0) 36) (commandOf l (wordAt commandWords l 1)) (cond (textFits l 0) Text NoForm)

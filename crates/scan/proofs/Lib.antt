@@ -1,3 +1,4 @@
 pub mod RunLaws
 pub mod DigitLaws
 pub mod WordLaws
+pub mod OnwardLaws

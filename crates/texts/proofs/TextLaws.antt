@@ -1,33 +1,38 @@
--- Laws of the loop that measures a text.
-use mathlib.Core.Path.{_≡_}
-use mathlib.Core.Bool.{false}
+-- Laws of the loop that measures a text: what the rest has behind `width` bytes, the whole has from its start.
+use mathlib.Core.Path.{_≡_, refl}
+use mathlib.Core.Bool.{true, false}
 use mathlib.Core.List.{List}
-use Prim.Native.Nat.{ℕ, suc, _+_, _-_, _<_, _≤_}
+use mathlib.Core.Option.{Option, none, some}
+use Prim.Native.Nat.{ℕ, _+_, _<_, _≤_}
 use native.Mathlib.Omega.{arith}
-use borrow.Author.Tests.{le-leb, lt-leb, lt-ltb, le-ltb}
-use lib.Dec.{leb}
+use borrow.Author.Tests.{le-leb, lt-leb}
 use lib.ListN.{length}
 use Rattle.texts.specs.declared.text.Piece.{Piece}
 use Rattle.texts.specs.declared.text.PieceRead.the-variants.{PieceTo, NoPiece}
-use Rattle.texts.specs.Text.{pieceAt, widthOf, fitsFrom}
+use Rattle.texts.specs.Text.{pieceAt, widthOf, totalWidth, before, textPieces, fitsBehind}
+use Rattle.texts.proofs.PieceLaws.{pieces-end, pieces-refused, pieces-more}
 
-module _ (n : ℕ) (l : List ℕ) (at width : ℕ) where
-  pub fits-zero : n ≤ 0 → fitsFrom n l at width ≡ false
-  unfolding fitsFrom
-  fits-zero h = let e : n ≡ 0 = omega arith in rw e
+-- what stands behind more than 132 bytes doesn't fit
+pub too-wide : (width : ℕ) (o : Option (List Piece)) → 132 < width → fitsBehind width o ≡ false
+unfolding fitsBehind
+too-wide width (some ps) h = lt-leb (width + totalWidth ps) 132 (omega arith)
+too-wide width none h = refl
 
-  pub fits-end : 0 < n → length l ≤ at → fitsFrom n l at width ≡ leb width 132
-  unfolding fitsFrom
-  fits-end h k = let e : n ≡ suc (n - 1) = omega arith in rw (e, le-leb _ _ k)
+-- a piece's width goes to what stands before the rest
+piece-passed : (width : ℕ) (p : Piece) (o : Option (List Piece)) → fitsBehind width (before p o) ≡ fitsBehind (width + widthOf p) o
+unfolding fitsBehind before totalWidth
+piece-passed width p (some ps) =
+    let e : width + (widthOf p + totalWidth ps) ≡ width + widthOf p + totalWidth ps = omega arith in rw e
+piece-passed width p none = refl
 
-  pub fits-refused : 0 < n → at < length l → pieceAt l at ≡ NoPiece → fitsFrom n l at width ≡ false
-  unfolding fitsFrom
-  fits-refused h k q = let e : n ≡ suc (n - 1) = omega arith in rw (e, lt-leb _ _ k, q)
+module _ (l : List ℕ) (at width : ℕ) where
+  pub fits-end : width ≤ 132 → length l ≤ at → fitsBehind width (textPieces l at) ≡ true
+  unfolding fitsBehind totalWidth
+  fits-end w h = rw (pieces-end l at h) (le-leb (width + 0) 132 (omega arith))
 
-  pub fits-wide : (p : Piece) (next : ℕ) → 0 < n → at < length l → pieceAt l at ≡ PieceTo p next → 132 < width + widthOf p → fitsFrom n l at width ≡ false
-  unfolding fitsFrom
-  fits-wide p next h k q w = let e : n ≡ suc (n - 1) = omega arith in rw (e, lt-leb _ _ k, q, lt-ltb _ _ w)
+  pub fits-refused : at < length l → pieceAt l at ≡ NoPiece → fitsBehind width (textPieces l at) ≡ false
+  unfolding fitsBehind
+  fits-refused h e = rw (pieces-refused l at h e)
 
-  pub fits-more : (p : Piece) (next : ℕ) → 0 < n → at < length l → pieceAt l at ≡ PieceTo p next → width + widthOf p ≤ 132 → fitsFrom n l at width ≡ fitsFrom (n - 1) l next (width + widthOf p)
-  unfolding fitsFrom
-  fits-more p next h k q w = let e : n ≡ suc (n - 1) = omega arith in rw (e, lt-leb _ _ k, q, le-ltb _ _ w) (let z : suc (n - 1) - 1 ≡ n - 1 = omega arith in rw z)
+  pub fits-more : (p : Piece) (next : ℕ) → at < length l → pieceAt l at ≡ PieceTo p next → fitsBehind width (textPieces l at) ≡ fitsBehind (width + widthOf p) (textPieces l next)
+  fits-more p next h e = rw (pieces-more l at p next h e) (piece-passed width p (textPieces l next))

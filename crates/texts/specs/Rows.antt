@@ -17,7 +17,7 @@ use Rattle.texts.specs.declared.text.Places.the-variants.{Unsaid, Said}
 use Rattle.texts.specs.declared.text.FieldRead.the-variants.{FieldTo, NoField}
 use Rattle.texts.specs.declared.text.Piece.the-variants.{Placed}
 use Rattle.texts.specs.declared.text.PieceRead.the-variants.{PieceTo}
-use Rattle.texts.specs.Text.{placesAt, placesOf, widthNext, fieldOf, fieldAt, placed, pieceAt, widthOf, fitsFrom}
+use Rattle.texts.specs.Text.{placesAt, placesOf, widthNext, fieldOf, fieldAt, placed, pieceAt, widthOf, totalWidth, before, piecesWithin, textPieces, fitsBehind, textFits}
 
 -- the integer 1
 abbrev one : Argument
@@ -37,12 +37,12 @@ Rows =
     -- a field ends where its form ends, whatever its string holds
     × (pieceAt (123 ∷ 34 ∷ 125 ∷ 123 ∷ 34 ∷ 44 ∷ 50 ∷ 125 ∷ []) 0 ≡ PieceTo (Placed (record { argument = record { operand = operand.Text 2 4; filter = Unfiltered }; width = 2; places = Unsaid })) 8)
     -- a closing brace in plain text
-    × (fitsFrom 133 (97 ∷ 125 ∷ []) 0 0 ≡ false)
+    × (textFits (97 ∷ 125 ∷ []) 0 ≡ false)
     -- four fields of 32 with 4 and with 5 bytes more
-    × (fitsFrom 133 (123 ∷ 49 ∷ 44 ∷ 51 ∷ 50 ∷ 125 ∷ 123 ∷ 49 ∷ 44 ∷ 51 ∷ 50 ∷ 125 ∷ 123 ∷ 49 ∷ 44 ∷ 51 ∷ 50 ∷ 125 ∷ 123 ∷ 49 ∷ 44 ∷ 51 ∷ 50 ∷ 125 ∷ 97 ∷ 98 ∷ 99 ∷ 100 ∷ []) 0 0 ≡ true)
-    × (fitsFrom 133 (123 ∷ 49 ∷ 44 ∷ 51 ∷ 50 ∷ 125 ∷ 123 ∷ 49 ∷ 44 ∷ 51 ∷ 50 ∷ 125 ∷ 123 ∷ 49 ∷ 44 ∷ 51 ∷ 50 ∷ 125 ∷ 123 ∷ 49 ∷ 44 ∷ 51 ∷ 50 ∷ 125 ∷ 97 ∷ 98 ∷ 99 ∷ 100 ∷ 101 ∷ []) 0 0 ≡ false)
+    × (textFits (123 ∷ 49 ∷ 44 ∷ 51 ∷ 50 ∷ 125 ∷ 123 ∷ 49 ∷ 44 ∷ 51 ∷ 50 ∷ 125 ∷ 123 ∷ 49 ∷ 44 ∷ 51 ∷ 50 ∷ 125 ∷ 123 ∷ 49 ∷ 44 ∷ 51 ∷ 50 ∷ 125 ∷ 97 ∷ 98 ∷ 99 ∷ 100 ∷ []) 0 ≡ true)
+    × (textFits (123 ∷ 49 ∷ 44 ∷ 51 ∷ 50 ∷ 125 ∷ 123 ∷ 49 ∷ 44 ∷ 51 ∷ 50 ∷ 125 ∷ 123 ∷ 49 ∷ 44 ∷ 51 ∷ 50 ∷ 125 ∷ 123 ∷ 49 ∷ 44 ∷ 51 ∷ 50 ∷ 125 ∷ 97 ∷ 98 ∷ 99 ∷ 100 ∷ 101 ∷ []) 0 ≡ false)
 
 -- The rows hold.
 pub rows : Rows
-unfolding belongs span byteAt valueFrom digitsAt numberAt unsignedAt literalAt stringAt numberOr operandAt argumentOf argumentAt placesAt placesOf widthNext fieldOf fieldAt placed pieceAt widthOf fitsFrom
+unfolding belongs span byteAt valueFrom digitsAt numberAt unsignedAt literalAt stringAt numberOr operandAt argumentOf argumentAt placesAt placesOf widthNext fieldOf fieldAt placed pieceAt widthOf totalWidth before piecesWithin textPieces fitsBehind textFits
 rows = (refl, refl, refl, refl, refl, refl, refl, refl, refl, refl, refl)

@@ -1,6 +1,7 @@
 -- The fields of texts and headings. Assumes nothing.
 use mathlib.Core.Bool.{Bool, false, cond}
-use mathlib.Core.List.{List}
+use mathlib.Core.List.{List, [], _∷_}
+use mathlib.Core.Option.{Option, none, some}
 use Prim.Native.Nat.{ℕ, zero, suc, _+_}
 use lib.Dec.{ltb, leb, eqb}
 use lib.ListN.{length}
@@ -66,13 +67,33 @@ unfoldable pub widthOf : Piece → ℕ
 widthOf (Plain b) = 1
 widthOf (Placed f) = f .width
 
--- "a line, command word included, has at most 132 bytes": the rest of a line from a place on, behind `width` bytes.
--- A piece is at least one byte wide, so more pieces than n, where 132 are allowed, are too wide.
-unfoldable pub fitsFrom : ℕ → List ℕ → ℕ → ℕ → Bool
-fitsFrom zero l at width = false
-fitsFrom (suc n) l at width =
-    cond (leb (length l) at) (leb width 132)
+unfoldable pub totalWidth : List Piece → ℕ
+totalWidth [] = 0
+totalWidth (p ∷ ps) = widthOf p + totalWidth ps
+
+unfoldable pub before : Piece → Option (List Piece) → Option (List Piece)
+before p (some ps) = some (p ∷ ps)
+before p none = none
+
+-- at most n pieces of a line from a place on, or none where something is neither a byte nor a field
+unfoldable pub piecesWithin : ℕ → List ℕ → ℕ → Option (List Piece)
+piecesWithin zero l at = some []
+piecesWithin (suc n) l at =
+    cond (leb (length l) at) (some [])
     (elim (pieceAt l at) [
-      | PieceTo p next ↦ cond (ltb 132 (width + widthOf p)) false (fitsFrom n l next (width + widthOf p))
-      | NoPiece ↦ false
+      | PieceTo p next ↦ before p (piecesWithin n l next)
+      | NoPiece ↦ none
     ])
+
+-- a text has no more pieces than its line has bytes
+unfoldable pub textPieces : List ℕ → ℕ → Option (List Piece)
+textPieces l from = piecesWithin (length l) l from
+
+-- behind `width` bytes: "at most 132 bytes"
+unfoldable pub fitsBehind : ℕ → Option (List Piece) → Bool
+fitsBehind width (some ps) = leb (width + totalWidth ps) 132
+fitsBehind width none = false
+
+-- "With fields at width w a line, command word included, has at most 132 bytes": the text starts at `from`
+unfoldable pub textFits : List ℕ → ℕ → Bool
+textFits l from = fitsBehind from (textPieces l from)

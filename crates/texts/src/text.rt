@@ -6,7 +6,7 @@ use scan::bytes;
 use scan::digits;
 use scan::digits::Numeral;
 ghost use mathlib.Core.Path.{_≡_};
-ghost use Rattle.texts.specs.Text.{placesAt, fieldAt, pieceAt, widthOf, fitsFrom};
+ghost use Rattle.texts.specs.Text.{placesAt, fieldAt, pieceAt, widthOf, textFits};
 
 // `{argument,w}` says no places, `{argument,w.d}` says d.
 pub enum Places {
@@ -120,30 +120,25 @@ pub fn width_of(piece: Piece) -> usize
     }
 }
 
-// "With fields at width w a line, command word included, has at most 132 bytes." Each piece is at least one byte wide.
+// "With fields at width w a line, command word included, has at most 132 bytes": the text starts at `from`.
 pub fn text_fits(line: &[u8], from: usize) -> bool
-    ensures { λ r. ⌜ r ≡ fitsFrom 133 (now (line .entry)) from from ⌝ }
+    ensures { λ r. ⌜ r ≡ textFits (now (line .entry)) from ⌝ }
 {
+    if 132 < from {
+        return false;
+    }
     let mut at = from;
     let mut width = from;
-    let mut left: usize = 133;
-    while 0 < left {
-        if line.len() <= at {
-            return width <= 132;
-        }
+    while at < line.len() {
         let PieceRead::PieceTo(piece, next) = piece_at(line, at) else {
             return false;
         };
         let w = width_of(piece);
-        if 132 < width {
-            return false;
-        }
         if 132 - width < w {
             return false;
         }
         width += w;
         at = next;
-        left -= 1;
     }
-    false
+    true
 }
