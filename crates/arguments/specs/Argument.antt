@@ -1,11 +1,12 @@
 -- Operands with filters. Assumes nothing.
 use mathlib.Core.Bool.{Bool, true, cond}
-use mathlib.Core.List.{List, [], _∷_}
+use mathlib.Core.List.{List}
 use Prim.Native.Nat.{ℕ, _+_}
 use lib.Dec.{ltb, eqb}
 use Rattle.scan.specs.declared.words.WordRead.{WordRead}
 use Rattle.scan.specs.declared.words.WordRead.the-variants.{Word, NoWord}
-use Rattle.scan.specs.Line.{byteAt}
+use Rattle.scan.specs.Ascii.{ascii}
+use Rattle.scan.specs.Line.{byteIs}
 use Rattle.scan.specs.Words.{wordAt}
 use Rattle.arguments.specs.declared.operand.Operand.{Operand}
 use Rattle.arguments.specs.declared.operand.Operand.the-variants.{Number, Text, IntegerVariable, DecimalVariable, StringVariable, PageNumber, LineNumber, LoopCounter, RecordElement, EntryElement, Parameter, Record, Entry}
@@ -17,16 +18,8 @@ use Rattle.arguments.specs.declared.argument.ArgumentRead.{ArgumentRead}
 use Rattle.arguments.specs.declared.argument.ArgumentRead.the-variants.{ArgumentTo, NoArgument}
 use Rattle.arguments.specs.Operand.{operandAt}
 
--- ABS INT UPPER LEN RECCNT ENTCNT
 abbrev pub filterNames : List ℕ
-filterNames =
-    65 ∷ 66 ∷ 83 ∷ 32 ∷ 32 ∷ 32 ∷ 32 ∷ 32 ∷
-    73 ∷ 78 ∷ 84 ∷ 32 ∷ 32 ∷ 32 ∷ 32 ∷ 32 ∷
-    85 ∷ 80 ∷ 80 ∷ 69 ∷ 82 ∷ 32 ∷ 32 ∷ 32 ∷
-    76 ∷ 69 ∷ 78 ∷ 32 ∷ 32 ∷ 32 ∷ 32 ∷ 32 ∷
-    82 ∷ 69 ∷ 67 ∷ 67 ∷ 78 ∷ 84 ∷ 32 ∷ 32 ∷
-    69 ∷ 78 ∷ 84 ∷ 67 ∷ 78 ∷ 84 ∷ 32 ∷ 32 ∷
-    []
+filterNames = ascii "ABS     INT     UPPER   LEN     RECCNT  ENTCNT  "
 
 unfoldable pub filterOf : ℕ → Filter
 filterOf k =
@@ -62,10 +55,10 @@ filteredOf o (Word k next) =
     cond (admitted o k) (ArgumentTo (record { operand = o; filter = filterOf k }) next) NoArgument
 filteredOf o NoWord = NoArgument
 
--- "One filter may follow"; 124 is `|`
+-- "One filter may follow"
 unfoldable pub argumentOf : List ℕ → OperandRead → ArgumentRead
 argumentOf l (OperandTo o next) =
-    cond (eqb (byteAt l next) 124) (filteredOf o (wordAt filterNames l (next + 1)))
+    cond (byteIs l next "|") (filteredOf o (wordAt filterNames l (next + 1)))
     (ArgumentTo (record { operand = o; filter = Unfiltered }) next)
 argumentOf l NoOperand = NoArgument
 

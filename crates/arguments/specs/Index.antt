@@ -1,23 +1,22 @@
 -- Indexes. Assumes nothing.
 use mathlib.Core.Bool.{cond}
-use mathlib.Core.List.{List, [], _∷_}
+use mathlib.Core.List.{List}
 use Prim.Native.Nat.{ℕ, _+_}
 use lib.Dec.{eqb}
 use Rattle.scan.specs.declared.digits.Numeral.{Numeral}
 use Rattle.scan.specs.declared.digits.Numeral.the-variants.{Value, NoNumeral}
+use Rattle.scan.specs.Ascii.{ascii}
 use Rattle.scan.specs.Digits.{digitsAt, numberAt}
 use Rattle.scan.specs.Words.{standsAt}
 use Rattle.arguments.specs.declared.index.Index.the-variants.{Fixed, Variable, Loop}
 use Rattle.arguments.specs.declared.index.IndexRead.{IndexRead}
 use Rattle.arguments.specs.declared.index.IndexRead.the-variants.{IndexTo, NoIndex}
 
--- LOOP
 abbrev pub loopWord : List ℕ
-loopWord = 76 ∷ 79 ∷ 79 ∷ 80 ∷ []
+loopWord = ascii "LOOP"
 
--- IV
 abbrev pub variableWord : List ℕ
-variableWord = 73 ∷ 86 ∷ []
+variableWord = ascii "IV"
 
 -- "IVn .. (n 1–99)"
 unfoldable pub variableIndex : Numeral → IndexRead

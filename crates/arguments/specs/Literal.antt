@@ -7,7 +7,7 @@ use Rattle.numbers.specs.declared.Quantity.the-variants.{Integer, Decimal}
 use Rattle.numbers.specs.Sign.{signed}
 use Rattle.numbers.specs.Range.{integerLimit, decimalLimit}
 use Rattle.scan.specs.declared.digits.Digits.{Digits}
-use Rattle.scan.specs.Line.{byteAt}
+use Rattle.scan.specs.Line.{byteIs}
 use Rattle.scan.specs.Digits.{digitsAt}
 use Rattle.arguments.specs.declared.literal.LiteralRead.{LiteralRead}
 use Rattle.arguments.specs.declared.literal.LiteralRead.the-variants.{LiteralTo, NoLiteral}
@@ -23,15 +23,15 @@ fractionAt l at negative whole =
     (cond (ltb decimalLimit (inMillionths whole (digitsAt l at 6))) NoLiteral
     (LiteralTo (Decimal (signed negative (inMillionths whole (digitsAt l at 6)))) (at + digitsAt l at 6 .count)))
 
--- "1–10 digits", a point behind them making it a decimal; 46 is the point
+-- "1–10 digits", a point behind them making it a decimal
 unfoldable pub unsignedAt : List ℕ → ℕ → Bool → LiteralRead
 unsignedAt l at negative =
     cond (eqb (digitsAt l at 10 .count) 0) NoLiteral
-    (cond (eqb (byteAt l (at + digitsAt l at 10 .count)) 46)
+    (cond (byteIs l (at + digitsAt l at 10 .count) ".")
     (fractionAt l (at + digitsAt l at 10 .count + 1) negative (digitsAt l at 10 .value))
     (cond (ltb integerLimit (digitsAt l at 10 .value)) NoLiteral
     (LiteralTo (Integer (signed negative (digitsAt l at 10 .value))) (at + digitsAt l at 10 .count))))
 
--- "an integer (optional `-`, 1–10 digits); a decimal (the same, a point, 1–6 digits)"; 45 is `-`
+-- "an integer (optional `-`, 1–10 digits); a decimal (the same, a point, 1–6 digits)"
 unfoldable pub literalAt : List ℕ → ℕ → LiteralRead
-literalAt l at = cond (eqb (byteAt l at) 45) (unsignedAt l (at + 1) true) (unsignedAt l at false)
+literalAt l at = cond (byteIs l at "-") (unsignedAt l (at + 1) true) (unsignedAt l at false)

@@ -1,6 +1,6 @@
 -- What stands before a filter. Assumes nothing.
 use mathlib.Core.Bool.{cond}
-use mathlib.Core.List.{List, [], _∷_}
+use mathlib.Core.List.{List}
 use Prim.Native.Nat.{ℕ, _+_}
 use lib.Dec.{ltb, eqb}
 use lib.ListN.{length}
@@ -10,7 +10,8 @@ use Rattle.scan.specs.declared.digits.Numeral.the-variants.{Value, NoNumeral}
 use Rattle.scan.specs.declared.words.WordRead.{WordRead}
 use Rattle.scan.specs.declared.words.WordRead.the-variants.{Word, NoWord}
 use Rattle.scan.specs.Run.{span}
-use Rattle.scan.specs.Line.{byteAt, window}
+use Rattle.scan.specs.Ascii.{ascii}
+use Rattle.scan.specs.Line.{byteIs, window}
 use Rattle.scan.specs.Digits.{numberAt}
 use Rattle.scan.specs.Words.{wordAt}
 use Rattle.arguments.specs.declared.index.Index.{Index}
@@ -29,39 +30,28 @@ use Rattle.arguments.specs.Index.{indexAt}
 abbrev pub stringEnd : List ℕ → ℕ → ℕ
 stringEnd l at = at + length (span InString (window l at 16))
 
--- "a string in double quotes", behind the first; 34 is the quote
+-- "a string in double quotes", behind the first
 unfoldable pub stringAt : List ℕ → ℕ → OperandRead
-stringAt l at = cond (eqb (byteAt l (stringEnd l at)) 34) (OperandTo (Text at (stringEnd l at)) (stringEnd l at + 1)) NoOperand
+stringAt l at = cond (byteIs l (stringEnd l at) "\"") (OperandTo (Text at (stringEnd l at)) (stringEnd l at + 1)) NoOperand
 
--- "a cell Pn, Pn.r or Pn.r.e, n 1–65,535", behind the P; 46 is the point
+-- "a cell Pn, Pn.r or Pn.r.e, n 1–65,535", behind the P
 unfoldable pub entryOf : ℕ → Index → IndexRead → OperandRead
 entryOf n r (IndexTo e next) = OperandTo (Entry n r e) next
 entryOf n r NoIndex = NoOperand
 
 unfoldable pub recordOf : List ℕ → ℕ → IndexRead → OperandRead
-recordOf l n (IndexTo r next) = cond (eqb (byteAt l next) 46) (entryOf n r (indexAt l (next + 1))) (OperandTo (Record n r) next)
+recordOf l n (IndexTo r next) = cond (byteIs l next ".") (entryOf n r (indexAt l (next + 1))) (OperandTo (Record n r) next)
 recordOf l n NoIndex = NoOperand
 
 unfoldable pub cellOf : List ℕ → Numeral → OperandRead
-cellOf l (Value n next) = cond (eqb (byteAt l next) 46) (recordOf l n (indexAt l (next + 1))) (OperandTo (Parameter n) next)
+cellOf l (Value n next) = cond (byteIs l next ".") (recordOf l n (indexAt l (next + 1))) (OperandTo (Parameter n) next)
 cellOf l NoNumeral = NoOperand
 
 unfoldable pub cellAt : List ℕ → ℕ → OperandRead
 cellAt l at = cellOf l (numberAt l at 65535)
 
--- PAGENUM LINENUM LOOP IV FV SV R T P
 abbrev pub names : List ℕ
-names =
-    80 ∷ 65 ∷ 71 ∷ 69 ∷ 78 ∷ 85 ∷ 77 ∷ 32 ∷
-    76 ∷ 73 ∷ 78 ∷ 69 ∷ 78 ∷ 85 ∷ 77 ∷ 32 ∷
-    76 ∷ 79 ∷ 79 ∷ 80 ∷ 32 ∷ 32 ∷ 32 ∷ 32 ∷
-    73 ∷ 86 ∷ 32 ∷ 32 ∷ 32 ∷ 32 ∷ 32 ∷ 32 ∷
-    70 ∷ 86 ∷ 32 ∷ 32 ∷ 32 ∷ 32 ∷ 32 ∷ 32 ∷
-    83 ∷ 86 ∷ 32 ∷ 32 ∷ 32 ∷ 32 ∷ 32 ∷ 32 ∷
-    82 ∷ 32 ∷ 32 ∷ 32 ∷ 32 ∷ 32 ∷ 32 ∷ 32 ∷
-    84 ∷ 32 ∷ 32 ∷ 32 ∷ 32 ∷ 32 ∷ 32 ∷ 32 ∷
-    80 ∷ 32 ∷ 32 ∷ 32 ∷ 32 ∷ 32 ∷ 32 ∷ 32 ∷
-    []
+names = ascii "PAGENUM LINENUM LOOP    IV      FV      SV      R       T       P       "
 
 -- "IVn, FVn, SVn"; "Rn, Tn"
 unfoldable pub numbered : ℕ → ℕ → Operand
@@ -103,4 +93,4 @@ numberOr other NoLiteral = other
 
 -- "Arguments: an integer; a decimal; a string; IVn, FVn, SVn; PAGENUM; LINENUM; LOOP; Rn, Tn; a cell"
 unfoldable pub operandAt : List ℕ → ℕ → OperandRead
-operandAt l at = cond (eqb (byteAt l at) 34) (stringAt l (at + 1)) (numberOr (namedAt l at) (literalAt l at))
+operandAt l at = cond (byteIs l at "\"") (stringAt l (at + 1)) (numberOr (namedAt l at) (literalAt l at))

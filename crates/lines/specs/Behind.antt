@@ -1,11 +1,10 @@
--- "word, then arguments, one space before each"; 32 is the space. Assumes nothing.
+-- "word, then arguments, one space before each". Assumes nothing.
 use mathlib.Core.Bool.{cond}
 use mathlib.Core.List.{List}
 use Prim.Native.Nat.{ℕ, _+_}
-use lib.Dec.{eqb}
 use Rattle.scan.specs.declared.digits.Numeral.{Numeral}
 use Rattle.scan.specs.declared.digits.Numeral.the-variants.{NoNumeral}
-use Rattle.scan.specs.Line.{byteAt}
+use Rattle.scan.specs.Line.{byteIs}
 use Rattle.scan.specs.Digits.{numberAt}
 use Rattle.arguments.specs.declared.argument.ArgumentRead.{ArgumentRead}
 use Rattle.arguments.specs.declared.argument.ArgumentRead.the-variants.{NoArgument}
@@ -18,18 +17,18 @@ use Rattle.arguments.specs.Operand.{operandAt}
 use Rattle.arguments.specs.Index.{indexAt}
 
 unfoldable pub argumentBehind : List ℕ → ℕ → ArgumentRead
-argumentBehind l at = cond (eqb (byteAt l at) 32) (argumentAt l (at + 1)) NoArgument
+argumentBehind l at = cond (byteIs l at " ") (argumentAt l (at + 1)) NoArgument
 
 unfoldable pub operandBehind : List ℕ → ℕ → OperandRead
-operandBehind l at = cond (eqb (byteAt l at) 32) (operandAt l (at + 1)) NoOperand
+operandBehind l at = cond (byteIs l at " ") (operandAt l (at + 1)) NoOperand
 
 unfoldable pub indexBehind : List ℕ → ℕ → IndexRead
-indexBehind l at = cond (eqb (byteAt l at) 32) (indexAt l (at + 1)) NoIndex
+indexBehind l at = cond (byteIs l at " ") (indexAt l (at + 1)) NoIndex
 
 unfoldable pub numberBehind : List ℕ → ℕ → ℕ → Numeral
-numberBehind l at limit = cond (eqb (byteAt l at) 32) (numberAt l (at + 1) limit) NoNumeral
+numberBehind l at limit = cond (byteIs l at " ") (numberAt l (at + 1) limit) NoNumeral
 
--- $REC's parameter: Pm without a filter; 80 is P
+-- $REC's parameter: Pm without a filter
 unfoldable pub parameterBehind : List ℕ → ℕ → Numeral
 parameterBehind l at =
-    cond (eqb (byteAt l at) 32) (cond (eqb (byteAt l (at + 1)) 80) (numberAt l (at + 2) 65535) NoNumeral) NoNumeral
+    cond (byteIs l at " ") (cond (byteIs l (at + 1) "P") (numberAt l (at + 2) 65535) NoNumeral) NoNumeral

@@ -1,7 +1,7 @@
 -- "Commands". A command's definition takes the line and the place behind its word, and k, the word's number in the table.
 -- Assumes nothing.
 use mathlib.Core.Bool.{cond}
-use mathlib.Core.List.{List, [], _∷_}
+use mathlib.Core.List.{List}
 use Prim.Native.Nat.{ℕ, _+_}
 use lib.Dec.{ltb, leb, eqb}
 use lib.ListN.{length}
@@ -10,9 +10,10 @@ use Rattle.scan.specs.declared.digits.Numeral.{Numeral}
 use Rattle.scan.specs.declared.digits.Numeral.the-variants.{Value, NoNumeral}
 use Rattle.scan.specs.declared.words.WordRead.{WordRead}
 use Rattle.scan.specs.declared.words.WordRead.the-variants.{Word, NoWord}
+use Rattle.scan.specs.Ascii.{ascii}
 use Rattle.scan.specs.Run.{span}
 use Rattle.scan.specs.Words.{wordAt}
-use Rattle.scan.specs.Line.{byteAt, window}
+use Rattle.scan.specs.Line.{byteIs, window}
 use Rattle.scan.specs.Digits.{numberAt}
 use Rattle.arguments.specs.declared.argument.Argument.{Argument}
 use Rattle.arguments.specs.declared.argument.ArgumentRead.{ArgumentRead}
@@ -198,7 +199,7 @@ nameLength l at = length (span InName (window l at 16))
 
 unfoldable pub sectionAt : List ℕ → ℕ → Line
 sectionAt l at =
-    cond (eqb (byteAt l at) 32)
+    cond (byteIs l at " ")
     (cond (eqb (nameLength l (at + 1)) 0) NoForm
     (ending l (at + 1 + nameLength l (at + 1)) (Section (at + 1) (at + 1 + nameLength l (at + 1)))))
     NoForm
@@ -207,7 +208,7 @@ sectionAt l at =
 unfoldable pub headingOf : List ℕ → ℕ → ℕ → Line
 headingOf l at n =
     cond (leb (length l) at) (NoHeading n)
-    (cond (eqb (byteAt l at) 32) (cond (textFits l (at + 1)) (Heading n (at + 1)) NoForm) NoForm)
+    (cond (byteIs l at " ") (cond (textFits l (at + 1)) (Heading n (at + 1)) NoForm) NoForm)
 
 -- "`$PHn text` (n 1–9, `$PH` is `$PH1`)"
 unfoldable pub headingNumber : List ℕ → ℕ → Numeral → Line
@@ -219,43 +220,12 @@ headingAt l at = headingNumber l at (numberAt l at 9)
 
 -- "`$REM`, alone or with a space and any text, unread"
 unfoldable pub remarkAt : List ℕ → ℕ → Line
-remarkAt l at = cond (leb (length l) at) Remark (cond (eqb (byteAt l at) 32) Remark NoForm)
+remarkAt l at = cond (leb (length l) at) Remark (cond (byteIs l at " ") Remark NoForm)
 
--- The table of the words, a longer word before those it begins with:
---  0 SETDS SETE SETA SETS SETM SETD
---  6 IFEQSS IFEQSI IFEQ IFNE IFLT IFLE IFGT IFGE
--- 14 IFNOT IF ELSE ENDIF NOFF BT ET NP
--- 22 REC TBL SEC PH REM
+-- the words, a longer one before those it begins with: $SETDS is 0, $IFEQSS 6, $IFNOT 14, $ELSE 16, $BT 19, $REC 22
 abbrev pub commandWords : List ℕ
 commandWords =
-    83 ∷ 69 ∷ 84 ∷ 68 ∷ 83 ∷ 32 ∷ 32 ∷ 32 ∷
-    83 ∷ 69 ∷ 84 ∷ 69 ∷ 32 ∷ 32 ∷ 32 ∷ 32 ∷
-    83 ∷ 69 ∷ 84 ∷ 65 ∷ 32 ∷ 32 ∷ 32 ∷ 32 ∷
-    83 ∷ 69 ∷ 84 ∷ 83 ∷ 32 ∷ 32 ∷ 32 ∷ 32 ∷
-    83 ∷ 69 ∷ 84 ∷ 77 ∷ 32 ∷ 32 ∷ 32 ∷ 32 ∷
-    83 ∷ 69 ∷ 84 ∷ 68 ∷ 32 ∷ 32 ∷ 32 ∷ 32 ∷
-    73 ∷ 70 ∷ 69 ∷ 81 ∷ 83 ∷ 83 ∷ 32 ∷ 32 ∷
-    73 ∷ 70 ∷ 69 ∷ 81 ∷ 83 ∷ 73 ∷ 32 ∷ 32 ∷
-    73 ∷ 70 ∷ 69 ∷ 81 ∷ 32 ∷ 32 ∷ 32 ∷ 32 ∷
-    73 ∷ 70 ∷ 78 ∷ 69 ∷ 32 ∷ 32 ∷ 32 ∷ 32 ∷
-    73 ∷ 70 ∷ 76 ∷ 84 ∷ 32 ∷ 32 ∷ 32 ∷ 32 ∷
-    73 ∷ 70 ∷ 76 ∷ 69 ∷ 32 ∷ 32 ∷ 32 ∷ 32 ∷
-    73 ∷ 70 ∷ 71 ∷ 84 ∷ 32 ∷ 32 ∷ 32 ∷ 32 ∷
-    73 ∷ 70 ∷ 71 ∷ 69 ∷ 32 ∷ 32 ∷ 32 ∷ 32 ∷
-    73 ∷ 70 ∷ 78 ∷ 79 ∷ 84 ∷ 32 ∷ 32 ∷ 32 ∷
-    73 ∷ 70 ∷ 32 ∷ 32 ∷ 32 ∷ 32 ∷ 32 ∷ 32 ∷
-    69 ∷ 76 ∷ 83 ∷ 69 ∷ 32 ∷ 32 ∷ 32 ∷ 32 ∷
-    69 ∷ 78 ∷ 68 ∷ 73 ∷ 70 ∷ 32 ∷ 32 ∷ 32 ∷
-    78 ∷ 79 ∷ 70 ∷ 70 ∷ 32 ∷ 32 ∷ 32 ∷ 32 ∷
-    66 ∷ 84 ∷ 32 ∷ 32 ∷ 32 ∷ 32 ∷ 32 ∷ 32 ∷
-    69 ∷ 84 ∷ 32 ∷ 32 ∷ 32 ∷ 32 ∷ 32 ∷ 32 ∷
-    78 ∷ 80 ∷ 32 ∷ 32 ∷ 32 ∷ 32 ∷ 32 ∷ 32 ∷
-    82 ∷ 69 ∷ 67 ∷ 32 ∷ 32 ∷ 32 ∷ 32 ∷ 32 ∷
-    84 ∷ 66 ∷ 76 ∷ 32 ∷ 32 ∷ 32 ∷ 32 ∷ 32 ∷
-    83 ∷ 69 ∷ 67 ∷ 32 ∷ 32 ∷ 32 ∷ 32 ∷ 32 ∷
-    80 ∷ 72 ∷ 32 ∷ 32 ∷ 32 ∷ 32 ∷ 32 ∷ 32 ∷
-    82 ∷ 69 ∷ 77 ∷ 32 ∷ 32 ∷ 32 ∷ 32 ∷ 32 ∷
-    []
+    ascii "SETDS   SETE    SETA    SETS    SETM    SETD    IFEQSS  IFEQSI  IFEQ    IFNE    IFLT    IFLE    IFGT    IFGE    IFNOT   IF      ELSE    ENDIF   NOFF    BT      ET      NP      REC     TBL     SEC     PH      REM     "
 
 unfoldable pub calculationAt : List ℕ → ℕ → ℕ → Line
 calculationAt l at k = cond (eqb k 0) (datasourceAt l at) (cond (ltb k 6) (setAt l at k) (compareAt l at k))
@@ -282,6 +252,6 @@ unfoldable pub commandOf : List ℕ → WordRead → Line
 commandOf l (Word k next) = commandAt l next k
 commandOf l NoWord = NoForm
 
--- "A line beginning with `$` is a command: word, then arguments"; "Other lines are text, blank ones included"; 36 is `$`
+-- "A line beginning with `$` is a command: word, then arguments"; "Other lines are text, blank ones included"
 unfoldable pub parseLine : List ℕ → Line
-parseLine l = cond (eqb (byteAt l 0) 36) (commandOf l (wordAt commandWords l 1)) (cond (textFits l 0) Text NoForm)
+parseLine l = cond (byteIs l 0 "$") (commandOf l (wordAt commandWords l 1)) (cond (textFits l 0) Text NoForm)

@@ -1,17 +1,15 @@
 -- Laws of runs of bytes of a class, and of the loop that counts them.
-use mathlib.Core.Path.{_≡_, refl, ap, _∙_}
+use mathlib.Core.Path.{_≡_, refl, ap}
 use mathlib.Core.Bool.{Bool, true, false}
 use mathlib.Core.List.{List, [], _∷_}
 use Prim.Native.Nat.{ℕ, zero, suc, _+_, _-_, _<_, _≤_, zero-le}
 use native.Mathlib.Numerals.{add-one}
 use native.Mathlib.Omega.{arith}
-use lib.Dec.{eqb, eqb·zero-suc, eqb·suc-suc}
 use lib.ListN.{length, getD, take, drop, drop-of-length-le, length-take, length-drop}
 use lib.Seq.{drop-cons, take-nil}
 use Rattle.scan.specs.declared.run.Class.{Class}
-use Rattle.scan.specs.declared.run.Class.the-variants.{Allowed}
 use Rattle.scan.specs.Run.{belongs, span}
-use Rattle.scan.specs.Line.{allAllowed, byteAt}
+use Rattle.scan.specs.Line.{byteAt}
 
 module _ (class : Class) (l : List ℕ) (i : ℕ) where
   pub span-end : length l ≤ i → span class (drop i l) ≡ []
@@ -60,16 +58,6 @@ window-end l n at h = rw (drop-of-length-le l h) (take-nil n)
 pub run-within : (class : Class) (l : List ℕ) (at n : ℕ) → 0 < length (span class (take n (drop at l))) → at + length (span class (take n (drop at l))) ≤ length l
 run-within class l at n h =
     omega (arith, length-span class (take n (drop at l)), length-take n (drop at l), length-drop at l)
-
--- all bytes are allowed where the run of allowed ones is as long as the template
-pub all-is-whole : (t : List ℕ) → eqb (length (span Allowed t)) (length t) ≡ allAllowed t
-unfolding span allAllowed
-all-is-whole [] = refl
-all-is-whole (b ∷ t) = go (belongs Allowed b) refl (all-is-whole t)
-  where
-    go : (p : Bool) → belongs Allowed b ≡ p → eqb (length (span Allowed t)) (length t) ≡ allAllowed t → eqb (length (span Allowed (b ∷ t))) (length (b ∷ t)) ≡ allAllowed (b ∷ t)
-    go true e q = rw e (eqb·suc-suc (length (span Allowed t)) (length t) ∙ q)
-    go false e q = rw e (eqb·zero-suc (length t))
 
 -- a byte other than 0 lies in its line
 in-line : (l : List ℕ) (i : ℕ) → 0 < getD l i 0 → i < length l

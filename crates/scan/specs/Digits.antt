@@ -1,6 +1,7 @@
 -- Digits and numbers in a line. Assumes nothing.
 use mathlib.Core.Bool.{cond}
 use mathlib.Core.List.{List, [], _∷_}
+use Prim.Native.Char.{code}
 use Prim.Native.Nat.{ℕ, _+_, _-_, _*_}
 use lib.Dec.{ltb, leb, eqb}
 use lib.ListN.{length}
@@ -9,12 +10,12 @@ use Rattle.scan.specs.declared.digits.Digits.{Digits}
 use Rattle.scan.specs.declared.digits.Numeral.{Numeral}
 use Rattle.scan.specs.declared.digits.Numeral.the-variants.{Value, NoNumeral}
 use Rattle.scan.specs.Run.{span}
-use Rattle.scan.specs.Line.{byteAt, window}
+use Rattle.scan.specs.Line.{byteIs, window}
 
 -- the value of a row of digits behind a value read so far
 unfoldable pub valueFrom : ℕ → List ℕ → ℕ
 valueFrom v [] = v
-valueFrom v (d ∷ s) = valueFrom (v * 10 + (d - 48)) s
+valueFrom v (d ∷ s) = valueFrom (v * 10 + (d - code "0")) s
 
 abbrev pub valueOf : List ℕ → ℕ
 valueOf s = valueFrom 0 s
@@ -30,7 +31,7 @@ digitsAt l at most = digitsOf (window l at (cond (ltb 10 most) 10 most))
 -- a number from 1 to the limit, which is below 100,000: "Only literals and indexes may have leading zeros"
 unfoldable pub numberAt : List ℕ → ℕ → ℕ → Numeral
 numberAt l at limit =
-    cond (eqb (byteAt l at) 48) NoNumeral
+    cond (byteIs l at "0") NoNumeral
     (cond (eqb (digitsAt l at 5 .count) 0) NoNumeral
     (cond (leb (digitsAt l at 5 .value) limit) (Value (digitsAt l at 5 .value) (at + digitsAt l at 5 .count))
     NoNumeral))

@@ -1,3 +1,4 @@
+pub mod Ascii
 pub mod Run
 pub mod Line
 pub mod Digits

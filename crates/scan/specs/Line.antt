@@ -1,8 +1,9 @@
 -- The bytes and lines of a template. Assumes nothing.
 use mathlib.Core.Bool.{Bool, true, false, cond}
 use mathlib.Core.List.{List, [], _∷_}
+use Prim.Native.Char.{Char, code}
 use Prim.Native.Nat.{ℕ, _+_}
-use lib.Dec.{ltb}
+use lib.Dec.{eqb}
 use lib.ListN.{length, getD, take, drop}
 use Rattle.scan.specs.declared.run.Class.the-variants.{Allowed, InLine}
 use Rattle.scan.specs.Run.{belongs, span}
@@ -28,13 +29,12 @@ lineAt t at = lineOf (drop at t)
 abbrev pub nextLine : List ℕ → ℕ → ℕ
 nextLine t at = at + length (lineAt t at) + 1
 
--- "none begins after the final 0x0A"
-abbrev pub beginsLine : List ℕ → ℕ → Bool
-beginsLine t at = ltb at (length t)
-
 -- the byte at a place of a line; 0, which no form has, behind its end
 unfoldable pub byteAt : List ℕ → ℕ → ℕ
 byteAt l at = getD l at 0
+
+abbrev pub byteIs : List ℕ → ℕ → Char → Bool
+byteIs l at c = eqb (byteAt l at) (code c)
 
 -- at most n bytes of a line from a place on
 abbrev pub window : List ℕ → ℕ → ℕ → List ℕ

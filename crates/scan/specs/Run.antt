@@ -1,6 +1,7 @@
 -- Classes of bytes, and runs of bytes of one class. Assumes nothing.
 use mathlib.Core.Bool.{Bool, not, cond, _&&_, _||_}
 use mathlib.Core.List.{List, [], _∷_}
+use Prim.Native.Char.{code}
 use Prim.Native.Nat.{ℕ}
 use lib.Dec.{leb, eqb}
 use Rattle.scan.specs.declared.run.Class.{Class}
@@ -15,10 +16,10 @@ belongs Allowed b = eqb b 10 || inRange b 32 126
 -- "the run of template bytes up to its line end 0x0A"
 belongs InLine b = not (eqb b 10)
 -- "bytes without a quote"
-belongs InString b = not (eqb b 34)
+belongs InString b = not (eqb b (code "\""))
 -- "A–Z, 0–9"
-belongs InName b = inRange b 65 90 || inRange b 48 57
-belongs Digit b = inRange b 48 57
+belongs InName b = inRange b (code "A") (code "Z") || inRange b (code "0") (code "9")
+belongs Digit b = inRange b (code "0") (code "9")
 
 -- the longest run of bytes of the class at the front of s
 unfoldable pub span : Class → List ℕ → List ℕ

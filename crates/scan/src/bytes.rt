@@ -3,20 +3,13 @@ use crate::run;
 use crate::run::Class;
 ghost use mathlib.Core.Path.{_≡_};
 ghost use lib.ListN.{length};
-ghost use Rattle.scan.specs.Line.{firstRefused, allAllowed, lineOf, byteAt, window};
+ghost use Rattle.scan.specs.Line.{firstRefused, lineOf, byteAt, window};
 
 // Where the first byte is that a template may not have, or the template's length.
 pub fn first_refused(template: &[u8]) -> usize
     ensures { λ r. ⌜ r ≡ firstRefused (now (template .entry)) ⌝ }
 {
     run::count(template, Class::Allowed)
-}
-
-// Whether a template has allowed bytes only.
-pub fn all_allowed(template: &[u8]) -> bool
-    ensures { λ r. ⌜ r ≡ allAllowed (now (template .entry)) ⌝ }
-{
-    first_refused(template) == template.len()
 }
 
 // The line that this part of a template starts with, without its line end.

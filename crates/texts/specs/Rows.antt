@@ -1,9 +1,9 @@
 -- Rows at the limits of fields and texts, each shown by the definitions.
 use mathlib.Core.Path.{_≡_, refl}
 use mathlib.Core.Bool.{true, false}
-use mathlib.Core.List.{[], _∷_}
 use lib.IntN.{pos}
 use Rattle.numbers.specs.declared.Quantity.the-variants.{Integer}
+use Rattle.scan.specs.Ascii.{ascii}
 use Rattle.scan.specs.Run.{belongs, span}
 use Rattle.scan.specs.Line.{byteAt}
 use Rattle.scan.specs.Digits.{valueFrom, digitsAt, numberAt}
@@ -26,21 +26,21 @@ one = record { operand = operand.Number (Integer (pos 1)); filter = Unfiltered }
 abbrev Rows : Type 0
 Rows =
     -- w 1–32
-    (fieldAt (49 ∷ 44 ∷ 48 ∷ 125 ∷ []) 0 ≡ NoField)
-    × (fieldAt (49 ∷ 44 ∷ 49 ∷ 125 ∷ []) 0 ≡ FieldTo (record { argument = one; width = 1; places = Unsaid }) 4)
-    × (fieldAt (49 ∷ 44 ∷ 51 ∷ 50 ∷ 125 ∷ []) 0 ≡ FieldTo (record { argument = one; width = 32; places = Unsaid }) 5)
-    × (fieldAt (49 ∷ 44 ∷ 51 ∷ 51 ∷ 125 ∷ []) 0 ≡ NoField)
-    × (fieldAt (49 ∷ 44 ∷ 48 ∷ 49 ∷ 125 ∷ []) 0 ≡ NoField)
+    (fieldAt (ascii "1,0}") 0 ≡ NoField)
+    × (fieldAt (ascii "1,1}") 0 ≡ FieldTo (record { argument = one; width = 1; places = Unsaid }) 4)
+    × (fieldAt (ascii "1,32}") 0 ≡ FieldTo (record { argument = one; width = 32; places = Unsaid }) 5)
+    × (fieldAt (ascii "1,33}") 0 ≡ NoField)
+    × (fieldAt (ascii "1,01}") 0 ≡ NoField)
     -- d 0–6
-    × (fieldAt (49 ∷ 44 ∷ 57 ∷ 46 ∷ 54 ∷ 125 ∷ []) 0 ≡ FieldTo (record { argument = one; width = 9; places = (Said 6) }) 6)
-    × (fieldAt (49 ∷ 44 ∷ 57 ∷ 46 ∷ 55 ∷ 125 ∷ []) 0 ≡ NoField)
+    × (fieldAt (ascii "1,9.6}") 0 ≡ FieldTo (record { argument = one; width = 9; places = (Said 6) }) 6)
+    × (fieldAt (ascii "1,9.7}") 0 ≡ NoField)
     -- a field ends where its form ends, whatever its string holds
-    × (pieceAt (123 ∷ 34 ∷ 125 ∷ 123 ∷ 34 ∷ 44 ∷ 50 ∷ 125 ∷ []) 0 ≡ PieceTo (Placed (record { argument = record { operand = operand.Text 2 4; filter = Unfiltered }; width = 2; places = Unsaid })) 8)
+    × (pieceAt (ascii "{\"}{\",2}") 0 ≡ PieceTo (Placed (record { argument = record { operand = operand.Text 2 4; filter = Unfiltered }; width = 2; places = Unsaid })) 8)
     -- a closing brace in plain text
-    × (textFits (97 ∷ 125 ∷ []) 0 ≡ false)
+    × (textFits (ascii "a}") 0 ≡ false)
     -- four fields of 32 with 4 and with 5 bytes more
-    × (textFits (123 ∷ 49 ∷ 44 ∷ 51 ∷ 50 ∷ 125 ∷ 123 ∷ 49 ∷ 44 ∷ 51 ∷ 50 ∷ 125 ∷ 123 ∷ 49 ∷ 44 ∷ 51 ∷ 50 ∷ 125 ∷ 123 ∷ 49 ∷ 44 ∷ 51 ∷ 50 ∷ 125 ∷ 97 ∷ 98 ∷ 99 ∷ 100 ∷ []) 0 ≡ true)
-    × (textFits (123 ∷ 49 ∷ 44 ∷ 51 ∷ 50 ∷ 125 ∷ 123 ∷ 49 ∷ 44 ∷ 51 ∷ 50 ∷ 125 ∷ 123 ∷ 49 ∷ 44 ∷ 51 ∷ 50 ∷ 125 ∷ 123 ∷ 49 ∷ 44 ∷ 51 ∷ 50 ∷ 125 ∷ 97 ∷ 98 ∷ 99 ∷ 100 ∷ 101 ∷ []) 0 ≡ false)
+    × (textFits (ascii "{1,32}{1,32}{1,32}{1,32}abcd") 0 ≡ true)
+    × (textFits (ascii "{1,32}{1,32}{1,32}{1,32}abcde") 0 ≡ false)
 
 -- The rows hold.
 pub rows : Rows

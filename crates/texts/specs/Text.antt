@@ -7,7 +7,7 @@ use lib.Dec.{ltb, leb, eqb}
 use lib.ListN.{length}
 use Rattle.scan.specs.declared.digits.Numeral.{Numeral}
 use Rattle.scan.specs.declared.digits.Numeral.the-variants.{Value, NoNumeral}
-use Rattle.scan.specs.Line.{byteAt}
+use Rattle.scan.specs.Line.{byteAt, byteIs}
 use Rattle.scan.specs.Digits.{digitsAt, numberAt}
 use Rattle.arguments.specs.declared.argument.Argument.{Argument}
 use Rattle.arguments.specs.declared.argument.ArgumentRead.{ArgumentRead}
@@ -23,14 +23,14 @@ use Rattle.texts.specs.declared.text.Piece.the-variants.{Plain, Placed}
 use Rattle.texts.specs.declared.text.PieceRead.{PieceRead}
 use Rattle.texts.specs.declared.text.PieceRead.the-variants.{PieceTo, NoPiece}
 
--- `}`, or `.d}` with "d 0–6"; 125 is the closing brace, 46 the point
+-- `}`, or `.d}` with "d 0–6"
 unfoldable pub placesAt : List ℕ → ℕ → PlacesRead
 placesAt l at =
-    cond (eqb (byteAt l at) 125) (PlacesTo Unsaid (at + 1))
-    (cond (eqb (byteAt l at) 46)
+    cond (byteIs l at "}") (PlacesTo Unsaid (at + 1))
+    (cond (byteIs l at ".")
     (cond (eqb (digitsAt l (at + 1) 1 .count) 0) NoPlaces
     (cond (ltb 6 (digitsAt l (at + 1) 1 .value)) NoPlaces
-    (cond (eqb (byteAt l (at + 2)) 125) (PlacesTo (Said (digitsAt l (at + 1) 1 .value)) (at + 3)) NoPlaces)))
+    (cond (byteIs l (at + 2) "}") (PlacesTo (Said (digitsAt l (at + 1) 1 .value)) (at + 3)) NoPlaces)))
     NoPlaces)
 
 unfoldable pub placesOf : Argument → ℕ → PlacesRead → FieldRead
@@ -43,10 +43,10 @@ widthNext l a (Value w next) = placesOf a w (placesAt l next)
 widthNext l a NoNumeral = NoField
 
 unfoldable pub fieldOf : List ℕ → ArgumentRead → FieldRead
-fieldOf l (ArgumentTo a next) = cond (eqb (byteAt l next) 44) (widthNext l a (numberAt l (next + 1) 32)) NoField
+fieldOf l (ArgumentTo a next) = cond (byteIs l next ",") (widthNext l a (numberAt l (next + 1) 32)) NoField
 fieldOf l NoArgument = NoField
 
--- "A field is `{argument,w}` or `{argument,w.d}`", behind its opening brace; 44 is the comma
+-- "A field is `{argument,w}` or `{argument,w.d}`", behind its opening brace
 unfoldable pub fieldAt : List ℕ → ℕ → FieldRead
 fieldAt l at = fieldOf l (argumentAt l at)
 
@@ -54,12 +54,12 @@ unfoldable pub placed : FieldRead → PieceRead
 placed (FieldTo f next) = PieceTo (Placed f) next
 placed NoField = NoPiece
 
--- a byte, or a field: "other braces in text and headings, outside a field's string, are refused"; 123 is the opening brace
+-- a byte, or a field: "other braces in text and headings, outside a field's string, are refused"
 unfoldable pub pieceAt : List ℕ → ℕ → PieceRead
 pieceAt l at =
     cond (leb (length l) at) NoPiece
-    (cond (eqb (byteAt l at) 123) (placed (fieldAt l (at + 1)))
-    (cond (eqb (byteAt l at) 125) NoPiece
+    (cond (byteIs l at "{") (placed (fieldAt l (at + 1)))
+    (cond (byteIs l at "}") NoPiece
     (PieceTo (Plain (byteAt l at)) (at + 1))))
 
 -- "With fields at width w"
