@@ -1,34 +1,17 @@
--- "word, then arguments, one space before each". Assumes nothing.
+-- "word, then arguments, one space before each", and nothing behind the last. Assumes nothing.
 use mathlib.Core.Bool.{cond}
 use mathlib.Core.List.{List}
 use Prim.Native.Nat.{ℕ, _+_}
-use Rattle.scan.specs.declared.digits.Numeral.{Numeral}
-use Rattle.scan.specs.declared.digits.Numeral.the-variants.{NoNumeral}
+use lib.Dec.{ltb}
+use lib.ListN.{length}
 use Rattle.scan.specs.Line.{byteIs}
-use Rattle.scan.specs.Digits.{numberAt}
-use Rattle.arguments.specs.declared.argument.ArgumentRead.{ArgumentRead}
-use Rattle.arguments.specs.declared.argument.ArgumentRead.the-variants.{NoArgument}
-use Rattle.arguments.specs.declared.operand.OperandRead.{OperandRead}
-use Rattle.arguments.specs.declared.operand.OperandRead.the-variants.{NoOperand}
-use Rattle.arguments.specs.declared.index.IndexRead.{IndexRead}
-use Rattle.arguments.specs.declared.index.IndexRead.the-variants.{NoIndex}
-use Rattle.arguments.specs.Argument.{argumentAt}
-use Rattle.arguments.specs.Operand.{operandAt}
-use Rattle.arguments.specs.Index.{indexAt}
+use Rattle.lines.specs.declared.command.Line.{Line}
+use Rattle.lines.specs.declared.command.Line.the-variants.{NoForm}
 
-unfoldable pub argumentBehind : List ℕ → ℕ → ArgumentRead
-argumentBehind l at = cond (byteIs l at " ") (argumentAt l (at + 1)) NoArgument
+-- where an argument starts: behind a space; where there is none, the line's end, at which no argument starts
+unfoldable pub behindSpace : List ℕ → ℕ → ℕ
+behindSpace l at = cond (byteIs l at " ") (at + 1) (length l)
 
-unfoldable pub operandBehind : List ℕ → ℕ → OperandRead
-operandBehind l at = cond (byteIs l at " ") (operandAt l (at + 1)) NoOperand
-
-unfoldable pub indexBehind : List ℕ → ℕ → IndexRead
-indexBehind l at = cond (byteIs l at " ") (indexAt l (at + 1)) NoIndex
-
-unfoldable pub numberBehind : List ℕ → ℕ → ℕ → Numeral
-numberBehind l at limit = cond (byteIs l at " ") (numberAt l (at + 1) limit) NoNumeral
-
--- $REC's parameter: Pm without a filter
-unfoldable pub parameterBehind : List ℕ → ℕ → Numeral
-parameterBehind l at =
-    cond (byteIs l at " ") (cond (byteIs l (at + 1) "P") (numberAt l (at + 2) 65535) NoNumeral) NoNumeral
+-- nothing stands behind the last
+abbrev pub ending : List ℕ → ℕ → Line → Line
+ending l at form = cond (ltb at (length l)) NoForm form

@@ -2,5 +2,10 @@
 //
 // command::parse_line   a line's command with its arguments, a text, or that the line has no form
 
-pub mod behind; // behind.rt: one space before each argument, nothing behind the last
-pub mod command; // command.rt: the commands
+pub mod command; // command.rt: what a line is, and which command stands in it
+mod behind; // behind.rt: one space before each argument
+mod set; // set.rt: $SETE, $SETA, $SETS, $SETM, $SETD, $SETDS
+mod compare; // compare.rt: $IFEQ and its like, which take two arguments
+mod simple; // simple.rt: commands of one argument, of none, and of one that may be absent
+mod fetch; // fetch.rt: $REC, $TBL
+mod title; // title.rt: $SEC, $PH, $REM, which take a name, a text, or anything
