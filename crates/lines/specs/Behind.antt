@@ -8,7 +8,7 @@ use Rattle.scan.specs.Line.{byteIs}
 use Rattle.lines.specs.declared.command.Line.{Line}
 use Rattle.lines.specs.declared.command.Line.the-variants.{NoForm}
 
--- where an argument starts: behind a space; where there is none, the line's end, at which no argument starts
+-- where an argument starts: behind a space; where there is none, the line's end, at which no argument starts (proofs/EndLaws)
 unfoldable pub behindSpace : List ℕ → ℕ → ℕ
 behindSpace l at = cond (byteIs l at " ") (at + 1) (length l)
 

@@ -13,7 +13,7 @@ use Rattle.lines.specs.declared.fetch.FetchRead.{FetchRead}
 use Rattle.lines.specs.declared.fetch.FetchRead.the-variants.{FetchTo, NoFetch}
 use Rattle.lines.specs.declared.command.Line.{Line}
 use Rattle.lines.specs.declared.command.Line.the-variants.{NoForm, Records, Entries}
-use Rattle.lines.specs.Reading.{indexOr, numberOr}
+use Rattle.lines.specs.Reading.{indexOr, numeralOr}
 use Rattle.lines.specs.Behind.{behindSpace, ending}
 
 -- "Pm", "1–65,535", without a filter
@@ -38,7 +38,7 @@ fetchOr NoFetch found = NoForm
 -- "Rn, Tn (n 1–10)"
 unfoldable pub fetchAt : List ℕ → ℕ → ℕ → Line
 fetchAt l at k =
-    numberOr NoForm (numberAt l (behindSpace l at) 10) (λ n next.
-    numberOr NoForm (parameterAt l (behindSpace l next)) (λ m after.
+    numeralOr NoForm (numberAt l (behindSpace l at) 10) (λ n next.
+    numeralOr NoForm (parameterAt l (behindSpace l next)) (λ m after.
     fetchOr (fetchedAt l after n m) (λ f end.
     ending l end (fetchOf k f))))

@@ -18,6 +18,6 @@ module _ {A : Type 0} (lack : A) where
   indexOr (IndexTo i next) found = found i next
   indexOr NoIndex found = lack
 
-  abbrev pub numberOr : Numeral → (ℕ → ℕ → A) → A
-  numberOr (Value n next) found = found n next
-  numberOr NoNumeral found = lack
+  abbrev pub numeralOr : Numeral → (ℕ → ℕ → A) → A
+  numeralOr (Value n next) found = found n next
+  numeralOr NoNumeral found = lack

@@ -11,7 +11,7 @@ use Rattle.scan.specs.Digits.{numberAt}
 use Rattle.texts.specs.Text.{textFits}
 use Rattle.lines.specs.declared.command.Line.{Line}
 use Rattle.lines.specs.declared.command.Line.the-variants.{NoForm, Section, Heading, NoHeading, Remark}
-use Rattle.lines.specs.Reading.{numberOr}
+use Rattle.lines.specs.Reading.{numeralOr}
 use Rattle.lines.specs.Behind.{behindSpace, ending}
 
 -- "1–16 of A–Z, 0–9"
@@ -34,7 +34,7 @@ headingOf l at n =
 
 -- "`$PHn text` (n 1–9, `$PH` is `$PH1`)"
 unfoldable pub headingAt : List ℕ → ℕ → Line
-headingAt l at = numberOr (headingOf l at 1) (numberAt l at 9) (λ n next. headingOf l next n)
+headingAt l at = numeralOr (headingOf l at 1) (numberAt l at 9) (λ n next. headingOf l next n)
 
 -- "alone or with a space and any text, unread"
 unfoldable pub remarkAt : List ℕ → ℕ → Line
