@@ -120,7 +120,7 @@ rows =
     ∷ "$REMark" is NoForm
     ∷ "$" is NoForm
     ∷ " $ELSE" is Text
-    -- numbers out of their limits, and leading zeros
+    -- numbers and strings out of their limits, and leading zeros
     ∷ "$SETE IV0 1" is NoForm
     ∷ "$SETE IV01 1" is NoForm
     ∷ "$SETE FV100 1" is NoForm
@@ -129,6 +129,11 @@ rows =
     ∷ "$IF P1.1000" is NoForm
     ∷ "$IF 2000000001" is NoForm
     ∷ "$REC 11 P1 0 0 1" is NoForm
+    ∷ "$SETDS 1234" is NoForm
+    ∷ "$IF 00000000001" is NoForm
+    ∷ "$IF 0.1234567" is NoForm
+    ∷ "$IF 1." is NoForm
+    ∷ "$IF \"12345678901234567\"" is NoForm
     ∷ "$PH0" is NoForm
     ∷ "$PH10" is NoForm
     -- "SV takes a string; after another word than $SETE it is 3"
