@@ -1,49 +1,69 @@
--- "Commands". A command's definition takes the line and the place behind its word, and k, the word's number in the table.
--- Assumes nothing.
+-- What a line is: "Commands", each by its word and what stands behind it. Assumes nothing.
 use mathlib.Core.Bool.{cond}
-use mathlib.Core.List.{List}
-use Prim.Native.Nat.{ℕ}
-use lib.Dec.{ltb, eqb}
-use Rattle.scan.specs.declared.words.WordRead.{WordRead}
-use Rattle.scan.specs.declared.words.WordRead.the-variants.{Word, NoWord}
+use mathlib.Core.List.{List, [], _∷_}
+use Prim.Native.Nat.{ℕ, _+_}
+use Prim.Native.String.{String}
+use lib.ListN.{length}
 use Rattle.scan.specs.Ascii.{ascii}
 use Rattle.scan.specs.Line.{byteIs}
-use Rattle.scan.specs.Words.{wordAt}
+use Rattle.scan.specs.Words.{standsAt}
 use Rattle.texts.specs.Text.{textFits}
+use Rattle.lines.specs.declared.command.Operation.the-variants.{Assign, Add, Subtract, Multiply, Divide}
+use Rattle.lines.specs.declared.command.Comparison.the-variants.{SameString, SameLetters, Equal, NotEqual, Less, AtMost, Greater, AtLeast}
 use Rattle.lines.specs.declared.command.Line.{Line}
-use Rattle.lines.specs.declared.command.Line.the-variants.{NoForm, Text}
+use Rattle.lines.specs.declared.command.Line.the-variants.{NoForm, Text, IfZero, IfNonZero, Else, EndIf, BeginTable, EndTable, Records, Entries, NoFormFeed, NewPage}
 use Rattle.lines.specs.Set.{setAt, datasourceAt}
 use Rattle.lines.specs.Compare.{compareAt}
 use Rattle.lines.specs.Simple.{singleAt, bareAt, optionalAt}
 use Rattle.lines.specs.Fetch.{fetchAt}
 use Rattle.lines.specs.Title.{sectionAt, headingAt, remarkAt}
 
--- the words, a longer one before those it begins with: $SETDS is 0, $IFEQSS 6, $IFNOT 14, $ELSE 17, $ET 20, $REC 22, $SEC 24
-abbrev pub commandWords : List ℕ
-commandWords =
-    ascii "SETDS   SETE    SETA    SETS    SETM    SETD    IFEQSS  IFEQSI  IFEQ    IFNE    IFLT    IFLE    IFGT    IFGE    IFNOT   IF      BT      ELSE    ENDIF   NOFF    ET      NP      REC     TBL     SEC     PH      REM     "
+-- a command's word, and its form by the line and the place behind the word
+pub record Command : Type 0 where
+  pub word : List ℕ
+  pub form : List ℕ → ℕ → Line
 
-unfoldable pub otherAt : List ℕ → ℕ → ℕ → Line
-otherAt l at k =
-    cond (ltb k 22) (optionalAt l at k)
-    (cond (ltb k 24) (fetchAt l at k)
-    (cond (eqb k 24) (sectionAt l at)
-    (cond (eqb k 25) (headingAt l at)
-    (remarkAt l at))))
+infix 70 _takes_
+abbrev _takes_ : String → (List ℕ → ℕ → Line) → Command
+w takes f = record { word = ascii w; form = f }
 
-unfoldable pub commandAt : List ℕ → ℕ → ℕ → Line
-commandAt l at k =
-    cond (eqb k 0) (datasourceAt l at)
-    (cond (ltb k 6) (setAt l at k)
-    (cond (ltb k 14) (compareAt l at k)
-    (cond (ltb k 17) (singleAt l at k)
-    (cond (ltb k 20) (bareAt l at k)
-    (otherAt l at k)))))
+-- a longer word stands before those it begins with
+unfoldable pub commands : List Command
+commands =
+    "SETDS" takes datasourceAt
+    ∷ "SETE" takes setAt Assign
+    ∷ "SETA" takes setAt Add
+    ∷ "SETS" takes setAt Subtract
+    ∷ "SETM" takes setAt Multiply
+    ∷ "SETD" takes setAt Divide
+    ∷ "IFEQSS" takes compareAt SameString
+    ∷ "IFEQSI" takes compareAt SameLetters
+    ∷ "IFEQ" takes compareAt Equal
+    ∷ "IFNE" takes compareAt NotEqual
+    ∷ "IFLT" takes compareAt Less
+    ∷ "IFLE" takes compareAt AtMost
+    ∷ "IFGT" takes compareAt Greater
+    ∷ "IFGE" takes compareAt AtLeast
+    ∷ "IFNOT" takes singleAt IfZero
+    ∷ "IF" takes singleAt IfNonZero
+    ∷ "BT" takes singleAt BeginTable
+    ∷ "ELSE" takes bareAt Else
+    ∷ "ENDIF" takes bareAt EndIf
+    ∷ "NOFF" takes bareAt NoFormFeed
+    ∷ "ET" takes optionalAt EndTable
+    ∷ "NP" takes optionalAt NewPage
+    ∷ "REC" takes fetchAt Records
+    ∷ "TBL" takes fetchAt Entries
+    ∷ "SEC" takes sectionAt
+    ∷ "PH" takes headingAt
+    ∷ "REM" takes remarkAt
+    ∷ []
 
-unfoldable pub commandOf : List ℕ → WordRead → Line
-commandOf l (Word k next) = commandAt l next k
-commandOf l NoWord = NoForm
+-- the first of some commands whose word stands behind the `$`
+unfoldable pub firstOf : List Command → List ℕ → Line
+firstOf [] l = NoForm
+firstOf (c ∷ cs) l = cond (standsAt (c .word) l 1) (c .form l (1 + length (c .word))) (firstOf cs l)
 
 -- "A line beginning with `$` is a command: word, then arguments"; "Other lines are text, blank ones included"
 unfoldable pub parseLine : List ℕ → Line
-parseLine l = cond (byteIs l 0 "$") (commandOf l (wordAt commandWords l 1)) (cond (textFits l 0) Text NoForm)
+parseLine l = cond (byteIs l 0 "$") (firstOf commands l) (cond (textFits l 0) Text NoForm)

@@ -2,7 +2,6 @@
 use mathlib.Core.Bool.{cond}
 use mathlib.Core.List.{List}
 use Prim.Native.Nat.{ℕ, _+_}
-use lib.Dec.{eqb}
 use Rattle.scan.specs.declared.digits.Numeral.{Numeral}
 use Rattle.scan.specs.declared.digits.Numeral.the-variants.{NoNumeral}
 use Rattle.scan.specs.Line.{byteIs}
@@ -12,7 +11,7 @@ use Rattle.lines.specs.declared.command.Fetch.{Fetch}
 use Rattle.lines.specs.declared.fetch.FetchRead.{FetchRead}
 use Rattle.lines.specs.declared.fetch.FetchRead.the-variants.{FetchTo, NoFetch}
 use Rattle.lines.specs.declared.command.Line.{Line}
-use Rattle.lines.specs.declared.command.Line.the-variants.{NoForm, Records, Entries}
+use Rattle.lines.specs.declared.command.Line.the-variants.{NoForm}
 use Rattle.lines.specs.Reading.{indexOr, numeralOr}
 use Rattle.lines.specs.Behind.{behindSpace, ending}
 
@@ -28,17 +27,14 @@ fetchedAt l at n m =
     indexOr NoFetch (indexAt l (behindSpace l after)) (λ c end.
     FetchTo (record { number = n; parameter = m; first = r; second = e; count = c }) end)))
 
-unfoldable pub fetchOf : ℕ → Fetch → Line
-fetchOf k f = cond (eqb k 22) (Records f) (Entries f)
-
 abbrev fetchOr : FetchRead → (Fetch → ℕ → Line) → Line
 fetchOr (FetchTo f end) found = found f end
 fetchOr NoFetch found = NoForm
 
 -- "Rn, Tn (n 1–10)"
-unfoldable pub fetchAt : List ℕ → ℕ → ℕ → Line
-fetchAt l at k =
+unfoldable pub fetchAt : (Fetch → Line) → List ℕ → ℕ → Line
+fetchAt form l at =
     numeralOr NoForm (numberAt l (behindSpace l at) 10) (λ n next.
     numeralOr NoForm (parameterAt l (behindSpace l next)) (λ m after.
     fetchOr (fetchedAt l after n m) (λ f end.
-    ending l end (fetchOf k f))))
+    ending l end (form f))))

@@ -6,4 +6,5 @@ pub mod Simple
 pub mod Fetch
 pub mod Title
 pub mod Command
+pub mod Dispatch
 pub mod Rows

@@ -29,12 +29,12 @@ use Rattle.lines.specs.declared.command.Optional.the-variants.{Given, Ab
 use Rattle.lines.specs.declared.command.Line.{Line}
 use Rattle.lines.specs.declared.command.Line.the-variants.{NoForm, Text, Section, Set, IfZero, IfNonZero, Compare, Else, EndIf, BeginTable, EndTable, Records, Entries, Datasource, NoFormFeed, NewPage, Heading, NoHeading, Remark}
 use Rattle.lines.specs.Behind.{behindSpace}
-use Rattle.lines.specs.Set.{operationOf, targetOf, setAt, datasourceAt}
-use Rattle.lines.specs.Compare.{comparisonOf, compareAt}
-use Rattle.lines.specs.Simple.{singleOf, singleAt, bareOf, bareAt, optionalOf, optionalAt}
-use Rattle.lines.specs.Fetch.{parameterAt, fetchedAt, fetchOf, fetchAt}
+use Rattle.lines.specs.Set.{stringTarget, targetOf, setAt, datasourceAt}
+use Rattle.lines.specs.Compare.{compareAt}
+use Rattle.lines.specs.Simple.{singleAt, bareAt, optionalAt}
+use Rattle.lines.specs.Fetch.{parameterAt, fetchedAt, fetchAt}
 use Rattle.lines.specs.Title.{nameAt, sectionAt, headingOf, headingAt, remarkAt}
-use Rattle.lines.specs.Command.{otherAt, commandAt, commandOf, parseLine}
+use Rattle.lines.specs.Command.{commands, firstOf, parseLine}
 
 -- what a line is, and what is expected
 pub record Row : Type 0 where
@@ -148,5 +148,5 @@ rows =
     ∷ []
 
 pub rows-hold : map (λ (r : Row). r .computed) rows ≡ map (λ (r : Row). r .expected) rows
-unfolding rows belongs span byteAt valueFrom digitsAt numberAt begins standsAt wordIn wordFrom wordAt inMillionths fractionAt unsignedAt literalAt variableIndex indexAt stringAt entryOf recordOf cellOf cellAt numbered limitOf numberedOf numberedAt namedOf namedAt numberOr operandAt filterOf countOf admitted filteredOf argumentOf argumentAt placesAt placesOf widthNext fieldOf fieldAt placed pieceAt widthOf totalWidth before piecesWithin textPieces fitsBehind textFits behindSpace operationOf targetOf setAt datasourceAt comparisonOf compareAt singleOf singleAt bareOf bareAt optionalOf optionalAt parameterAt fetchedAt fetchOf fetchAt nameAt sectionAt headingOf headingAt remarkAt otherAt commandAt commandOf parseLine
+unfolding rows belongs span byteAt valueFrom digitsAt numberAt begins standsAt wordIn wordFrom wordAt inMillionths fractionAt unsignedAt literalAt variableIndex indexAt stringAt entryOf recordOf cellOf cellAt numbered limitOf numberedOf numberedAt namedOf namedAt numberOr operandAt filterOf countOf admitted filteredOf argumentOf argumentAt placesAt placesOf widthNext fieldOf fieldAt placed pieceAt widthOf totalWidth before piecesWithin textPieces fitsBehind textFits behindSpace stringTarget targetOf setAt datasourceAt compareAt singleAt bareAt optionalAt parameterAt fetchedAt fetchAt nameAt sectionAt headingOf headingAt remarkAt commands firstOf parseLine
 rows-hold = refl

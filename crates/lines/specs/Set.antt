@@ -1,9 +1,6 @@
--- "`$SETE`, `$SETA`, `$SETS`, `$SETM`, `$SETD` variable argument", and "`$SETDS n`". A definition takes the line, the place
--- behind the word, and the word's number k in the table. Assumes nothing.
-use mathlib.Core.Bool.{cond}
+-- "`$SETE`, `$SETA`, `$SETS`, `$SETM`, `$SETD` variable argument", and "`$SETDS n`". Assumes nothing.
 use mathlib.Core.List.{List}
 use Prim.Native.Nat.{ℕ}
-use lib.Dec.{eqb}
 use Rattle.arguments.specs.declared.operand.Operand.{Operand}
 use Rattle.arguments.specs.declared.operand.Operand.the-variants.{Number, Text, IntegerVariable, DecimalVariable, StringVariable, PageNumber, LineNumber, LoopCounter, RecordElement, EntryElement, Parameter, Record, Entry}
 use Rattle.arguments.specs.declared.operand.OperandRead.{OperandRead}
@@ -22,26 +19,29 @@ use Rattle.lines.specs.declared.command.Line.the-variants.{NoForm, Set, 
 use Rattle.lines.specs.Reading.{argumentOr, indexOr}
 use Rattle.lines.specs.Behind.{behindSpace, ending}
 
--- "set, add, subtract, multiply, divide"
-unfoldable pub operationOf : ℕ → Operation
-operationOf k =
-    cond (eqb k 1) Assign (cond (eqb k 2) Add (cond (eqb k 3) Subtract (cond (eqb k 4) Multiply Divide)))
+-- "SV takes a string; after another word than $SETE it is 3"
+unfoldable pub stringTarget : ℕ → Operation → TargetRead
+stringTarget n Assign = TargetIs (StringTarget n)
+stringTarget n Add = NoTarget
+stringTarget n Subtract = NoTarget
+stringTarget n Multiply = NoTarget
+stringTarget n Divide = NoTarget
 
--- "IV", "FV", and "SV takes a string; after another word than $SETE it is 3"
-unfoldable pub targetOf : Operand → ℕ → TargetRead
-targetOf (IntegerVariable n) k = TargetIs (IntegerTarget n)
-targetOf (DecimalVariable n) k = TargetIs (DecimalTarget n)
-targetOf (StringVariable n) k = cond (eqb k 1) (TargetIs (StringTarget n)) NoTarget
-targetOf (Number q) k = NoTarget
-targetOf (Text a e) k = NoTarget
-targetOf PageNumber k = NoTarget
-targetOf LineNumber k = NoTarget
-targetOf LoopCounter k = NoTarget
-targetOf (RecordElement n) k = NoTarget
-targetOf (EntryElement n) k = NoTarget
-targetOf (Parameter n) k = NoTarget
-targetOf (Record n r) k = NoTarget
-targetOf (Entry n r e) k = NoTarget
+-- "variable": IVn, FVn, SVn
+unfoldable pub targetOf : Operand → Operation → TargetRead
+targetOf (IntegerVariable n) word = TargetIs (IntegerTarget n)
+targetOf (DecimalVariable n) word = TargetIs (DecimalTarget n)
+targetOf (StringVariable n) word = stringTarget n word
+targetOf (Number q) word = NoTarget
+targetOf (Text a e) word = NoTarget
+targetOf PageNumber word = NoTarget
+targetOf LineNumber word = NoTarget
+targetOf LoopCounter word = NoTarget
+targetOf (RecordElement n) word = NoTarget
+targetOf (EntryElement n) word = NoTarget
+targetOf (Parameter n) word = NoTarget
+targetOf (Record n r) word = NoTarget
+targetOf (Entry n r e) word = NoTarget
 
 abbrev operandOr : OperandRead → (Operand → ℕ → Line) → Line
 operandOr (OperandTo o next) found = found o next
@@ -52,12 +52,12 @@ targetOr (TargetIs t) found = found t
 targetOr NoTarget found = NoForm
 
 -- "variable argument"
-unfoldable pub setAt : List ℕ → ℕ → ℕ → Line
-setAt l at k =
+unfoldable pub setAt : Operation → List ℕ → ℕ → Line
+setAt word l at =
     operandOr (operandAt l (behindSpace l at)) (λ o next.
-    targetOr (targetOf o k) (λ t.
+    targetOr (targetOf o word) (λ t.
     argumentOr NoForm (argumentAt l (behindSpace l next)) (λ a end.
-    ending l end (Set (operationOf k) t a))))
+    ending l end (Set word t a))))
 
 -- "$SETDS's number", an index
 unfoldable pub datasourceAt : List ℕ → ℕ → Line

@@ -9,7 +9,8 @@ use arguments::index::Index;
 use scan::bytes;
 use scan::words::WordRead;
 ghost use mathlib.Core.Path.{_≡_};
-ghost use Rattle.lines.specs.Command.{otherAt, commandAt, parseLine};
+ghost use Rattle.lines.specs.Command.{parseLine};
+ghost use Rattle.lines.specs.Dispatch.{otherAt, commandAt};
 
 // $SETE, $SETA, $SETS, $SETM, $SETD
 pub enum Operation {

@@ -5,7 +5,8 @@ use crate::command::Line;
 use arguments::argument;
 use arguments::argument::ArgumentRead;
 ghost use mathlib.Core.Path.{_≡_};
-ghost use Rattle.lines.specs.Compare.{comparisonOf, compareAt};
+ghost use Rattle.lines.specs.Dispatch.{comparisonOf};
+ghost use Rattle.lines.specs.Compare.{compareAt};
 
 fn comparison_of(k: usize) -> Comparison
     ensures { λ r. ⌜ r ≡ comparisonOf k ⌝ }
@@ -35,7 +36,7 @@ fn comparison_of(k: usize) -> Comparison
 }
 
 pub fn compare_at(line: &[u8], at: usize, k: usize) -> Line
-    ensures { λ r. ⌜ r ≡ compareAt (now (line .entry)) at k ⌝ }
+    ensures { λ r. ⌜ r ≡ compareAt (comparisonOf k) (now (line .entry)) at ⌝ }
 {
     let start = behind::behind_space(line, at);
     let ArgumentRead::ArgumentTo(left, next) = argument::argument_at(line, start) else {

@@ -8,6 +8,7 @@ use scan::bytes;
 use scan::digits;
 use scan::digits::Numeral;
 ghost use mathlib.Core.Path.{_≡_};
+ghost use Rattle.lines.specs.Dispatch.{fetchOf};
 ghost use Rattle.lines.specs.Fetch.{parameterAt, fetchedAt, fetchAt};
 
 // What is fetched, and the place behind its words.
@@ -55,7 +56,7 @@ fn fetched_at(line: &[u8], at: usize, number: usize, parameter: usize) -> FetchR
 }
 
 pub fn fetch_at(line: &[u8], at: usize, k: usize) -> Line
-    ensures { λ r. ⌜ r ≡ fetchAt (now (line .entry)) at k ⌝ }
+    ensures { λ r. ⌜ r ≡ fetchAt (fetchOf k) (now (line .entry)) at ⌝ }
 {
     let start = behind::behind_space(line, at);
     let Numeral::Value(number, next) = digits::number_at(line, start, 10) else {

@@ -11,7 +11,8 @@ use arguments::operand;
 use arguments::operand::Operand;
 use arguments::operand::OperandRead;
 ghost use mathlib.Core.Path.{_≡_};
-ghost use Rattle.lines.specs.Set.{operationOf, targetOf, setAt, datasourceAt};
+ghost use Rattle.lines.specs.Dispatch.{operationOf};
+ghost use Rattle.lines.specs.Set.{targetOf, setAt, datasourceAt};
 
 pub enum TargetRead {
     TargetIs(Target),
@@ -38,7 +39,7 @@ fn operation_of(k: usize) -> Operation
 
 // What may be set: "SV takes a string; after another word than $SETE it is 3".
 fn target_of(operand: Operand, k: usize) -> TargetRead
-    ensures { λ r. ⌜ r ≡ targetOf operand k ⌝ }
+    ensures { λ r. ⌜ r ≡ targetOf operand (operationOf k) ⌝ }
 {
     match operand {
         Operand::IntegerVariable(n) => TargetRead::TargetIs(Target::IntegerTarget(n)),
@@ -64,7 +65,7 @@ fn target_of(operand: Operand, k: usize) -> TargetRead
 
 // "variable argument"
 pub fn set_at(line: &[u8], at: usize, k: usize) -> Line
-    ensures { λ r. ⌜ r ≡ setAt (now (line .entry)) at k ⌝ }
+    ensures { λ r. ⌜ r ≡ setAt (operationOf k) (now (line .entry)) at ⌝ }
 {
     let start = behind::behind_space(line, at);
     let OperandRead::OperandTo(operand, next) = operand::operand_at(line, start) else {

@@ -5,11 +5,12 @@ use crate::command::Optional;
 use arguments::argument;
 use arguments::argument::ArgumentRead;
 ghost use mathlib.Core.Path.{_≡_};
-ghost use Rattle.lines.specs.Simple.{singleAt, bareAt, optionalOf, optionalAt};
+ghost use Rattle.lines.specs.Dispatch.{singleOf, bareOf, optionalOf};
+ghost use Rattle.lines.specs.Simple.{singleAt, bareAt, optionalAt};
 
 // $IFNOT, $IF, $BT
 pub fn single_at(line: &[u8], at: usize, k: usize) -> Line
-    ensures { λ r. ⌜ r ≡ singleAt (now (line .entry)) at k ⌝ }
+    ensures { λ r. ⌜ r ≡ singleAt (singleOf k) (now (line .entry)) at ⌝ }
 {
     let start = behind::behind_space(line, at);
     let ArgumentRead::ArgumentTo(argument, end) = argument::argument_at(line, start) else {
@@ -29,7 +30,7 @@ pub fn single_at(line: &[u8], at: usize, k: usize) -> Line
 
 // $ELSE, $ENDIF, $NOFF
 pub fn bare_at(line: &[u8], at: usize, k: usize) -> Line
-    ensures { λ r. ⌜ r ≡ bareAt (now (line .entry)) at k ⌝ }
+    ensures { λ r. ⌜ r ≡ bareAt (bareOf k) (now (line .entry)) at ⌝ }
 {
     if at < line.len() {
         return Line::NoForm;
@@ -55,7 +56,7 @@ fn optional_of(k: usize, argument: Optional) -> Line
 
 // "[k]": an argument, or the end of the line.
 pub fn optional_at(line: &[u8], at: usize, k: usize) -> Line
-    ensures { λ r. ⌜ r ≡ optionalAt (now (line .entry)) at k ⌝ }
+    ensures { λ r. ⌜ r ≡ optionalAt (optionalOf k) (now (line .entry)) at ⌝ }
 {
     if line.len() <= at {
         return optional_of(k, Optional::Absent);

@@ -1,7 +1,9 @@
 -- The definition makes the code's tests in the code's order.
 use mathlib.Core.Path.{sym, _∙_}
 use borrow.Author.Tests.{eq-eqb, ne-eqb}
-use Rattle.lines.specs.Command.{parseLine, commandOf}
+use Rattle.lines.specs.Command.{parseLine}
+use Rattle.lines.specs.Dispatch.{commandOf}
+use Rattle.lines.proofs.DispatchLaws.{by-number}
 use borrow.Author.Needs.{needs}
 use Rattle.lines.proofs.command.parse_line.Statement.{statement}
 use Rattle.lines.proofs.command.parse_line.Tie as tie
@@ -13,11 +15,11 @@ text-fits-requires : tie.Need-text-fits-requires
 text-fits-requires c κs = search needs
 
 returns : tie.Need-returns
-unfolding parseLine commandOf
+unfolding parseLine
 returns c = rw (← c .before .before .before .byte .ensures, ne-eqb _ _ (c .before .before .if1 .taken), sym (c .before .text-fits .ensures) ∙ c .if2 .taken)
 
 returns-2 : tie.Need-returns-2
-unfolding parseLine commandOf
+unfolding parseLine
 returns-2 c = rw (← c .before .before .before .byte .ensures, ne-eqb _ _ (c .before .before .if1 .taken), sym (c .before .text-fits .ensures) ∙ c .if2 .left)
 
 word-at-requires : tie.Need-word-at-requires
@@ -31,14 +33,14 @@ enum-told c = search needs
 
 returns-3 : tie.Need-returns-3
 unfolding parseLine commandOf
-returns-3 c = rw (← c .before .before .before .before .before .before .byte .ensures, eq-eqb _ _ (c .before .before .before .before .before .if1 .left), sym (c .before .before .word-at .ensures) ∙ c .enum-told .given .1)
+returns-3 c = rw (← c .before .before .before .before .before .before .byte .ensures, eq-eqb _ _ (c .before .before .before .before .before .if1 .left), by-number, sym (c .before .before .word-at .ensures) ∙ c .enum-told .given .1)
 
 command-at-requires : tie.Need-command-at-requires
 command-at-requires c κs = search needs
 
 returns-4 : tie.Need-returns-4
 unfolding parseLine commandOf
-returns-4 c = rw (← c .before .before .before .before .before .before .before .before .byte .ensures, eq-eqb _ _ (c .before .before .before .before .before .before .before .if1 .left), sym (c .before .before .before .before .word-at .ensures) ∙ c .before .before .k .given .1) (c .command-at .ensures)
+returns-4 c = rw (← c .before .before .before .before .before .before .before .before .byte .ensures, eq-eqb _ _ (c .before .before .before .before .before .before .before .if1 .left), by-number, sym (c .before .before .before .before .word-at .ensures) ∙ c .before .before .k .given .1) (c .command-at .ensures)
 
 pub parse-line-spec : {M : Type 1} → statement M
 parse-line-spec =

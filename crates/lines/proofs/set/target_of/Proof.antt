@@ -1,6 +1,9 @@
 -- The definition makes the code's tests in the code's order.
-use borrow.Author.Tests.{eq-eqb, ne-eqb}
-use Rattle.lines.specs.Set.{targetOf}
+use mathlib.Core.Path.{sym}
+use borrow.Author.Tests.{eq-eqb}
+use Rattle.lines.specs.Dispatch.{operationOf}
+use Rattle.lines.specs.Set.{stringTarget, targetOf}
+use Rattle.lines.proofs.DispatchLaws.{not-assigned}
 use borrow.Author.Needs.{needs}
 use Rattle.lines.proofs.set.target_of.Statement.{statement}
 use Rattle.lines.proofs.set.target_of.Tie as tie
@@ -15,7 +18,7 @@ enum-known-operand-3 : tie.Need-enum-known-operand-3
 enum-known-operand-3 c = search needs
 
 returns : tie.Need-returns
-unfolding targetOf
+unfolding operationOf stringTarget targetOf
 returns c = rw (c .before .before .operand3 .given .1, eq-eqb _ _ (c .if1 .taken))
 
 enum-told : tie.Need-enum-told
@@ -58,7 +61,7 @@ returns-3 c = rw (c .before .operand2 .given .1)
 
 returns-4 : tie.Need-returns-4
 unfolding targetOf
-returns-4 c = rw (c .before .before .operand3 .given .1, ne-eqb _ _ (c .if1 .left))
+returns-4 c = rw (c .before .before .operand3 .given .1) (sym (not-assigned _ _ (c .if1 .left)))
 
 returns-5 : tie.Need-returns-5
 unfolding targetOf
