@@ -27,7 +27,7 @@ fetchedAt l at n m =
     indexOr NoFetch (indexAt l (behindSpace l after)) (λ c end.
     FetchTo (record { number = n; parameter = m; first = r; second = e; count = c }) end)))
 
-abbrev fetchOr : FetchRead → (Fetch → ℕ → Line) → Line
+abbrev pub fetchOr : FetchRead → (Fetch → ℕ → Line) → Line
 fetchOr (FetchTo f end) found = found f end
 fetchOr NoFetch found = NoForm
 

@@ -43,11 +43,11 @@ targetOf (Parameter n) word = NoTarget
 targetOf (Record n r) word = NoTarget
 targetOf (Entry n r e) word = NoTarget
 
-abbrev operandOr : OperandRead → (Operand → ℕ → Line) → Line
+abbrev pub operandOr : OperandRead → (Operand → ℕ → Line) → Line
 operandOr (OperandTo o next) found = found o next
 operandOr NoOperand found = NoForm
 
-abbrev targetOr : TargetRead → (Target → Line) → Line
+abbrev pub targetOr : TargetRead → (Target → Line) → Line
 targetOr (TargetIs t) found = found t
 targetOr NoTarget found = NoForm
 
