@@ -2,7 +2,7 @@
 use mathlib.Core.Path.{_≡_, refl, sym, _∙_}
 use mathlib.Core.Bool.{Bool, true, false, false≢true}
 use mathlib.Core.List.{List, [], _∷_}
-use Prim.Native.Nat.{ℕ, suc, _+_, _-_, _<_, _≤_, zero-le}
+use Prim.Native.Nat.{ℕ, suc, _+_, _-_, _*_, _<_, _≤_, zero-le}
 use native.Mathlib.Numerals.{add-one}
 use native.Mathlib.Omega.{arith}
 use borrow.Author.Tests.{eq-eqb, ne-eqb}
@@ -10,7 +10,11 @@ use lib.Dec.{eqb}
 use lib.ListN.{length, getD, drop, drop-of-length-le, length-drop}
 use lib.Seq.{drop-cons}
 use Rattle.scan.specs.declared.words.WordRead.the-variants.{Word, NoWord}
+use Rattle.scan.specs.declared.run.Class.the-variants.{InName}
+use Rattle.scan.specs.Run.{belongs, span}
+use Rattle.scan.specs.Line.{window}
 use Rattle.scan.specs.Words.{begins, standsAt, wordIn, wordFrom}
+use Rattle.scan.proofs.RunLaws.{span-end, span-stop, span-more}
 
 pub begins-end : (w s : List ℕ) (j : ℕ) → length w ≤ j → begins (drop j w) s ≡ true
 unfolding begins
@@ -29,6 +33,31 @@ module _ (w l : List ℕ) (j i : ℕ) where
   unfolding begins
   begins-same h k e = rw (drop-cons w j 0 h, drop-cons l i 0 k, eq-eqb _ _ e, add-one j, add-one i)
 
+-- the word at the front of a row, from its j-th byte on
+module _ (row l : List ℕ) (j i : ℕ) {w : Bool} (inv : begins (span InName (drop j row)) (drop i l) ≡ w) where
+  pub row-end : length row ≤ j → true ≡ w
+  unfolding begins
+  row-end h = sym (rw (span-end InName row j h)) ∙ inv
+
+  module _ (h : j < length row) (b : Bool) (q : b ≡ belongs InName (getD row j 0)) where
+    pub row-stop : b ≡ false → true ≡ w
+    unfolding begins
+    row-stop k = sym (rw (span-stop InName row j h (sym q ∙ k))) ∙ inv
+
+    module _ (k : b ≡ true) where
+      pub row-short : length l ≤ i → false ≡ w
+      unfolding begins
+      row-short s = sym (rw (span-more InName row j h (sym q ∙ k), drop-of-length-le l s)) ∙ inv
+
+      module _ (s : i < length l) where
+        pub row-other : (getD row j 0 ≡ getD l i 0 → ⊥) → false ≡ w
+        unfolding begins
+        row-other e = sym (rw (span-more InName row j h (sym q ∙ k), drop-cons l i 0 s, ne-eqb _ _ e)) ∙ inv
+
+        pub row-same : getD row j 0 ≡ getD l i 0 → begins (span InName (drop (j + 1) row)) (drop (i + 1) l) ≡ w
+        unfolding begins
+        row-same e = rw (add-one i) (sym (rw (span-more InName row j h (sym q ∙ k), drop-cons l i 0 s, eq-eqb _ _ e)) ∙ inv)
+
 -- what begins with a word is as long as it
 begins-length : (w s : List ℕ) → begins w s ≡ true → length w ≤ length s
 unfolding begins
@@ -44,6 +73,11 @@ begins-length (a ∷ w) (b ∷ s) e = go (eqb a b) refl e (begins-length w s)
 pub word-within : (w l : List ℕ) (at : ℕ) (b : Bool) → b ≡ standsAt w l at → b ≡ true → length w ≤ length l - at
 unfolding standsAt
 word-within w l at b e t = omega (arith, begins-length w (drop at l) (sym e ∙ t), length-drop at l)
+
+-- a row's word is the table's
+pub row-word : (table l row : List ℕ) (at k : ℕ) (b : Bool) → row ≡ window table (k * 8) 8 → b ≡ standsAt (span InName row) l at → b ≡ standsAt (wordIn table k) l at
+unfolding wordIn
+row-word table l row at k b e q = rw (← e) q
 
 -- searching: from the k-th word on, what the whole table gives
 module _ (table l : List ℕ) (at n k : ℕ) where

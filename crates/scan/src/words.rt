@@ -5,6 +5,8 @@ use crate::run::Class;
 ghost use mathlib.Core.Path.{_≡_};
 ghost use Prim.Native.Nat.{_*_, _≤_};
 ghost use lib.ListN.{length};
+ghost use Rattle.scan.specs.declared.run.Class.the-variants.{InName};
+ghost use Rattle.scan.specs.Run.{span};
 ghost use Rattle.scan.specs.Words.{standsAt, wordIn, wordAt};
 
 // Whether the word stands in the line at a place.
@@ -32,6 +34,28 @@ pub enum WordRead {
     NoWord,
 }
 
+// Whether the word at the front of a table's row stands in the line at a place.
+fn row_stands(line: &[u8], at: usize, row: &[u8]) -> bool
+    ensures { λ r. ⌜ r ≡ standsAt (span InName (now (row .entry))) (now (line .entry)) at ⌝ }
+{
+    let mut j = 0;
+    let mut i = at;
+    while j < row.len() {
+        if !run::belongs_to(Class::InName, row[j]) {
+            return true;
+        }
+        if line.len() <= i {
+            return false;
+        }
+        if row[j] != line[i] {
+            return false;
+        }
+        j += 1;
+        i += 1;
+    }
+    true
+}
+
 // The word of a row of a table. A table has a word in each row of eight bytes, filled with spaces.
 fn word_in<'a>(table: &'a [u8], k: usize) -> &'a [u8]
     requires { ⌜ k * 8 ≤ length (now table) ⌝ }
@@ -49,8 +73,9 @@ pub fn word_at(line: &[u8], at: usize, table: &[u8]) -> WordRead
     let rows = table.len() / 8;
     let mut k = 0;
     while k < rows {
-        let word = word_in(table, k);
-        if begins_with(line, at, word) {
+        let row = bytes::part(table, k * 8, 8);
+        if row_stands(line, at, row) {
+            let word = word_in(table, k);
             return WordRead::Word(k, at + word.len());
         }
         k += 1;

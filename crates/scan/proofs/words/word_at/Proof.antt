@@ -1,9 +1,10 @@
 -- The loop keeps: the words from the k-th on give what the whole table gives.
-use mathlib.Core.Path.{_≡_, sym, _∙_}
+use mathlib.Core.Path.{_≡_, sym, ap, _∙_}
 use native.Mathlib.Omega.{arith}
 use Prim.Native.Nat.{_-_}
+use lib.ListN.{length}
 use Rattle.scan.specs.Words.{wordFrom, wordAt}
-use Rattle.scan.proofs.WordLaws.{word-within, word-none, word-found, word-next, word-start}
+use Rattle.scan.proofs.WordLaws.{word-within, row-word, word-none, word-found, word-next, word-start}
 use borrow.Author.Needs.{needs}
 use Rattle.scan.proofs.words.word_at.Statement.{statement}
 use Rattle.scan.proofs.words.word_at.Tie as tie
@@ -17,22 +18,30 @@ abbrev μ-loop : tie.MeasureT-loop
 loop-holds : tie.Need-loop-holds Inv-loop μ-loop
 loop-holds c = word-start _ _ _ _
 
+mul-part : tie.Need-mul-part Inv-loop μ-loop
+mul-part c = search needs
+
+part-requires : tie.Need-part-requires Inv-loop μ-loop
+part-requires c κs = search needs
+
+row-stands-requires : tie.Need-row-stands-requires Inv-loop μ-loop
+row-stands-requires c κs = search needs
+
 word-in-requires : tie.Need-word-in-requires Inv-loop μ-loop
 word-in-requires c κs = search needs
 
-begins-with-requires : tie.Need-begins-with-requires Inv-loop μ-loop
-begins-with-requires c κs = search needs
-
-add-t11 : tie.Need-add-t11 Inv-loop μ-loop
-add-t11 c =
-    omega (arith, word-within _ _ _ _ (c .before .begins-with .ensures) (c .if1 .taken))
+add-t13 : tie.Need-add-t13 Inv-loop μ-loop
+add-t13 c =
+    let l = c .before .before .before .before .before .loop in
+    let q = row-word _ _ _ _ (l .k) _ (c .before .before .before .part .ensures) (c .before .before .row-stands .ensures) in
+    omega (arith, ap length (c .word-in .ensures), word-within _ _ _ _ q (c .before .if1 .taken))
 
 returns : tie.Need-returns Inv-loop μ-loop
 unfolding wordAt
 returns c =
-    let l = c .before .before .before .before .loop in
-    let e = c .before .before .word-in .ensures in
-    rw e (sym (word-found _ _ _ _ (l .k) (c .before .before .before .loop-test .taken) (rw e at (sym (c .before .begins-with .ensures) ∙ c .if1 .taken))) ∙ l .inv)
+    let l = c .before .before .before .before .before .loop in
+    let q = row-word _ _ _ _ (l .k) _ (c .before .before .before .part .ensures) (c .before .before .row-stands .ensures) in
+    rw (c .word-in .ensures) (sym (word-found _ _ _ _ (l .k) (c .before .before .before .before .loop-test .taken) (sym q ∙ c .before .if1 .taken)) ∙ l .inv)
 
 add-k : tie.Need-add-k Inv-loop μ-loop
 add-k c = search needs
@@ -43,8 +52,8 @@ loop-less c = search needs
 loop-again : tie.Need-loop-again Inv-loop μ-loop
 loop-again c =
     let l = c .before .before .before .before .loop in
-    let e = c .before .before .word-in .ensures in
-    sym (word-next _ _ _ _ (l .k) (c .before .before .before .loop-test .taken) (rw e at (sym (c .before .begins-with .ensures) ∙ c .if1 .left))) ∙ l .inv
+    let q = row-word _ _ _ _ (l .k) _ (c .before .before .part .ensures) (c .before .row-stands .ensures) in
+    sym (word-next _ _ _ _ (l .k) (c .before .before .before .loop-test .taken) (sym q ∙ c .if1 .left)) ∙ l .inv
 
 returns-2 : tie.Need-returns-2 Inv-loop μ-loop
 unfolding wordAt
@@ -57,9 +66,11 @@ word-at-spec =
     Inv-loop
     μ-loop
     loop-holds
+    mul-part
+    part-requires
+    row-stands-requires
     word-in-requires
-    begins-with-requires
-    add-t11
+    add-t13
     returns
     add-k
     loop-less
