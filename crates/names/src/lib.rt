@@ -6,6 +6,9 @@
 ghost use mathlib.Core.Path.{_≡_};
 ghost use Rattle.names.specs.Name.{nameOf, sameBytes, keyOf};
 
+// How many keys there are: a prime.
+pub const KEYS: usize = 16_361;
+
 // A section's name by its first eight characters; empty where the line isn't $SEC.
 pub fn name_of<'a>(line: &'a [u8]) -> &'a [u8]
     ensures { λ r. ⌜ now r ≡ nameOf (now (line .entry)) ⌝ }
@@ -26,14 +29,14 @@ pub fn same_bytes(a: &[u8], b: &[u8]) -> bool
     scan::words::begins_with(b, 0, a)
 }
 
-// A name's key, below 8,192: the same for the same name.
+// A name's key: the same for the same name. With 927, names that count up or run through the letters seldom share one.
 pub fn key_of(name: &[u8]) -> usize
     ensures { λ r. ⌜ r ≡ keyOf (now (name .entry)) ⌝ }
 {
     let mut key: usize = 0;
     let mut i = 0;
     while i < name.len() {
-        key = (key * 37 + scan::bytes::byte(name, i) as usize) % 8192;
+        key = (key * 927 + scan::bytes::byte(name, i) as usize) % KEYS;
         i += 1;
     }
     key

@@ -35,10 +35,10 @@ no-more name (suc n) (x ∷ ls) l rest e h q = go (sameBytes name (nameOf x)) re
 
 -- the names of these lines have their keys noted
 pub record Noted (noted : List ℕ) (ls : List (List ℕ)) : Type 0 where
-  pub size : length noted ≡ 8192
+  pub size : length noted ≡ 16361
   pub unseen : (name : List ℕ) → getD noted (keyOf name) 0 ≡ 0 → hasName name ls ≡ false
 
-pub none-noted : (noted : List ℕ) → length noted ≡ 8192 → Noted noted []
+pub none-noted : (noted : List ℕ) → length noted ≡ 16361 → Noted noted []
 unfolding hasName
 none-noted noted h = record { size = h; unseen = λ name e. refl }
 

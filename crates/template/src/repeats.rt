@@ -50,7 +50,7 @@ pub fn check(template: &[u8]) -> Verdict
 {
     let mut at = 0;
     let mut lines: u32 = 0;
-    let mut noted = [0u8; 8192];
+    let mut noted = [0u8; names::KEYS];
     while at < template.len() {
         let line = scan::bytes::line_of(&template[at..]);
         let name = names::name_of(line);

@@ -24,7 +24,7 @@ abbrev μ-loop : tie.MeasureT-loop
 
 loop-holds : tie.Need-loop-holds Inv-loop μ-loop
 unfolding nameCheck
-loop-holds c = (refl, refl, none-noted _ (length-replicate {A = ℕ} 8192 0), zero-le)
+loop-holds c = (refl, refl, none-noted _ (length-replicate {A = ℕ} 16361 0), zero-le)
 
 sub-line-of : tie.Need-sub-line-of Inv-loop μ-loop
 sub-line-of c = search needs
