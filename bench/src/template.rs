@@ -1,6 +1,7 @@
 //! The check of templates of 32,768 bytes, beside the second interpreter's and a plain scan of the bytes.
 
 use crate::{stack, time};
+use station_tests::random::Random;
 use station_tests::template::check;
 use std::hint::black_box;
 
@@ -26,6 +27,19 @@ fn sections(count: usize) -> Vec<u8> {
         while template.len() + 18 <= end {
             template.extend(b"value is {IV1,4}\n");
         }
+    }
+    template.resize(LONGEST, b'\n');
+    template
+}
+
+/// Sections with names of eight characters at random, and nothing else.
+fn random_sections() -> Vec<u8> {
+    let mut random = Random::new(5);
+    let mut template = b"$SEC 0000\n".to_vec();
+    while template.len() + 14 <= LONGEST {
+        template.extend(b"$SEC ");
+        template.extend((0..8).map(|_| random.pick(b"0123456789ABCDEFGHIJKLMNOPQRSTUVWXYZ")));
+        template.push(b'\n');
     }
     template.resize(LONGEST, b'\n');
     template
@@ -84,7 +98,11 @@ pub fn run() {
     times("10 tests and 5 tables deep", &filled(&deep));
     times("100 sections", &sections(100));
     times("1,000 sections", &sections(1_000));
-    times("3,276 sections and nothing else", &sections(LONGEST / 10));
+    times(
+        "3,276 sections, names that count up",
+        &sections(LONGEST / 10),
+    );
+    times("2,340 sections, names at random", &random_sections());
     let template = sections(1_000);
     let used = stack::used(move || {
         black_box(check(&template, b"0000"));

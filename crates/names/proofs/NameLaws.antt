@@ -30,16 +30,16 @@ module _ (s : List ℕ) (k i : ℕ) {w : ℕ} (inv : keyFrom k (drop i s) ≡ w)
   unfolding keyFrom
   key-end h = sym (ap (keyFrom k) (drop-of-length-le s h)) ∙ inv
 
-  pub key-more : i < length s → (b : ℕ) → b ≡ byteAt s i → keyFrom ((k * 927 + b) % 16361) (drop (i + 1) s) ≡ w
+  pub key-more : i < length s → (b : ℕ) → b ≡ byteAt s i → keyFrom ((k * 927 + b) % 4155694) (drop (i + 1) s) ≡ w
   unfolding keyFrom byteAt
   key-more h b e = rw (e, add-one i) (sym (ap (keyFrom k) (drop-cons s i 0 h)) ∙ inv)
 
-key-below : (k : ℕ) (s : List ℕ) → k < 16361 → keyFrom k s < 16361
+key-below : (k : ℕ) (s : List ℕ) → k < 4155694 → keyFrom k s < 4155694
 unfolding keyFrom
 key-below k [] h = h
-key-below k (b ∷ s) h = key-below ((k * 927 + b) % 16361) s (omega arith)
+key-below k (b ∷ s) h = key-below ((k * 927 + b) % 4155694) s (omega arith)
 
-pub key-bound : (name : List ℕ) → keyOf name < 16361
+pub key-bound : (name : List ℕ) → keyOf name < 4155694
 unfolding keyOf
 key-bound name = key-below 0 name (omega arith)
 

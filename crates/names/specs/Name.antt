@@ -22,7 +22,7 @@ sameBytes a b = eqb (length a) (length b) && begins a b
 -- the key of some bytes behind others that had a key
 unfoldable pub keyFrom : ℕ → List ℕ → ℕ
 keyFrom k [] = k
-keyFrom k (b ∷ s) = keyFrom ((k * 927 + b) % 16361) s
+keyFrom k (b ∷ s) = keyFrom ((k * 927 + b) % 4155694) s
 
 unfoldable pub keyOf : List ℕ → ℕ
 keyOf name = keyFrom 0 name

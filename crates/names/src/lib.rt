@@ -6,8 +6,8 @@
 ghost use mathlib.Core.Path.{_≡_};
 ghost use Rattle.names.specs.Name.{nameOf, sameBytes, keyOf};
 
-// How many keys there are: a prime.
-pub const KEYS: usize = 16_361;
+// How many keys there are: 254 for each of 16,361 places, a prime.
+const KEYS: usize = 4_155_694;
 
 // A section's name by its first eight characters; empty where the line isn't $SEC.
 pub fn name_of<'a>(line: &'a [u8]) -> &'a [u8]

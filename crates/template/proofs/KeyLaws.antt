@@ -1,8 +1,8 @@
--- Laws of the keys of names: a name whose key isn't noted is none of the names noted.
+-- Laws of the names noted: a name that is ruled out is none of them.
 use mathlib.Core.Path.{_≡_, refl, sym, ap, _∙_}
 use mathlib.Core.Bool.{Bool, true, false, false≢true}
 use mathlib.Core.List.{List, [], _∷_}
-use Prim.Native.Nat.{ℕ, zero, suc, _+_, _<_}
+use Prim.Native.Nat.{ℕ, zero, suc, _+_, _/_, _%_, _<_, _≤_}
 use native.Mathlib.Numerals.{add-one}
 use native.Mathlib.Omega.{arith}
 use borrow.Author.Tests.{eqb-true, eqb-false}
@@ -14,6 +14,7 @@ use Rattle.names.specs.Name.{nameOf, sameBytes, keyOf}
 use Rattle.names.proofs.NameLaws.{key-bound, other-key}
 use Rattle.template.specs.Lines.{linesOf}
 use Rattle.template.specs.Checks.{hasName}
+use Rattle.template.specs.Notes.{placeOf, printOf, notedWith, RuledOut}
 use Rattle.template.proofs.LineLaws.{lines-more}
 
 -- ---- the lines before, and one more
@@ -31,29 +32,62 @@ no-more name (suc n) (x ∷ ls) l rest e h q = go (sameBytes name (nameOf x)) re
     go true k g more = absurd (false≢true (sym (rw k at g)))
     go false k g more = rw k (more (rw k at g) q)
 
--- ---- the keys noted
+-- ---- the names noted
 
--- the names of these lines have their keys noted
+-- a print is from 1 to 254
+pub print-bound : (name : List ℕ) → (1 ≤ printOf name) × (printOf name ≤ 254)
+print-bound name = (omega arith, omega (arith, key-bound name))
+
+other-place : (a b : List ℕ) → (placeOf a ≡ placeOf b → ⊥) → sameBytes a b ≡ false
+other-place a b h = other-key a b (λ e. h (ap (λ (k : ℕ). k % 16361) e))
+
+other-print : (a b : List ℕ) → (printOf b ≡ printOf a → ⊥) → sameBytes a b ≡ false
+other-print a b h = other-key a b (λ e. h (ap (λ (k : ℕ). k / 16361 + 1) (sym e)))
+
+-- the names of these lines are noted
 pub record Noted (noted : List ℕ) (ls : List (List ℕ)) : Type 0 where
   pub size : length noted ≡ 16361
-  pub unseen : (name : List ℕ) → getD noted (keyOf name) 0 ≡ 0 → hasName name ls ≡ false
+  pub unseen : (name : List ℕ) → RuledOut (getD noted (placeOf name) 0) (printOf name) → hasName name ls ≡ false
 
 pub none-noted : (noted : List ℕ) → length noted ≡ 16361 → Noted noted []
 unfolding hasName
 none-noted noted h = record { size = h; unseen = λ name e. refl }
 
+-- what is ruled out once a print is noted was so before, and has another print
+was-ruled-out : (c p q : ℕ) → 1 ≤ q → RuledOut (notedWith c p) q → RuledOut c q × (p ≡ q → ⊥)
+unfolding notedWith
+was-ruled-out c p q h r = go (eqb c 0) refl (eqb c p) refl
+  where
+    go : (x : Bool) → eqb c 0 ≡ x → (y : Bool) → eqb c p ≡ y → RuledOut c q × (p ≡ q → ⊥)
+    go true e y f =
+        let z = eqb-true c 0 e in
+        let k = rw (e, notedWith) at (r .another) in
+        (record { one-print = λ d. omega arith; another = λ d. omega arith }, k)
+    go false e true f =
+        let z = eqb-true c p f in
+        let k = rw (e, f, notedWith) at (r .another) in
+        let m = rw (e, f, notedWith) at (r .one-print) in
+        (record { one-print = λ d. m (sym z ∙ d); another = λ d. k (sym z ∙ d) }, k)
+    go false e false f = absurd ((rw (e, f, notedWith) at (r .one-print)) refl)
+
 module _ (noted : List ℕ) (n : ℕ) (ls : List (List ℕ)) (l name : List ℕ) (rest : List (List ℕ)) (inv : Noted noted (take n ls)) (e : drop n ls ≡ l ∷ rest) (o : name ≡ nameOf l) where
-  one-more-noted : Noted (set noted (keyOf name) 1) (take (n + 1) ls)
-  one-more-noted = record { size = length-set noted (keyOf name) 1 ∙ inv .size; unseen = λ other h. rw (add-one n) (go other h (eqb (keyOf other) (keyOf name)) refl) }
+  abbrev now-noted : List ℕ
+  now-noted = set noted (placeOf name) (notedWith (getD noted (placeOf name) 0) (printOf name))
+
+  one-more-noted : Noted now-noted (take (n + 1) ls)
+  one-more-noted =
+      record { size = length-set noted (placeOf name) _ ∙ inv .size; unseen = λ other h. rw (add-one n) (go other h (eqb (placeOf other) (placeOf name)) refl) }
     where
-      go : (other : List ℕ) → getD (set noted (keyOf name) 1) (keyOf other) 0 ≡ 0 → (p : Bool) → eqb (keyOf other) (keyOf name) ≡ p → hasName other (take (suc n) ls) ≡ false
+      go : (other : List ℕ) → RuledOut (getD now-noted (placeOf other) 0) (printOf other) → (p : Bool) → eqb (placeOf other) (placeOf name) ≡ p → hasName other (take (suc n) ls) ≡ false
       go other h true q =
-          let x : getD (set noted (keyOf name) 1) (keyOf name) 0 ≡ 1 = getD-set-same noted (keyOf name) 1 0 (omega (arith, inv .size, key-bound name)) in
-          let y : getD (set noted (keyOf name) 1) (keyOf name) 0 ≡ 0 = ap (λ (i : ℕ). getD (set noted (keyOf name) 1) i 0) (sym (eqb-true _ _ q)) ∙ h in
-          absurd (omega arith)
+          let k = eqb-true (placeOf other) (placeOf name) q in
+          let g = getD-set-same noted (placeOf name) (notedWith (getD noted (placeOf name) 0) (printOf name)) 0 (omega (arith, inv .size)) in
+          let (r, d) = was-ruled-out (getD noted (placeOf name) 0) (printOf name) (printOf other) (print-bound other .0) (rw g at (rw k at h)) in
+          no-more other n ls l rest e (inv .unseen other (rw k r)) (rw (← o) (other-print other name d))
       go other h false q =
-          let d = eqb-false (keyOf other) (keyOf name) q in
-          no-more other n ls l rest e (inv .unseen other (sym (getD-set-other noted (keyOf name) (keyOf other) 1 0 d) ∙ h)) (rw (← o) (other-key other name d))
+          let d = eqb-false (placeOf other) (placeOf name) q in
+          let g = getD-set-other noted (placeOf name) (placeOf other) (notedWith (getD noted (placeOf name) 0) (printOf name)) 0 d in
+          no-more other n ls l rest e (inv .unseen other (rw g at h)) (rw (← o) (other-place other name d))
 
 -- ---- check 5's loop, from one line to the next
 
@@ -63,6 +97,6 @@ module _ (t line : List ℕ) (at n : ℕ) (on : drop n (linesOf t) ≡ linesOf (
       let l : at + (length line + 1) ≡ nextLine t at = omega (arith, ap length e) in
       rw l (sym (drop-drop 1 n (linesOf t)) ∙ ap (drop 1) (on ∙ lines-more t at inside))
 
-  pub noted-on : (noted name : List ℕ) (key : ℕ) → Noted noted (take n (linesOf t)) → name ≡ nameOf line → key ≡ keyOf name → Noted (set noted key 1) (take (n + 1) (linesOf t))
-  noted-on noted name key inv o k =
-      rw k (one-more-noted noted n (linesOf t) (lineAt t at) name _ inv (on ∙ lines-more t at inside) (o ∙ ap nameOf e))
+  pub noted-on : (noted name : List ℕ) (key v : ℕ) → Noted noted (take n (linesOf t)) → name ≡ nameOf line → key ≡ keyOf name → v ≡ notedWith (getD noted (key % 16361) 0) (key / 16361 + 1) → Noted (set noted (key % 16361) v) (take (n + 1) (linesOf t))
+  noted-on noted name key v inv o k q =
+      rw (q, k) (one-more-noted noted n (linesOf t) (lineAt t at) name _ inv (on ∙ lines-more t at inside) (o ∙ ap nameOf e))

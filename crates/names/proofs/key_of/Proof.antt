@@ -10,7 +10,7 @@ use Rattle.names.proofs.key_of.Statement.{statement}
 use Rattle.names.proofs.key_of.Tie as tie
 
 abbrev Inv-loop : tie.InvT-loop
-Inv-loop name key₀ i₀ key i = (keyFrom key (drop i name) ≡ keyOf name) × (key < 16361)
+Inv-loop name key₀ i₀ key i = (keyFrom key (drop i name) ≡ keyOf name) × (key < 4155694)
 
 abbrev μ-loop : tie.MeasureT-loop
 μ-loop name key₀ i₀ key i = length name - i

@@ -1,5 +1,4 @@
--- The loop keeps: the lines from its place on, counted on, give what the whole template gives, and the names before have their
--- keys noted.
+-- The loop keeps: the lines from its place on, counted on, give what the whole template gives, and the names before are noted.
 use mathlib.Core.Path.{_≡_, refl}
 use Prim.Native.Nat.{ℕ, _-_, _≤_, zero-le}
 use native.Mathlib.Omega.{arith}
@@ -44,16 +43,22 @@ name-of-requires c κs = search needs
 key-of-requires : tie.Need-key-of-requires Inv-loop μ-loop
 key-of-requires c κs = search needs
 
-array-read-came-before : tie.Need-array-read-came-before Inv-loop μ-loop
-array-read-came-before c = omega (arith, c .key-of .ensures, key-bound (c .before .name-of .result .now), c .before .before .before .before .before .loop .inv .2 .size)
+add-print : tie.Need-add-print Inv-loop μ-loop
+add-print c = search needs
+
+cast-print : tie.Need-cast-print Inv-loop μ-loop
+cast-print c = omega (arith, c .key-of .ensures, key-bound (c .before .name-of .result .now))
+
+array-read-before : tie.Need-array-read-before Inv-loop μ-loop
+array-read-before c = omega (arith, c .before .before .before .before .before .loop .inv .2 .size)
 
 came-before-requires : tie.Need-came-before-requires Inv-loop μ-loop
 came-before-requires c κs =
     let k = c .before .before .before .before .before in
-    (k .before .before .pre, λ z. k .loop .inv .2 .unseen _ (rw (← c .key-of .ensures) z))
+    (k .before .before .pre, λ r. k .loop .inv .2 .unseen _ (rw (← c .key-of .ensures) r))
 
-add-t17 : tie.Need-add-t17 Inv-loop μ-loop
-add-t17 c = search needs
+add-t21 : tie.Need-add-t21 Inv-loop μ-loop
+add-t21 c = search needs
 
 returns : tie.Need-returns Inv-loop μ-loop
 returns c =
@@ -62,8 +67,11 @@ returns c =
     let e = part-line (k .before .before .before .args .template .now) _ (k .before .loop .at) (c .before .before .before .before .line-of .ensures) in
     walk-here (nameStep _) nameEnd _ _ _ _ (i .0) _ (k .loop-test .taken) e (name-repeated _ _ _ _ _ (c .before .before .before .name-of .ensures) (c .before .came-before .ensures) (c .if1 .taken))
 
+noted-with-requires : tie.Need-noted-with-requires Inv-loop μ-loop
+noted-with-requires c κs = search needs
+
 array-write-noted : tie.Need-array-write-noted Inv-loop μ-loop
-array-write-noted c = omega (arith, c .before .before .key-of .ensures, key-bound (c .before .before .before .name-of .result .now), c .before .before .before .before .before .before .before .loop .inv .2 .size)
+array-write-noted c = omega (arith, c .before .before .before .before .before .before .before .before .loop .inv .2 .size)
 
 add-at : tie.Need-add-at Inv-loop μ-loop
 add-at c = search needs
@@ -79,13 +87,13 @@ loop-less c = search needs
 
 loop-again : tie.Need-loop-again Inv-loop μ-loop
 loop-again c =
-    let k = c .before .before .before .before .before .before in
+    let k = c .before .before .before .before .before .before .before in
     let i = k .before .loop .inv in
     let n = k .before .loop .lines in
     let h = k .loop-test .taken in
-    let e = part-line (k .before .before .before .args .template .now) _ (k .before .loop .at) (c .before .before .before .before .line-of .ensures) in
-    let o = c .before .before .before .name-of .ensures in
-    (walk-later (nameStep _) nameEnd _ _ _ _ (i .0) _ h e _ (name-fresh _ _ _ _ _ o (c .before .came-before .ensures) (c .if1 .left)), lines-on _ _ _ n (i .1) h e, noted-on _ _ _ n (i .1) h e _ _ _ (i .2) o (c .before .before .key-of .ensures), omega arith)
+    let e = part-line (k .before .before .before .args .template .now) _ (k .before .loop .at) (c .before .before .before .before .before .line-of .ensures) in
+    let o = c .before .before .before .before .name-of .ensures in
+    (walk-later (nameStep _) nameEnd _ _ _ _ (i .0) _ h e _ (name-fresh _ _ _ _ _ o (c .before .before .came-before .ensures) (c .before .if1 .left)), lines-on _ _ _ n (i .1) h e, noted-on _ _ _ n (i .1) h e _ _ _ _ (i .2) o (c .before .before .before .key-of .ensures) (c .noted-with .ensures), omega arith)
 
 returns-2 : tie.Need-returns-2 Inv-loop μ-loop
 unfolding nameEnd
@@ -104,10 +112,13 @@ check-spec =
     line-of-requires
     name-of-requires
     key-of-requires
-    array-read-came-before
+    add-print
+    cast-print
+    array-read-before
     came-before-requires
-    add-t17
+    add-t21
     returns
+    noted-with-requires
     array-write-noted
     add-at
     add-at-2
