@@ -1,7 +1,7 @@
 pub mod LineLaws
 pub mod WalkLaws
 pub mod NameLaws
-pub mod KeyLaws
+pub mod NoteLaws
 pub mod NestLaws
 pub mod FormLaws
 pub mod SectionLaws

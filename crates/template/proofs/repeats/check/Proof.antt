@@ -10,7 +10,7 @@ use Rattle.template.specs.Checks.{nameStep, nameEnd, nameCheck}
 use Rattle.template.proofs.LineLaws.{part-line}
 use Rattle.template.proofs.WalkLaws.{walk-end, walk-here, walk-later}
 use Rattle.template.proofs.NameLaws.{name-repeated, name-fresh}
-use Rattle.template.proofs.KeyLaws.{Noted, none-noted, lines-on, noted-on}
+use Rattle.template.proofs.NoteLaws.{Noted, none-noted, lines-on, noted-on}
 use borrow.Author.Needs.{needs}
 use Rattle.template.proofs.repeats.check.Statement.{statement}
 use Rattle.template.proofs.repeats.check.Tie as tie

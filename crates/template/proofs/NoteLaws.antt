@@ -17,7 +17,7 @@ use Rattle.template.specs.Checks.{hasName}
 use Rattle.template.specs.Notes.{placeOf, printOf, notedWith, RuledOut}
 use Rattle.template.proofs.LineLaws.{lines-more}
 
--- ---- the lines before, and one more
+-- ---- the lines before, and one more: a name that none of them has
 
 no-more : (name : List ℕ) (n : ℕ) (ls : List (List ℕ)) (l : List ℕ) (rest : List (List ℕ)) → drop n ls ≡ l ∷ rest → hasName name (take n ls) ≡ false → sameBytes name (nameOf l) ≡ false → hasName name (take (suc n) ls) ≡ false
 unfolding hasName
@@ -35,7 +35,7 @@ no-more name (suc n) (x ∷ ls) l rest e h q = go (sameBytes name (nameOf x)) re
 -- ---- the names noted
 
 -- a print is from 1 to 254
-pub print-bound : (name : List ℕ) → (1 ≤ printOf name) × (printOf name ≤ 254)
+print-bound : (name : List ℕ) → (1 ≤ printOf name) × (printOf name ≤ 254)
 print-bound name = (omega arith, omega (arith, key-bound name))
 
 other-place : (a b : List ℕ) → (placeOf a ≡ placeOf b → ⊥) → sameBytes a b ≡ false
