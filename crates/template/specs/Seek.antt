@@ -16,39 +16,33 @@ use Rattle.template.specs.declared.seek.Skip.{Skip}
 use Rattle.template.specs.Lines.{linesOf}
 use Rattle.template.specs.Form.{shapeOf}
 
-unfoldable pub testRole : Shape → Role
-testRole Section = Passes
-testRole Remark = Passes
-testRole Test = Opens
-testRole Else = Divides
-testRole EndTest = Closes
-testRole Table = Passes
-testRole EndTable = Passes
-testRole Plain = Passes
-testRole NoForm = Passes
+-- a failed test and an executed $ELSE look among tests, a skipped table among tables
+unfoldable pub amongTests : Sought → Role → Role
+amongTests Branch r = r
+amongTests TestEnd r = r
+amongTests TableEnd r = Passes
 
-unfoldable pub tableRole : Shape → Role
-tableRole Section = Passes
-tableRole Remark = Passes
-tableRole Test = Passes
-tableRole Else = Passes
-tableRole EndTest = Passes
-tableRole Table = Opens
-tableRole EndTable = Closes
-tableRole Plain = Passes
-tableRole NoForm = Passes
+unfoldable pub amongTables : Sought → Role → Role
+amongTables Branch r = Passes
+amongTables TestEnd r = Passes
+amongTables TableEnd r = r
 
 -- a $ELSE ends the search of a failed test only
-unfoldable pub elsePassed : Role → Role
-elsePassed Opens = Opens
-elsePassed Closes = Closes
-elsePassed Divides = Passes
-elsePassed Passes = Passes
+unfoldable pub atElse : Sought → Role
+atElse Branch = Divides
+atElse TestEnd = Passes
+atElse TableEnd = Passes
 
 unfoldable pub roleOf : Sought → Shape → Role
-roleOf Branch x = testRole x
-roleOf TestEnd x = elsePassed (testRole x)
-roleOf TableEnd x = tableRole x
+roleOf q Section = Passes
+roleOf q Remark = Passes
+roleOf q Test = amongTests q Opens
+roleOf q Else = atElse q
+roleOf q EndTest = amongTests q Closes
+roleOf q Table = amongTables q Opens
+roleOf q EndTable = amongTables q Closes
+roleOf q Plain = Passes
+roleOf q NoForm = Passes
 
 -- behind a line, with d tests or tables open inside: "matching" is what closes or divides none of these
 unfoldable pub past : Role → ℕ → Way

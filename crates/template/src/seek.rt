@@ -3,7 +3,7 @@ use crate::form;
 use nesting::Shape;
 ghost use mathlib.Core.Path.{_≡_};
 ghost use Prim.Native.Nat.{_≤_};
-ghost use Rattle.template.specs.Seek.{testRole, tableRole, elsePassed, roleOf, past, skipped};
+ghost use Rattle.template.specs.Seek.{amongTests, amongTables, atElse, roleOf, past, skipped};
 
 pub enum Sought {
     // a failed test: "the line after its matching `$ELSE`, or `$ENDIF` if there is none"
@@ -36,60 +36,52 @@ pub struct Skip {
 
 const LONGEST_TEMPLATE: usize = 32_768;
 
-fn test_role(shape: Shape) -> Role
-    ensures { λ r. ⌜ r ≡ testRole shape ⌝ }
+// A failed test and an executed $ELSE look among tests.
+fn among_tests(sought: Sought, role: Role) -> Role
+    ensures { λ r. ⌜ r ≡ amongTests sought role ⌝ }
 {
-    match shape {
-        Shape::Section => Role::Passes,
-        Shape::Remark => Role::Passes,
-        Shape::Test => Role::Opens,
-        Shape::Else => Role::Divides,
-        Shape::EndTest => Role::Closes,
-        Shape::Table => Role::Passes,
-        Shape::EndTable => Role::Passes,
-        Shape::Plain => Role::Passes,
-        Shape::NoForm => Role::Passes,
+    match sought {
+        Sought::Branch => role,
+        Sought::TestEnd => role,
+        Sought::TableEnd => Role::Passes,
     }
 }
 
-fn table_role(shape: Shape) -> Role
-    ensures { λ r. ⌜ r ≡ tableRole shape ⌝ }
+// A skipped table looks among tables.
+fn among_tables(sought: Sought, role: Role) -> Role
+    ensures { λ r. ⌜ r ≡ amongTables sought role ⌝ }
 {
-    match shape {
-        Shape::Section => Role::Passes,
-        Shape::Remark => Role::Passes,
-        Shape::Test => Role::Passes,
-        Shape::Else => Role::Passes,
-        Shape::EndTest => Role::Passes,
-        Shape::Table => Role::Opens,
-        Shape::EndTable => Role::Closes,
-        Shape::Plain => Role::Passes,
-        Shape::NoForm => Role::Passes,
+    match sought {
+        Sought::Branch => Role::Passes,
+        Sought::TestEnd => Role::Passes,
+        Sought::TableEnd => role,
     }
 }
 
 // A $ELSE ends the search of a failed test only.
-fn else_passed(role: Role) -> Role
-    ensures { λ r. ⌜ r ≡ elsePassed role ⌝ }
+fn at_else(sought: Sought) -> Role
+    ensures { λ r. ⌜ r ≡ atElse sought ⌝ }
 {
-    match role {
-        Role::Opens => Role::Opens,
-        Role::Closes => Role::Closes,
-        Role::Divides => Role::Passes,
-        Role::Passes => Role::Passes,
+    match sought {
+        Sought::Branch => Role::Divides,
+        Sought::TestEnd => Role::Passes,
+        Sought::TableEnd => Role::Passes,
     }
 }
 
 fn role_of(sought: Sought, shape: Shape) -> Role
     ensures { λ r. ⌜ r ≡ roleOf sought shape ⌝ }
 {
-    match sought {
-        Sought::Branch => test_role(shape),
-        Sought::TestEnd => {
-            let role = test_role(shape);
-            else_passed(role)
-        }
-        Sought::TableEnd => table_role(shape),
+    match shape {
+        Shape::Section => Role::Passes,
+        Shape::Remark => Role::Passes,
+        Shape::Test => among_tests(sought, Role::Opens),
+        Shape::Else => at_else(sought),
+        Shape::EndTest => among_tests(sought, Role::Closes),
+        Shape::Table => among_tables(sought, Role::Opens),
+        Shape::EndTable => among_tables(sought, Role::Closes),
+        Shape::Plain => Role::Passes,
+        Shape::NoForm => Role::Passes,
     }
 }
 
