@@ -4,22 +4,24 @@ use mathlib.Core.List.{List, [], _∷_}
 use Prim.Native.Nat.{ℕ, _+_, _*_, _%_}
 use lib.Dec.{eqb}
 use lib.ListN.{length}
+use Rattle.scan.specs.Ascii.{ascii}
 use Rattle.scan.specs.Line.{window}
 use Rattle.scan.specs.Words.{begins}
 
--- `$SEC` and the space before the name
+-- the word and the space before the name
 abbrev pub sectionWord : List ℕ
-sectionWord = 36 ∷ 83 ∷ 69 ∷ 67 ∷ 32 ∷ []
+sectionWord = ascii "$SEC "
 
 -- "`$SEC name`", "Names are compared by their first eight characters". Empty where the line isn't $SEC. Of the lines that
--- check 3 lets through, those that begin with `$SEC ` are the sections, and nothing stands behind the name
+-- check 3 lets through, just those that begin with `$SEC ` are sections, and nothing stands behind the name
+-- (lines/proofs/SectionLaws)
 unfoldable pub nameOf : List ℕ → List ℕ
 nameOf l = cond (begins sectionWord l) (window l 5 8) []
 
 abbrev pub sameBytes : List ℕ → List ℕ → Bool
 sameBytes a b = eqb (length a) (length b) && begins a b
 
--- the key of some bytes behind others that had a key
+-- What key_of computes, which no check's definition names: the key of some bytes behind others that had a key
 unfoldable pub keyFrom : ℕ → List ℕ → ℕ
 keyFrom k [] = k
 keyFrom k (b ∷ s) = keyFrom ((k * 927 + b) % 4155694) s
