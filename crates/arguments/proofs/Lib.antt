@@ -1,3 +1,4 @@
 pub mod SignLaws
 pub mod ScaleLaws
+pub mod NameLaws
 pub mod OnwardLaws

@@ -14,7 +14,7 @@ use Rattle.scan.specs.declared.words.WordRead.{WordRead}
 use Rattle.scan.specs.declared.words.WordRead.the-variants.{Word, NoWord}
 use Rattle.scan.specs.Line.{byteAt}
 use Rattle.scan.specs.Digits.{digitsAt, numberAt}
-use Rattle.scan.specs.Words.{standsAt, wordAt}
+use Rattle.scan.specs.Words.{standsAt, wordAt, wordOr}
 use Rattle.scan.proofs.OnwardLaws.{picked, NumeralFrom, numeral, no-numeral, WordFrom, word, no-word, number-from, word-from}
 use Rattle.arguments.specs.declared.literal.LiteralRead.{LiteralRead}
 use Rattle.arguments.specs.declared.literal.LiteralRead.the-variants.{LiteralTo, NoLiteral}
@@ -32,8 +32,10 @@ use Rattle.arguments.specs.declared.argument.ArgumentRead.{ArgumentRead}
 use Rattle.arguments.specs.declared.argument.ArgumentRead.the-variants.{ArgumentTo, NoArgument}
 use Rattle.arguments.specs.Literal.{inMillionths, fractionAt, unsignedAt, literalAt}
 use Rattle.arguments.specs.Index.{loopWord, variableWord, variableIndex, indexAt}
-use Rattle.arguments.specs.Operand.{stringEnd, stringAt, entryOf, recordOf, cellOf, cellAt, names, numbered, limitOf, numberedOf, numberedAt, namedOf, namedAt, numberOr, operandAt}
+use Rattle.arguments.specs.Operand.{stringEnd, stringAt, entryOf, recordOf, cellOf, cellAt, numberedOf, numberedAt, namedAt, numberOr, operandAt}
+use Rattle.arguments.specs.Named.{nameWords, numbered, limitOf, nameAt}
 use Rattle.arguments.specs.Argument.{filterNames, filterOf, admitted, filteredOf, argumentOf, argumentAt}
+use Rattle.arguments.proofs.NameLaws.{name-by-number}
 
 data LiteralFrom (from : ℕ) : LiteralRead → Type 0 where
   literal : (q : Quantity) (next : ℕ) → from ≤ next → LiteralFrom from (LiteralTo q next)
@@ -119,21 +121,24 @@ module _ (l : List ℕ) (from : ℕ) where
       (operand (Parameter n) next (omega arith))
   cell-from NoNumeral no-numeral = no-operand
 
-  numbered-from : (name : ℕ) (n : Numeral) → NumeralFrom from n → OperandFrom from (numberedOf name n)
+  numbered-from : (form : ℕ → Operand) (n : Numeral) → NumeralFrom from n → OperandFrom from (numberedOf form n)
   unfolding numberedOf
-  numbered-from name (Value n next) (numeral a b h) = operand (numbered name n) next (omega arith)
-  numbered-from name NoNumeral no-numeral = no-operand
+  numbered-from form (Value n next) (numeral a b h) = operand (form n) next h
+  numbered-from form NoNumeral no-numeral = no-operand
 
-  named-from : (w : WordRead) → WordFrom from w → OperandFrom from (namedOf l w)
-  unfolding namedOf cellAt numberedAt
-  named-from (Word name next) (word a b h) =
-      picked (OperandFrom from) (eqb name 0) (operand PageNumber next h)
-      (picked (OperandFrom from) (eqb name 1) (operand LineNumber next h)
-      (picked (OperandFrom from) (eqb name 2) (operand LoopCounter next h)
-      (picked (OperandFrom from) (eqb name 8)
+  name-from : (w : WordRead) → WordFrom from w → OperandFrom from (wordOr NoOperand w (λ k next. nameAt l next k))
+  unfolding nameAt cellAt numberedAt
+  name-from (Word k next) (word a b h) =
+      picked (OperandFrom from) (eqb k 0) (operand PageNumber next h)
+      (picked (OperandFrom from) (eqb k 1) (operand LineNumber next h)
+      (picked (OperandFrom from) (eqb k 2) (operand LoopCounter next h)
+      (picked (OperandFrom from) (eqb k 8)
       (cell-from (numberAt l next 65535) (number-from l from next h 65535))
-      (numbered-from name (numberAt l next (limitOf name)) (number-from l from next h (limitOf name))))))
-  named-from NoWord no-word = no-operand
+      (numbered-from (numbered k) (numberAt l next (limitOf k)) (number-from l from next h (limitOf k))))))
+  name-from NoWord no-word = no-operand
+
+  named-from : (at : ℕ) → from ≤ at → OperandFrom from (namedAt l at)
+  named-from at h = rw (name-by-number l at) (name-from (wordAt nameWords l at) (word-from l from at h nameWords))
 
   number-or-from : (o : OperandRead) (n : LiteralRead) → OperandFrom from o → LiteralFrom from n → OperandFrom from (numberOr o n)
   unfolding numberOr
@@ -141,11 +146,11 @@ module _ (l : List ℕ) (from : ℕ) where
   number-or-from o NoLiteral p no-literal = p
 
   operand-from : (at : ℕ) → from ≤ at → OperandFrom from (operandAt l at)
-  unfolding operandAt namedAt
+  unfolding operandAt
   operand-from at h =
       picked (OperandFrom from) (eqb (byteAt l at) 34)
       (string-from l from (at + 1) (omega arith))
-      (number-or-from (namedAt l at) (literalAt l at) (named-from (wordAt names l at) (word-from l from at h names)) (literal-from l from at h))
+      (number-or-from (namedAt l at) (literalAt l at) (named-from at h) (literal-from l from at h))
 
   filtered-from : (o : Operand) (w : WordRead) → WordFrom from w → ArgumentFrom from (filteredOf o w)
   unfolding filteredOf

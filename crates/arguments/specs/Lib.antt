@@ -1,5 +1,6 @@
 pub mod Literal
 pub mod Index
 pub mod Operand
+pub mod Named
 pub mod Argument
 pub mod Rows

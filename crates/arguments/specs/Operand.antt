@@ -1,19 +1,15 @@
 -- What stands before a filter. Assumes nothing.
 use mathlib.Core.Bool.{cond}
-use mathlib.Core.List.{List}
+use mathlib.Core.List.{List, [], _∷_}
 use Prim.Native.Nat.{ℕ, _+_}
-use lib.Dec.{ltb, eqb}
 use lib.ListN.{length}
 use Rattle.scan.specs.declared.run.Class.the-variants.{InString}
 use Rattle.scan.specs.declared.digits.Numeral.{Numeral}
 use Rattle.scan.specs.declared.digits.Numeral.the-variants.{Value, NoNumeral}
-use Rattle.scan.specs.declared.words.WordRead.{WordRead}
-use Rattle.scan.specs.declared.words.WordRead.the-variants.{Word, NoWord}
 use Rattle.scan.specs.Run.{span}
-use Rattle.scan.specs.Ascii.{ascii}
 use Rattle.scan.specs.Line.{byteIs, window}
 use Rattle.scan.specs.Digits.{numberAt}
-use Rattle.scan.specs.Words.{wordAt}
+use Rattle.scan.specs.Words.{Spelled, _takes_, firstOf}
 use Rattle.arguments.specs.declared.index.Index.{Index}
 use Rattle.arguments.specs.declared.index.IndexRead.{IndexRead}
 use Rattle.arguments.specs.declared.index.IndexRead.the-variants.{IndexTo, NoIndex}
@@ -50,41 +46,33 @@ cellOf l NoNumeral = NoOperand
 unfoldable pub cellAt : List ℕ → ℕ → OperandRead
 cellAt l at = cellOf l (numberAt l at 65535)
 
-abbrev pub names : List ℕ
-names = ascii "PAGENUM LINENUM LOOP    IV      FV      SV      R       T       P       "
+unfoldable pub wholeAt : Operand → List ℕ → ℕ → OperandRead
+wholeAt o l at = OperandTo o at
 
--- "IVn, FVn, SVn"; "Rn, Tn"
-unfoldable pub numbered : ℕ → ℕ → Operand
-numbered name n =
-    cond (eqb name 3) (IntegerVariable n)
-    (cond (eqb name 4) (DecimalVariable n)
-    (cond (eqb name 5) (StringVariable n)
-    (cond (eqb name 6) (RecordElement n)
-    (EntryElement n))))
+unfoldable pub numberedOf : (ℕ → Operand) → Numeral → OperandRead
+numberedOf form (Value n next) = OperandTo (form n) next
+numberedOf form NoNumeral = NoOperand
 
--- "IVn, FVn, SVn (n 1–99)"; "Rn, Tn (n 1–10)"
-unfoldable pub limitOf : ℕ → ℕ
-limitOf name = cond (ltb name 6) 99 10
+-- a name with a number from 1 to a limit
+unfoldable pub numberedAt : (ℕ → Operand) → ℕ → List ℕ → ℕ → OperandRead
+numberedAt form limit l at = numberedOf form (numberAt l at limit)
 
-unfoldable pub numberedOf : ℕ → Numeral → OperandRead
-numberedOf name (Value n next) = OperandTo (numbered name n) next
-numberedOf name NoNumeral = NoOperand
-
-unfoldable pub numberedAt : List ℕ → ℕ → ℕ → OperandRead
-numberedAt l at name = numberedOf name (numberAt l at (limitOf name))
-
--- "PAGENUM; LINENUM; LOOP", or a name with a number
-unfoldable pub namedOf : List ℕ → WordRead → OperandRead
-namedOf l (Word name next) =
-    cond (eqb name 0) (OperandTo PageNumber next)
-    (cond (eqb name 1) (OperandTo LineNumber next)
-    (cond (eqb name 2) (OperandTo LoopCounter next)
-    (cond (eqb name 8) (cellAt l next)
-    (numberedAt l next name))))
-namedOf l NoWord = NoOperand
+-- "IVn, FVn, SVn (n 1–99); PAGENUM; LINENUM; LOOP; Rn, Tn (n 1–10); a cell"
+unfoldable pub names : List (Spelled OperandRead)
+names =
+    "PAGENUM" takes wholeAt PageNumber
+    ∷ "LINENUM" takes wholeAt LineNumber
+    ∷ "LOOP" takes wholeAt LoopCounter
+    ∷ "IV" takes numberedAt IntegerVariable 99
+    ∷ "FV" takes numberedAt DecimalVariable 99
+    ∷ "SV" takes numberedAt StringVariable 99
+    ∷ "R" takes numberedAt RecordElement 10
+    ∷ "T" takes numberedAt EntryElement 10
+    ∷ "P" takes cellAt
+    ∷ []
 
 unfoldable pub namedAt : List ℕ → ℕ → OperandRead
-namedAt l at = namedOf l (wordAt names l at)
+namedAt l at = firstOf NoOperand names l at
 
 -- a number, or what a name begins: no name begins with a digit or `-`
 unfoldable pub numberOr : OperandRead → LiteralRead → OperandRead

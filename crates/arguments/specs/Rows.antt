@@ -6,14 +6,14 @@ use Rattle.scan.specs.Ascii.{ascii}
 use Rattle.scan.specs.Run.{belongs, span}
 use Rattle.scan.specs.Line.{byteAt}
 use Rattle.scan.specs.Digits.{valueFrom, digitsAt, numberAt}
-use Rattle.scan.specs.Words.{begins, standsAt, wordIn, wordFrom, wordAt}
+use Rattle.scan.specs.Words.{begins, standsAt, wordIn, wordFrom, wordAt, firstOf}
 use Rattle.arguments.specs.declared.literal.LiteralRead.the-variants.{LiteralTo, NoLiteral}
 use Rattle.arguments.specs.declared.index.Index.the-variants.{Fixed, Loop}
 use Rattle.arguments.specs.declared.operand.Operand.the-variants.{Text, IntegerVariable, RecordElement, Parameter, Entry}
 use Rattle.arguments.specs.declared.operand.OperandRead.the-variants.{OperandTo, NoOperand}
 use Rattle.arguments.specs.Literal.{inMillionths, fractionAt, unsignedAt, literalAt}
 use Rattle.arguments.specs.Index.{variableIndex, indexAt}
-use Rattle.arguments.specs.Operand.{stringAt, entryOf, recordOf, cellOf, cellAt, numbered, limitOf, numberedOf, numberedAt, namedOf, namedAt, numberOr, operandAt}
+use Rattle.arguments.specs.Operand.{stringAt, entryOf, recordOf, cellOf, cellAt, wholeAt, numberedOf, numberedAt, names, namedAt, numberOr, operandAt}
 
 abbrev Rows : Type 0
 Rows =
@@ -43,5 +43,5 @@ Rows =
 
 -- The rows hold.
 pub rows : Rows
-unfolding belongs span byteAt valueFrom digitsAt numberAt begins standsAt wordIn wordFrom wordAt inMillionths fractionAt unsignedAt literalAt variableIndex indexAt stringAt entryOf recordOf cellOf cellAt numbered limitOf numberedOf numberedAt namedOf namedAt numberOr operandAt
+unfolding belongs span byteAt valueFrom digitsAt numberAt begins standsAt wordIn wordFrom wordAt firstOf inMillionths fractionAt unsignedAt literalAt variableIndex indexAt stringAt entryOf recordOf cellOf cellAt wholeAt numberedOf numberedAt names namedAt numberOr operandAt
 rows = (refl, refl, refl, refl, refl, refl, refl, refl, refl, refl, refl, refl, refl, refl, refl, refl, refl, refl)

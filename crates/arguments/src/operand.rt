@@ -13,7 +13,8 @@ use scan::run::Class;
 use scan::words;
 use scan::words::WordRead;
 ghost use mathlib.Core.Path.{_≡_};
-ghost use Rattle.arguments.specs.Operand.{stringAt, cellAt, numbered, limitOf, numberedAt, namedAt, operandAt};
+ghost use Rattle.arguments.specs.Operand.{stringAt, cellAt, numberedAt, namedAt, operandAt};
+ghost use Rattle.arguments.specs.Named.{numbered, limitOf};
 
 pub enum Operand {
     Number(Quantity),
@@ -105,7 +106,7 @@ fn limit_of(name: usize) -> usize
 }
 
 fn numbered_at(line: &[u8], at: usize, name: usize) -> OperandRead
-    ensures { λ r. ⌜ r ≡ numberedAt (now (line .entry)) at name ⌝ }
+    ensures { λ r. ⌜ r ≡ numberedAt (numbered name) (limitOf name) (now (line .entry)) at ⌝ }
 {
     let limit = limit_of(name);
     let Numeral::Value(n, next) = digits::number_at(line, at, limit) else {

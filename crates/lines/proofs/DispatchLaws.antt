@@ -1,38 +1,25 @@
 -- A word's number in the table finds the command that the definition finds by its word.
 use mathlib.Core.Path.{_≡_, refl}
 use mathlib.Core.Bool.{Bool, true, false}
-use mathlib.Core.List.{List, [], _∷_}
-use Prim.Native.Nat.{ℕ, zero, suc, _+_}
+use mathlib.Core.List.{List}
+use Prim.Native.Nat.{ℕ}
 use borrow.Author.Tests.{ne-eqb}
 use lib.Dec.{eqb}
 use Rattle.scan.specs.Run.{belongs, span}
-use Rattle.scan.specs.Words.{standsAt, wordIn, wordFrom, wordAt}
+use Rattle.scan.specs.Words.{wordIn, wordAt, firstOf, wordOr}
+use Rattle.scan.proofs.WordLaws.{tabled, by-number}
 use Rattle.lines.specs.declared.set.TargetRead.the-variants.{NoTarget}
+use Rattle.lines.specs.declared.command.Line.the-variants.{NoForm}
 use Rattle.lines.specs.Set.{stringTarget}
-use Rattle.lines.specs.Command.{Command, commands, firstOf}
-use Rattle.lines.specs.Dispatch.{commandWords, operationOf, comparisonOf, singleOf, bareOf, optionalOf, fetchOf, otherAt, commandAt, commandOf}
+use Rattle.lines.specs.Command.{commands}
+use Rattle.lines.specs.Dispatch.{commandWords, operationOf, comparisonOf, singleOf, bareOf, optionalOf, fetchOf, otherAt, commandAt}
 
--- n words of the table from the k-th on, each with what its number finds
-unfoldable numbered : ℕ → ℕ → List Command
-numbered zero k = []
-numbered (suc n) k = record { word = wordIn commandWords k; form = λ l at. commandAt l at k } ∷ numbered n (k + 1)
-
-all-words : numbered 27 0 ≡ commands
-unfolding numbered commands belongs span wordIn operationOf comparisonOf singleOf bareOf optionalOf fetchOf otherAt commandAt
+all-words : tabled commandWords commandAt 27 0 ≡ commands
+unfolding tabled commands belongs span wordIn operationOf comparisonOf singleOf bareOf optionalOf fetchOf otherAt commandAt
 all-words = refl
 
-found : (l : List ℕ) (n k : ℕ) → firstOf (numbered n k) l ≡ commandOf l (wordFrom commandWords l 1 n k)
-unfolding numbered wordFrom commandOf firstOf
-found l zero k = refl
-found l (suc n) k = go (standsAt (wordIn commandWords k) l 1) refl (found l n (k + 1))
-  where
-    go : (b : Bool) → standsAt (wordIn commandWords k) l 1 ≡ b → firstOf (numbered n (k + 1)) l ≡ commandOf l (wordFrom commandWords l 1 n (k + 1)) → firstOf (numbered (suc n) k) l ≡ commandOf l (wordFrom commandWords l 1 (suc n) k)
-    go true e q = rw e
-    go false e q = rw e q
-
-pub by-number : (l : List ℕ) → firstOf commands l ≡ commandOf l (wordAt commandWords l 1)
-unfolding wordAt
-by-number l = rw (← all-words) (found l 27 0)
+pub command-by-number : (l : List ℕ) → firstOf NoForm commands l 1 ≡ wordOr NoForm (wordAt commandWords l 1) (λ k next. commandAt l next k)
+command-by-number l = by-number NoForm commandWords commandAt l 1 commands all-words
 
 -- "after another word than $SETE it is 3"
 pub not-assigned : (n k : ℕ) → (k ≡ 1 → ⊥) → stringTarget n (operationOf k) ≡ NoTarget

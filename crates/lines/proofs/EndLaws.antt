@@ -4,16 +4,16 @@ use mathlib.Core.List.{List}
 use Prim.Native.Nat.{ℕ, _≤_}
 use lib.ListN.{length, drop-of-length-le, List·getD-eq-default}
 use Rattle.scan.specs.declared.digits.Numeral.the-variants.{NoNumeral}
-use Rattle.scan.specs.Run.{belongs, span}
+use Rattle.scan.specs.Run.{span}
 use Rattle.scan.specs.Line.{byteAt}
 use Rattle.scan.specs.Digits.{digitsAt, numberAt}
-use Rattle.scan.specs.Words.{begins, standsAt, wordIn, wordFrom, wordAt}
+use Rattle.scan.specs.Words.{begins, standsAt, firstOf}
 use Rattle.arguments.specs.declared.index.IndexRead.the-variants.{NoIndex}
 use Rattle.arguments.specs.declared.operand.OperandRead.the-variants.{NoOperand}
 use Rattle.arguments.specs.declared.argument.ArgumentRead.the-variants.{NoArgument}
 use Rattle.arguments.specs.Literal.{unsignedAt, literalAt}
 use Rattle.arguments.specs.Index.{indexAt}
-use Rattle.arguments.specs.Operand.{namedOf, namedAt, numberOr, operandAt}
+use Rattle.arguments.specs.Operand.{names, namedAt, numberOr, operandAt}
 use Rattle.arguments.specs.Argument.{argumentOf, argumentAt}
 use Rattle.lines.specs.declared.command.Line.the-variants.{NoForm}
 use Rattle.lines.specs.Fetch.{parameterAt}
@@ -37,7 +37,7 @@ module _ (l : List ℕ) (at : ℕ) (h : length l ≤ at) where
   no-index = rw (drop-of-length-le l h)
 
   pub no-operand : operandAt l at ≡ NoOperand
-  unfolding belongs span digitsAt begins standsAt wordIn wordFrom wordAt unsignedAt literalAt namedOf namedAt numberOr operandAt
+  unfolding span digitsAt begins standsAt firstOf unsignedAt literalAt names namedAt numberOr operandAt
   no-operand = rw (no-byte, drop-of-length-le l h)
 
   pub no-argument : argumentAt l at ≡ NoArgument

@@ -1,12 +1,9 @@
 -- What a line is: "Commands", each by its word and what stands behind it. Assumes nothing.
 use mathlib.Core.Bool.{cond}
 use mathlib.Core.List.{List, [], _∷_}
-use Prim.Native.Nat.{ℕ, _+_}
-use Prim.Native.String.{String}
-use lib.ListN.{length}
-use Rattle.scan.specs.Ascii.{ascii}
+use Prim.Native.Nat.{ℕ}
 use Rattle.scan.specs.Line.{byteIs}
-use Rattle.scan.specs.Words.{standsAt}
+use Rattle.scan.specs.Words.{Spelled, _takes_, firstOf}
 use Rattle.texts.specs.Text.{textFits}
 use Rattle.lines.specs.declared.command.Operation.the-variants.{Assign, Add, Subtract, Multiply, Divide}
 use Rattle.lines.specs.declared.command.Comparison.the-variants.{SameString, SameLetters, Equal, NotEqual, Less, AtMost, Greater, AtLeast}
@@ -18,17 +15,8 @@ use Rattle.lines.specs.Simple.{singleAt, bareAt, optionalAt}
 use Rattle.lines.specs.Fetch.{fetchAt}
 use Rattle.lines.specs.Title.{sectionAt, headingAt, remarkAt}
 
--- a command's word, and its form by the line and the place behind the word
-pub record Command : Type 0 where
-  pub word : List ℕ
-  pub form : List ℕ → ℕ → Line
-
-infix 70 _takes_
-abbrev _takes_ : String → (List ℕ → ℕ → Line) → Command
-w takes f = record { word = ascii w; form = f }
-
--- a longer word stands before those it begins with
-unfoldable pub commands : List Command
+-- each word with its form; a longer one stands before those it begins with
+unfoldable pub commands : List (Spelled Line)
 commands =
     "SETDS" takes datasourceAt
     ∷ "SETE" takes setAt Assign
@@ -59,11 +47,6 @@ commands =
     ∷ "REM" takes remarkAt
     ∷ []
 
--- the first of some commands whose word stands behind the `$`
-unfoldable pub firstOf : List Command → List ℕ → Line
-firstOf [] l = NoForm
-firstOf (c ∷ cs) l = cond (standsAt (c .word) l 1) (c .form l (1 + length (c .word))) (firstOf cs l)
-
 -- "A line beginning with `$` is a command: word, then arguments"; "Other lines are text, blank ones included"
 unfoldable pub parseLine : List ℕ → Line
-parseLine l = cond (byteIs l 0 "$") (firstOf commands l) (cond (textFits l 0) Text NoForm)
+parseLine l = cond (byteIs l 0 "$") (firstOf NoForm commands l 1) (cond (textFits l 0) Text NoForm)

@@ -3,8 +3,6 @@ use mathlib.Core.Bool.{cond}
 use mathlib.Core.List.{List}
 use Prim.Native.Nat.{ℕ}
 use lib.Dec.{ltb, eqb}
-use Rattle.scan.specs.declared.words.WordRead.{WordRead}
-use Rattle.scan.specs.declared.words.WordRead.the-variants.{Word, NoWord}
 use Rattle.scan.specs.Ascii.{ascii}
 use Rattle.arguments.specs.declared.argument.Argument.{Argument}
 use Rattle.lines.specs.declared.command.Operation.{Operation}
@@ -14,7 +12,7 @@ use Rattle.lines.specs.declared.command.Comparison.the-variants.{SameStr
 use Rattle.lines.specs.declared.command.Optional.{Optional}
 use Rattle.lines.specs.declared.command.Fetch.{Fetch}
 use Rattle.lines.specs.declared.command.Line.{Line}
-use Rattle.lines.specs.declared.command.Line.the-variants.{NoForm, IfZero, IfNonZero, Else, EndIf, BeginTable, EndTable, Records, Entries, NoFormFeed, NewPage}
+use Rattle.lines.specs.declared.command.Line.the-variants.{IfZero, IfNonZero, Else, EndIf, BeginTable, EndTable, Records, Entries, NoFormFeed, NewPage}
 use Rattle.lines.specs.Set.{setAt, datasourceAt}
 use Rattle.lines.specs.Compare.{compareAt}
 use Rattle.lines.specs.Simple.{singleAt, bareAt, optionalAt}
@@ -69,7 +67,3 @@ commandAt l at k =
     (cond (ltb k 17) (singleAt (singleOf k) l at)
     (cond (ltb k 20) (bareAt (bareOf k) l at)
     (otherAt l at k)))))
-
-unfoldable pub commandOf : List ℕ → WordRead → Line
-commandOf l (Word k next) = commandAt l next k
-commandOf l NoWord = NoForm

@@ -9,7 +9,7 @@ use Rattle.scan.specs.Ascii.{ascii}
 use Rattle.scan.specs.Run.{belongs, span}
 use Rattle.scan.specs.Line.{byteAt}
 use Rattle.scan.specs.Digits.{valueFrom, digitsAt, numberAt}
-use Rattle.scan.specs.Words.{begins, standsAt, wordIn, wordFrom, wordAt}
+use Rattle.scan.specs.Words.{begins, standsAt, wordIn, wordFrom, wordAt, firstOf}
 use Rattle.arguments.specs.declared.index.Index.the-variants.{Fixed, Variable, Loop}
 use Rattle.arguments.specs.declared.operand.Operand.{Operand}
 use Rattle.arguments.specs.declared.operand.Operand.the-variants.{Number, IntegerVariable, DecimalVariable, StringVariable, PageNumber, LineNumber, LoopCounter, RecordElement, EntryElement, Parameter, Record, Entry}
@@ -19,7 +19,7 @@ use Rattle.arguments.specs.declared.argument.Filter.{Filter}
 use Rattle.arguments.specs.declared.argument.Filter.the-variants.{Unfiltered, Absolute, Truncated, UpperCase, Length, RecordCount, EntryCount}
 use Rattle.arguments.specs.Literal.{inMillionths, fractionAt, unsignedAt, literalAt}
 use Rattle.arguments.specs.Index.{variableIndex, indexAt}
-use Rattle.arguments.specs.Operand.{stringAt, entryOf, recordOf, cellOf, cellAt, numbered, limitOf, numberedOf, numberedAt, namedOf, namedAt, numberOr, operandAt}
+use Rattle.arguments.specs.Operand.{stringAt, entryOf, recordOf, cellOf, cellAt, wholeAt, numberedOf, numberedAt, names, namedAt, numberOr, operandAt}
 use Rattle.arguments.specs.Argument.{filterOf, countOf, admitted, filteredOf, argumentOf, argumentAt}
 use Rattle.texts.specs.Text.{placesAt, placesOf, widthNext, fieldOf, fieldAt, placed, pieceAt, widthOf, totalWidth, before, piecesWithin, textPieces, fitsBehind, textFits}
 use Rattle.lines.specs.declared.command.Operation.the-variants.{Assign, Add, Subtract, Multiply, Divide}
@@ -34,7 +34,7 @@ use Rattle.lines.specs.Compare.{compareAt}
 use Rattle.lines.specs.Simple.{singleAt, bareAt, optionalAt}
 use Rattle.lines.specs.Fetch.{parameterAt, fetchedAt, fetchAt}
 use Rattle.lines.specs.Title.{nameAt, sectionAt, headingOf, headingAt, remarkAt}
-use Rattle.lines.specs.Command.{commands, firstOf, parseLine}
+use Rattle.lines.specs.Command.{commands, parseLine}
 
 -- what a line is, and what is expected
 pub record Row : Type 0 where
@@ -148,5 +148,5 @@ rows =
     ∷ []
 
 pub rows-hold : map (λ (r : Row). r .computed) rows ≡ map (λ (r : Row). r .expected) rows
-unfolding rows belongs span byteAt valueFrom digitsAt numberAt begins standsAt wordIn wordFrom wordAt inMillionths fractionAt unsignedAt literalAt variableIndex indexAt stringAt entryOf recordOf cellOf cellAt numbered limitOf numberedOf numberedAt namedOf namedAt numberOr operandAt filterOf countOf admitted filteredOf argumentOf argumentAt placesAt placesOf widthNext fieldOf fieldAt placed pieceAt widthOf totalWidth before piecesWithin textPieces fitsBehind textFits behindSpace stringTarget targetOf setAt datasourceAt compareAt singleAt bareAt optionalAt parameterAt fetchedAt fetchAt nameAt sectionAt headingOf headingAt remarkAt commands firstOf parseLine
+unfolding rows belongs span byteAt valueFrom digitsAt numberAt begins standsAt wordIn wordFrom wordAt firstOf inMillionths fractionAt unsignedAt literalAt variableIndex indexAt stringAt entryOf recordOf cellOf cellAt wholeAt numberedOf numberedAt names namedAt numberOr operandAt filterOf countOf admitted filteredOf argumentOf argumentAt placesAt placesOf widthNext fieldOf fieldAt placed pieceAt widthOf totalWidth before piecesWithin textPieces fitsBehind textFits behindSpace stringTarget targetOf setAt datasourceAt compareAt singleAt bareAt optionalAt parameterAt fetchedAt fetchAt nameAt sectionAt headingOf headingAt remarkAt commands parseLine
 rows-hold = refl

@@ -2,7 +2,7 @@
 use mathlib.Core.Path.{_≡_, refl, sym, _∙_}
 use mathlib.Core.Bool.{Bool, true, false, false≢true}
 use mathlib.Core.List.{List, [], _∷_}
-use Prim.Native.Nat.{ℕ, suc, _+_, _-_, _*_, _<_, _≤_, zero-le}
+use Prim.Native.Nat.{ℕ, zero, suc, _+_, _-_, _*_, _/_, _<_, _≤_, zero-le}
 use native.Mathlib.Numerals.{add-one}
 use native.Mathlib.Omega.{arith}
 use borrow.Author.Tests.{eq-eqb, ne-eqb}
@@ -13,7 +13,7 @@ use Rattle.scan.specs.declared.words.WordRead.the-variants.{Word, NoWord
 use Rattle.scan.specs.declared.run.Class.the-variants.{InName}
 use Rattle.scan.specs.Run.{belongs, span}
 use Rattle.scan.specs.Line.{window}
-use Rattle.scan.specs.Words.{begins, standsAt, wordIn, wordFrom}
+use Rattle.scan.specs.Words.{begins, standsAt, wordIn, wordFrom, wordAt, Spelled, firstOf, wordOr}
 use Rattle.scan.proofs.RunLaws.{span-end, span-stop, span-more}
 
 pub begins-end : (w s : List ℕ) (j : ℕ) → length w ≤ j → begins (drop j w) s ≡ true
@@ -95,3 +95,23 @@ module _ (table l : List ℕ) (at n k : ℕ) where
 
 pub word-start : (table l : List ℕ) (at n : ℕ) → wordFrom table l at (n - 0) 0 ≡ wordFrom table l at n 0
 word-start table l at n = let e : n - 0 ≡ n = omega arith in rw e
+
+-- n words of a table from the k-th on, each with what its number stands for
+unfoldable pub tabled : {A : Type 0} → List ℕ → (List ℕ → ℕ → ℕ → A) → ℕ → ℕ → List (Spelled A)
+tabled table act zero k = []
+tabled table act (suc n) k = record { word = wordIn table k; form = λ l at. act l at k } ∷ tabled table act n (k + 1)
+
+module _ {A : Type 0} (none : A) (table : List ℕ) (act : List ℕ → ℕ → ℕ → A) (l : List ℕ) (at : ℕ) where
+  tabled-found : (n k : ℕ) → firstOf none (tabled table act n k) l at ≡ wordOr none (wordFrom table l at n k) (λ j next. act l next j)
+  unfolding tabled wordFrom firstOf
+  tabled-found zero k = refl
+  tabled-found (suc n) k = go (standsAt (wordIn table k) l at) refl (tabled-found n (k + 1))
+    where
+      go : (b : Bool) → standsAt (wordIn table k) l at ≡ b → firstOf none (tabled table act n (k + 1)) l at ≡ wordOr none (wordFrom table l at n (k + 1)) (λ j next. act l next j) → firstOf none (tabled table act (suc n) k) l at ≡ wordOr none (wordFrom table l at (suc n) k) (λ j next. act l next j)
+      go true e q = rw e
+      go false e q = rw e q
+
+  -- a word's number in a table finds what the word begins
+  pub by-number : (es : List (Spelled A)) → tabled table act (length table / 8) 0 ≡ es → firstOf none es l at ≡ wordOr none (wordAt table l at) (λ j next. act l next j)
+  unfolding wordAt
+  by-number es e = rw (← e) (tabled-found (length table / 8) 0)

@@ -2,11 +2,13 @@
 use mathlib.Core.Bool.{Bool, true, false, cond}
 use mathlib.Core.List.{List, [], _∷_}
 use Prim.Native.Nat.{ℕ, zero, suc, _+_, _*_, _/_}
+use Prim.Native.String.{String}
 use lib.Dec.{eqb}
 use lib.ListN.{length, drop}
 use Rattle.scan.specs.declared.run.Class.the-variants.{InName}
 use Rattle.scan.specs.declared.words.WordRead.{WordRead}
 use Rattle.scan.specs.declared.words.WordRead.the-variants.{Word, NoWord}
+use Rattle.scan.specs.Ascii.{ascii}
 use Rattle.scan.specs.Run.{span}
 use Rattle.scan.specs.Line.{window}
 
@@ -32,3 +34,21 @@ wordFrom table l at (suc n) k =
 
 unfoldable pub wordAt : List ℕ → List ℕ → ℕ → WordRead
 wordAt table l at = wordFrom table l at (length table / 8) 0
+
+-- a word, and what it begins, by the line and the place behind the word
+pub record Spelled (A : Type 0) : Type 0 where
+  pub word : List ℕ
+  pub form : List ℕ → ℕ → A
+
+infix 70 _takes_
+abbrev pub _takes_ : {A : Type 0} → String → (List ℕ → ℕ → A) → Spelled A
+w takes f = record { word = ascii w; form = f }
+
+-- what the first of some words begins that a line has at a place
+unfoldable pub firstOf : {A : Type 0} → A → List (Spelled A) → List ℕ → ℕ → A
+firstOf none [] l at = none
+firstOf none (e ∷ es) l at = cond (standsAt (e .word) l at) (e .form l (at + length (e .word))) (firstOf none es l at)
+
+abbrev pub wordOr : {A : Type 0} → A → WordRead → (ℕ → ℕ → A) → A
+wordOr none (Word k next) found = found k next
+wordOr none NoWord found = none

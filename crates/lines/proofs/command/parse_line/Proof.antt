@@ -2,8 +2,7 @@
 use mathlib.Core.Path.{sym, _∙_}
 use borrow.Author.Tests.{eq-eqb, ne-eqb}
 use Rattle.lines.specs.Command.{parseLine}
-use Rattle.lines.specs.Dispatch.{commandOf}
-use Rattle.lines.proofs.DispatchLaws.{by-number}
+use Rattle.lines.proofs.DispatchLaws.{command-by-number}
 use borrow.Author.Needs.{needs}
 use Rattle.lines.proofs.command.parse_line.Statement.{statement}
 use Rattle.lines.proofs.command.parse_line.Tie as tie
@@ -32,15 +31,15 @@ enum-told : tie.Need-enum-told
 enum-told c = search needs
 
 returns-3 : tie.Need-returns-3
-unfolding parseLine commandOf
-returns-3 c = rw (← c .before .before .before .before .before .before .byte .ensures, eq-eqb _ _ (c .before .before .before .before .before .if1 .left), by-number, sym (c .before .before .word-at .ensures) ∙ c .enum-told .given .1)
+unfolding parseLine
+returns-3 c = rw (← c .before .before .before .before .before .before .byte .ensures, eq-eqb _ _ (c .before .before .before .before .before .if1 .left), command-by-number, sym (c .before .before .word-at .ensures) ∙ c .enum-told .given .1)
 
 command-at-requires : tie.Need-command-at-requires
 command-at-requires c κs = search needs
 
 returns-4 : tie.Need-returns-4
-unfolding parseLine commandOf
-returns-4 c = rw (← c .before .before .before .before .before .before .before .before .byte .ensures, eq-eqb _ _ (c .before .before .before .before .before .before .before .if1 .left), by-number, sym (c .before .before .before .before .word-at .ensures) ∙ c .before .before .k .given .1) (c .command-at .ensures)
+unfolding parseLine
+returns-4 c = rw (← c .before .before .before .before .before .before .before .before .byte .ensures, eq-eqb _ _ (c .before .before .before .before .before .before .before .if1 .left), command-by-number, sym (c .before .before .before .before .word-at .ensures) ∙ c .before .before .k .given .1) (c .command-at .ensures)
 
 pub parse-line-spec : {M : Type 1} → statement M
 parse-line-spec =
