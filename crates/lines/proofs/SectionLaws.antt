@@ -15,7 +15,7 @@ use Rattle.scan.specs.declared.digits.Numeral.the-variants.{Value, NoNumeral}
 use Rattle.scan.specs.Ascii.{ascii}
 use Rattle.scan.specs.Run.{belongs, span}
 use Rattle.scan.specs.Line.{byteAt, byteIs}
-use Rattle.scan.specs.Words.{begins, standsAt}
+use Rattle.scan.specs.Words.{begins, standsAt, Spelled, firstOf}
 use Rattle.scan.specs.Digits.{numberAt}
 use Rattle.scan.proofs.RunLaws.{window-end, run-within}
 use Rattle.scan.proofs.OnwardLaws.{picked}
@@ -51,7 +51,7 @@ use Rattle.lines.specs.Compare.{compareAt}
 use Rattle.lines.specs.Simple.{singleAt, bareAt, optionalAt}
 use Rattle.lines.specs.Fetch.{parameterAt, fetchedAt, fetchOr, fetchAt}
 use Rattle.lines.specs.Title.{nameLength, nameAt, sectionAt, headingOf, headingAt, remarkAt}
-use Rattle.lines.specs.Command.{Command, commands, firstOf, parseLine}
+use Rattle.lines.specs.Command.{commands, parseLine}
 
 -- ---- the other forms
 
@@ -190,18 +190,18 @@ unpicked false a e o q = (refl, q)
 
 -- commands that are never a section
 infixr 5 _besides_
-data Never : List Command → Type 0 where
+data Never : List (Spelled Line) → Type 0 where
   all : Never []
-  _besides_ : {c : Command} {cs : List Command} → ((l : List ℕ) (at : ℕ) → Other (c .form l at)) → Never cs → Never (c ∷ cs)
+  _besides_ : {c : Spelled Line} {cs : List (Spelled Line)} → ((l : List ℕ) (at : ℕ) → Other (c .form l at)) → Never cs → Never (c ∷ cs)
 
 module _ (l : List ℕ) (a e : ℕ) where
-  passed : (cs ds : List Command) → Never cs → firstOf (cs ++ ds) l ≡ Section a e → firstOf ds l ≡ Section a e
+  passed : (cs ds : List (Spelled Line)) → Never cs → firstOf NoForm (cs ++ ds) l 1 ≡ Section a e → firstOf NoForm ds l 1 ≡ Section a e
   unfolding firstOf
   passed [] ds n q = q
   passed (c ∷ cs) ds (o besides n) q =
       passed cs ds n (unpicked (standsAt (c .word) l 1) a e (o l (1 + length (c .word))) q .1)
 
-  none : (cs : List Command) → Never cs → firstOf cs l ≡ Section a e → ⊥
+  none : (cs : List (Spelled Line)) → Never cs → firstOf NoForm cs l 1 ≡ Section a e → ⊥
   unfolding firstOf
   none [] n q = other {f = NoForm} tt .no a e q
   none (c ∷ cs) (o besides n) q = none cs n (unpicked (standsAt (c .word) l 1) a e (o l (1 + length (c .word))) q .1)
@@ -253,11 +253,11 @@ pub section-begins : (l : List ℕ) (a e : ℕ) → parseLine l ≡ Section a e 
 unfolding parseLine firstOf commands
 section-begins l a e = go (byteIs l 0 "$") refl
   where
-    word : (t : Bool) → standsAt (ascii "SEC") l 1 ≡ t → cond t (sectionAt l 4) (firstOf (drop 25 commands) l) ≡ Section a e → byteIs l 0 "$" ≡ true → begins (ascii "$SEC ") l ≡ true
+    word : (t : Bool) → standsAt (ascii "SEC") l 1 ≡ t → cond t (sectionAt l 4) (firstOf NoForm (drop 25 commands) l 1) ≡ Section a e → byteIs l 0 "$" ≡ true → begins (ascii "$SEC ") l ≡ true
     word true w f d = begins-all l d w (space-behind l 4 a e f)
     word false w f d = absurd (none l a e (drop 25 commands) behind-section f)
 
-    go : (t : Bool) → byteIs l 0 "$" ≡ t → cond t (firstOf commands l) (cond (textFits l 0) Text NoForm) ≡ Section a e → begins (ascii "$SEC ") l ≡ true
+    go : (t : Bool) → byteIs l 0 "$" ≡ t → cond t (firstOf NoForm commands l 1) (cond (textFits l 0) Text NoForm) ≡ Section a e → begins (ascii "$SEC ") l ≡ true
     go true d f = word (standsAt (ascii "SEC") l 1) refl (passed l a e (take 24 commands) (drop 24 commands) before-section f) d
     go false d f = absurd (picked Other (textFits l 0) (other tt) (other tt) .no a e f)
 
