@@ -34,6 +34,11 @@ enough (suc f) (suc g) (b ∷ t) h h′ =
     let k = length (lineOf (b ∷ t)) + 1 in
     ap (λ (ls : List (List ℕ)). lineOf (b ∷ t) ∷ ls) (enough f g (drop k (b ∷ t)) (omega (arith, length-drop k (b ∷ t))) (omega (arith, length-drop k (b ∷ t))))
 
+-- the count of a template's lines is no restriction
+pub any-count : (t : List ℕ) (n : ℕ) → length t ≤ n → linesWithin n t ≡ linesOf t
+unfolding linesOf
+any-count t n h = enough n (length t) t h (omega arith)
+
 pub lines-none : (t : List ℕ) (at : ℕ) → length t ≤ at → linesOf (drop at t) ≡ []
 unfolding linesOf linesWithin
 lines-none t at h = rw (drop-of-length-le t h)

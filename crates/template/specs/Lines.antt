@@ -10,6 +10,6 @@ linesWithin zero t = []
 linesWithin (suc n) [] = []
 linesWithin (suc n) (b ∷ t) = lineOf (b ∷ t) ∷ linesWithin n (drop (length (lineOf (b ∷ t)) + 1) (b ∷ t))
 
--- a template has no more lines than bytes
+-- a template has no more lines than bytes (proofs/LineLaws:any-count)
 unfoldable pub linesOf : List ℕ → List (List ℕ)
 linesOf t = linesWithin (length t) t
