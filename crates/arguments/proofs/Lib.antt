@@ -1,4 +1,5 @@
 pub mod SignLaws
 pub mod ScaleLaws
 pub mod NameLaws
+pub mod FilterLaws
 pub mod OnwardLaws

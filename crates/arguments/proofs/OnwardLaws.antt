@@ -12,7 +12,7 @@ use Rattle.scan.specs.declared.digits.Numeral.{Numeral}
 use Rattle.scan.specs.declared.digits.Numeral.the-variants.{Value, NoNumeral}
 use Rattle.scan.specs.declared.words.WordRead.{WordRead}
 use Rattle.scan.specs.declared.words.WordRead.the-variants.{Word, NoWord}
-use Rattle.scan.specs.Line.{byteAt}
+use Rattle.scan.specs.Line.{byteAt, byteIs}
 use Rattle.scan.specs.Digits.{digitsAt, numberAt}
 use Rattle.scan.specs.Words.{standsAt, wordAt, wordOr}
 use Rattle.scan.proofs.OnwardLaws.{picked, NumeralFrom, numeral, no-numeral, WordFrom, word, no-word, number-from, word-from}
@@ -34,8 +34,10 @@ use Rattle.arguments.specs.Literal.{inMillionths, fractionAt, unsignedAt
 use Rattle.arguments.specs.Index.{loopWord, variableWord, variableIndex, indexAt}
 use Rattle.arguments.specs.Operand.{stringEnd, stringAt, entryOf, recordOf, cellOf, cellAt, numberedOf, numberedAt, namedAt, numberOr, operandAt}
 use Rattle.arguments.specs.Named.{nameWords, numbered, limitOf, nameAt}
-use Rattle.arguments.specs.Argument.{filterNames, filterOf, admitted, filteredOf, argumentOf, argumentAt}
+use Rattle.arguments.specs.Argument.{argumentOf, argumentAt}
+use Rattle.arguments.specs.Filtered.{filterNames, filterOf, admitted, filterAt}
 use Rattle.arguments.proofs.NameLaws.{name-by-number}
+use Rattle.arguments.proofs.FilterLaws.{filter-by-number}
 
 data LiteralFrom (from : ℕ) : LiteralRead → Type 0 where
   literal : (q : Quantity) (next : ℕ) → from ≤ next → LiteralFrom from (LiteralTo q next)
@@ -152,22 +154,22 @@ module _ (l : List ℕ) (from : ℕ) where
       (string-from l from (at + 1) (omega arith))
       (number-or-from (namedAt l at) (literalAt l at) (named-from at h) (literal-from l from at h))
 
-  filtered-from : (o : Operand) (w : WordRead) → WordFrom from w → ArgumentFrom from (filteredOf o w)
-  unfolding filteredOf
-  filtered-from o (Word k next) (word a b h) =
+  filter-from : (o : Operand) (w : WordRead) → WordFrom from w → ArgumentFrom from (wordOr NoArgument w (λ k next. filterAt o l next k))
+  unfolding filterAt
+  filter-from o (Word k next) (word a b h) =
       picked (ArgumentFrom from) (admitted o k)
       (argument (record { operand = o; filter = filterOf k }) next h)
       no-argument
-  filtered-from o NoWord no-word = no-argument
+  filter-from o NoWord no-word = no-argument
 
-  filter-from : (o : OperandRead) → OperandFrom from o → ArgumentFrom from (argumentOf l o)
+  filtered-from : (o : OperandRead) → OperandFrom from o → ArgumentFrom from (argumentOf l o)
   unfolding argumentOf
-  filter-from (OperandTo o next) (operand a b h) =
-      picked (ArgumentFrom from) (eqb (byteAt l next) 124)
-      (filtered-from o (wordAt filterNames l (next + 1)) (word-from l from (next + 1) (omega arith) filterNames))
+  filtered-from (OperandTo o next) (operand a b h) =
+      picked (ArgumentFrom from) (byteIs l next "|")
+      (rw (filter-by-number o l (next + 1)) (filter-from o (wordAt filterNames l (next + 1)) (word-from l from (next + 1) (omega arith) filterNames)))
       (argument (record { operand = o; filter = Unfiltered }) next h)
-  filter-from NoOperand no-operand = no-argument
+  filtered-from NoOperand no-operand = no-argument
 
   pub argument-from : (at : ℕ) → from ≤ at → ArgumentFrom from (argumentAt l at)
   unfolding argumentAt
-  argument-from at h = filter-from (operandAt l at) (operand-from at h)
+  argument-from at h = filtered-from (operandAt l at) (operand-from at h)

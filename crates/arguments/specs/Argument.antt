@@ -1,13 +1,9 @@
 -- Operands with filters. Assumes nothing.
-use mathlib.Core.Bool.{Bool, true, cond}
-use mathlib.Core.List.{List}
+use mathlib.Core.Bool.{Bool, true, false, cond}
+use mathlib.Core.List.{List, [], _∷_}
 use Prim.Native.Nat.{ℕ, _+_}
-use lib.Dec.{ltb, eqb}
-use Rattle.scan.specs.declared.words.WordRead.{WordRead}
-use Rattle.scan.specs.declared.words.WordRead.the-variants.{Word, NoWord}
-use Rattle.scan.specs.Ascii.{ascii}
 use Rattle.scan.specs.Line.{byteIs}
-use Rattle.scan.specs.Words.{wordAt}
+use Rattle.scan.specs.Words.{Spelled, _takes_, firstOf}
 use Rattle.arguments.specs.declared.operand.Operand.{Operand}
 use Rattle.arguments.specs.declared.operand.Operand.the-variants.{Number, Text, IntegerVariable, DecimalVariable, StringVariable, PageNumber, LineNumber, LoopCounter, RecordElement, EntryElement, Parameter, Record, Entry}
 use Rattle.arguments.specs.declared.operand.OperandRead.{OperandRead}
@@ -18,47 +14,58 @@ use Rattle.arguments.specs.declared.argument.ArgumentRead.{ArgumentRead}
 use Rattle.arguments.specs.declared.argument.ArgumentRead.the-variants.{ArgumentTo, NoArgument}
 use Rattle.arguments.specs.Operand.{operandAt}
 
-abbrev pub filterNames : List ℕ
-filterNames = ascii "ABS     INT     UPPER   LEN     RECCNT  ENTCNT  "
+-- "|RECCNT on Pn, |ENTCNT on Pn.r": the count that may follow an operand
+pub data Count : Type 0 where
+  records : Count
+  entries : Count
+  neither : Count
 
-unfoldable pub filterOf : ℕ → Filter
-filterOf k =
-    cond (eqb k 0) Absolute
-    (cond (eqb k 1) Truncated
-    (cond (eqb k 2) UpperCase
-    (cond (eqb k 3) Length
-    (cond (eqb k 4) RecordCount
-    EntryCount))))
-
--- "|RECCNT on Pn, |ENTCNT on Pn.r": their names in the table, and 0 where neither may stand
-unfoldable pub countOf : Operand → ℕ
-countOf (Number q) = 0
-countOf (Text a e) = 0
-countOf (IntegerVariable n) = 0
-countOf (DecimalVariable n) = 0
-countOf (StringVariable n) = 0
-countOf PageNumber = 0
-countOf LineNumber = 0
-countOf LoopCounter = 0
-countOf (RecordElement n) = 0
-countOf (EntryElement n) = 0
-countOf (Parameter n) = 4
-countOf (Record n r) = 5
-countOf (Entry n r e) = 0
+unfoldable pub countOf : Operand → Count
+countOf (Number q) = neither
+countOf (Text a e) = neither
+countOf (IntegerVariable n) = neither
+countOf (DecimalVariable n) = neither
+countOf (StringVariable n) = neither
+countOf PageNumber = neither
+countOf LineNumber = neither
+countOf LoopCounter = neither
+countOf (RecordElement n) = neither
+countOf (EntryElement n) = neither
+countOf (Parameter n) = records
+countOf (Record n r) = entries
+countOf (Entry n r e) = neither
 
 -- "RECCNT and ENTCNT elsewhere are 3. Other filters may stand after any argument"
-unfoldable pub admitted : Operand → ℕ → Bool
-admitted o k = cond (ltb k 4) true (eqb k (countOf o))
+unfoldable pub admits : Filter → Count → Bool
+admits Unfiltered c = true
+admits Absolute c = true
+admits Truncated c = true
+admits UpperCase c = true
+admits Length c = true
+admits RecordCount records = true
+admits RecordCount entries = false
+admits RecordCount neither = false
+admits EntryCount records = false
+admits EntryCount entries = true
+admits EntryCount neither = false
 
-unfoldable pub filteredOf : Operand → WordRead → ArgumentRead
-filteredOf o (Word k next) =
-    cond (admitted o k) (ArgumentTo (record { operand = o; filter = filterOf k }) next) NoArgument
-filteredOf o NoWord = NoArgument
+unfoldable pub filteredAt : Operand → Filter → List ℕ → ℕ → ArgumentRead
+filteredAt o f l at = cond (admits f (countOf o)) (ArgumentTo (record { operand = o; filter = f }) at) NoArgument
+
+unfoldable pub filters : Operand → List (Spelled ArgumentRead)
+filters o =
+    "ABS" takes filteredAt o Absolute
+    ∷ "INT" takes filteredAt o Truncated
+    ∷ "UPPER" takes filteredAt o UpperCase
+    ∷ "LEN" takes filteredAt o Length
+    ∷ "RECCNT" takes filteredAt o RecordCount
+    ∷ "ENTCNT" takes filteredAt o EntryCount
+    ∷ []
 
 -- "One filter may follow"
 unfoldable pub argumentOf : List ℕ → OperandRead → ArgumentRead
 argumentOf l (OperandTo o next) =
-    cond (byteIs l next "|") (filteredOf o (wordAt filterNames l (next + 1)))
+    cond (byteIs l next "|") (firstOf NoArgument (filters o) l (next + 1))
     (ArgumentTo (record { operand = o; filter = Unfiltered }) next)
 argumentOf l NoOperand = NoArgument
 

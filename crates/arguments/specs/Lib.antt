@@ -3,4 +3,5 @@ pub mod Index
 pub mod Operand
 pub mod Named
 pub mod Argument
+pub mod Filtered
 pub mod Rows

@@ -6,7 +6,8 @@ use scan::bytes;
 use scan::words;
 use scan::words::WordRead;
 ghost use mathlib.Core.Path.{_≡_};
-ghost use Rattle.arguments.specs.Argument.{filterOf, countOf, admitted, argumentAt};
+ghost use Rattle.arguments.specs.Argument.{countOf, argumentAt};
+ghost use Rattle.arguments.specs.Filtered.{filterOf, countNumber, admitted};
 
 pub enum Filter {
     Unfiltered,
@@ -55,7 +56,7 @@ fn filter_of(k: usize) -> Filter
 
 // The name in the table of the count that an operand admits: 4 for RECCNT, 5 for ENTCNT, 0 for neither.
 fn count_of(operand: Operand) -> usize
-    ensures { λ r. ⌜ r ≡ countOf operand ⌝ }
+    ensures { λ r. ⌜ r ≡ countNumber (countOf operand) ⌝ }
 {
     match operand {
         Operand::Number(_) => 0,

@@ -20,7 +20,7 @@ use Rattle.arguments.specs.declared.argument.Filter.the-variants.{Unfiltered, A
 use Rattle.arguments.specs.Literal.{inMillionths, fractionAt, unsignedAt, literalAt}
 use Rattle.arguments.specs.Index.{variableIndex, indexAt}
 use Rattle.arguments.specs.Operand.{stringAt, entryOf, recordOf, cellOf, cellAt, wholeAt, numberedOf, numberedAt, names, namedAt, numberOr, operandAt}
-use Rattle.arguments.specs.Argument.{filterOf, countOf, admitted, filteredOf, argumentOf, argumentAt}
+use Rattle.arguments.specs.Argument.{countOf, admits, filteredAt, filters, argumentOf, argumentAt}
 use Rattle.texts.specs.Text.{placesAt, placesOf, widthNext, fieldOf, fieldAt, placed, pieceAt, widthOf, totalWidth, before, piecesWithin, textPieces, fitsBehind, textFits}
 use Rattle.lines.specs.declared.command.Operation.the-variants.{Assign, Add, Subtract, Multiply, Divide}
 use Rattle.lines.specs.declared.command.Target.the-variants.{IntegerTarget, DecimalTarget, StringTarget}
@@ -148,5 +148,5 @@ rows =
     ∷ []
 
 pub rows-hold : map (λ (r : Row). r .computed) rows ≡ map (λ (r : Row). r .expected) rows
-unfolding rows belongs span byteAt valueFrom digitsAt numberAt begins standsAt wordIn wordFrom wordAt firstOf inMillionths fractionAt unsignedAt literalAt variableIndex indexAt stringAt entryOf recordOf cellOf cellAt wholeAt numberedOf numberedAt names namedAt numberOr operandAt filterOf countOf admitted filteredOf argumentOf argumentAt placesAt placesOf widthNext fieldOf fieldAt placed pieceAt widthOf totalWidth before piecesWithin textPieces fitsBehind textFits behindSpace stringTarget targetOf setAt datasourceAt compareAt singleAt bareAt optionalAt parameterAt fetchedAt fetchAt nameAt sectionAt headingOf headingAt remarkAt commands parseLine
+unfolding rows belongs span byteAt valueFrom digitsAt numberAt begins standsAt wordIn wordFrom wordAt firstOf inMillionths fractionAt unsignedAt literalAt variableIndex indexAt stringAt entryOf recordOf cellOf cellAt wholeAt numberedOf numberedAt names namedAt numberOr operandAt countOf admits filteredAt filters argumentOf argumentAt placesAt placesOf widthNext fieldOf fieldAt placed pieceAt widthOf totalWidth before piecesWithin textPieces fitsBehind textFits behindSpace stringTarget targetOf setAt datasourceAt compareAt singleAt bareAt optionalAt parameterAt fetchedAt fetchAt nameAt sectionAt headingOf headingAt remarkAt commands parseLine
 rows-hold = refl

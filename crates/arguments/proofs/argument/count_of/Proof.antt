@@ -1,5 +1,6 @@
 -- The definition makes the code's tests in the code's order.
 use Rattle.arguments.specs.Argument.{countOf}
+use Rattle.arguments.specs.Filtered.{countNumber}
 use borrow.Author.Needs.{needs}
 use Rattle.arguments.proofs.argument.count_of.Statement.{statement}
 use Rattle.arguments.proofs.argument.count_of.Tie as tie
@@ -44,55 +45,55 @@ enum-told-13 : tie.Need-enum-told-13
 enum-told-13 c = search needs
 
 returns : tie.Need-returns
-unfolding countOf
+unfolding countOf countNumber
 returns c = rw (c .enum-told .given .1)
 
 returns-2 : tie.Need-returns-2
-unfolding countOf
+unfolding countOf countNumber
 returns-2 c = rw (c .enum-told2 .given .1)
 
 returns-3 : tie.Need-returns-3
-unfolding countOf
+unfolding countOf countNumber
 returns-3 c = rw (c .enum-told3 .given .1)
 
 returns-4 : tie.Need-returns-4
-unfolding countOf
+unfolding countOf countNumber
 returns-4 c = rw (c .enum-told4 .given .1)
 
 returns-5 : tie.Need-returns-5
-unfolding countOf
+unfolding countOf countNumber
 returns-5 c = rw (c .enum-told5 .given .1)
 
 returns-6 : tie.Need-returns-6
-unfolding countOf
+unfolding countOf countNumber
 returns-6 c = rw (c .enum-told6 .given .1)
 
 returns-7 : tie.Need-returns-7
-unfolding countOf
+unfolding countOf countNumber
 returns-7 c = rw (c .enum-told7 .given .1)
 
 returns-8 : tie.Need-returns-8
-unfolding countOf
+unfolding countOf countNumber
 returns-8 c = rw (c .enum-told8 .given .1)
 
 returns-9 : tie.Need-returns-9
-unfolding countOf
+unfolding countOf countNumber
 returns-9 c = rw (c .enum-told9 .given .1)
 
 returns-10 : tie.Need-returns-10
-unfolding countOf
+unfolding countOf countNumber
 returns-10 c = rw (c .enum-told10 .given .1)
 
 returns-11 : tie.Need-returns-11
-unfolding countOf
+unfolding countOf countNumber
 returns-11 c = rw (c .enum-told11 .given .1)
 
 returns-12 : tie.Need-returns-12
-unfolding countOf
+unfolding countOf countNumber
 returns-12 c = rw (c .enum-told12 .given .1)
 
 returns-13 : tie.Need-returns-13
-unfolding countOf
+unfolding countOf countNumber
 returns-13 c = rw (c .enum-told13 .given .1)
 
 pub count-of-spec : {M : Type 1} → statement M
