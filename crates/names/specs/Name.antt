@@ -21,7 +21,7 @@ nameOf l = cond (begins sectionWord l) (window l 5 8) []
 abbrev pub sameBytes : List ℕ → List ℕ → Bool
 sameBytes a b = eqb (length a) (length b) && begins a b
 
--- What key_of computes, which no check's definition names: the key of some bytes behind others that had a key
+-- The key of some bytes behind others that had a key. What check 5 says doesn't depend on the numbers chosen.
 unfoldable pub keyFrom : ℕ → List ℕ → ℕ
 keyFrom k [] = k
 keyFrom k (b ∷ s) = keyFrom ((k * 927 + b) % 4155694) s
