@@ -9,7 +9,9 @@ use arguments::index::Index;
 use scan::bytes;
 use scan::words::WordRead;
 ghost use mathlib.Core.Path.{_≡_};
-ghost use Rattle.lines.specs.Command.{parseLine};
+ghost use Rattle.scan.specs.Words.{firstOf};
+ghost use Rattle.lines.specs.declared.command.Line.the-variants.{NoForm};
+ghost use Rattle.lines.specs.Command.{commands, parseLine};
 ghost use Rattle.lines.specs.Dispatch.{otherAt, commandAt};
 
 // $SETE, $SETA, $SETS, $SETM, $SETD
@@ -125,20 +127,27 @@ fn command_at(line: &[u8], at: usize, k: usize) -> Line
     other_at(line, at, k)
 }
 
-// A line's command with its arguments, a text, or that it has no form.
-pub fn parse_line(line: &[u8]) -> Line
-    ensures { λ r. ⌜ r ≡ parseLine (now (line .entry)) ⌝ }
+// The command whose word stands behind the `$`. Apart from `parse_line`, since the table is built with each call.
+fn command_in(line: &[u8]) -> Line
+    ensures { λ r. ⌜ r ≡ firstOf NoForm commands (now (line .entry)) 1 ⌝ }
 {
-    if bytes::byte(line, 0) != b'$' {
-        if texts::text::text_fits(line, 0) {
-            return Line::Text;
-        }
-        return Line::NoForm;
-    }
     let table =
         b"SETDS   SETE    SETA    SETS    SETM    SETD    IFEQSS  IFEQSI  IFEQ    IFNE    IFLT    IFLE    IFGT    IFGE    IFNOT   IF      BT      ELSE    ENDIF   NOFF    ET      NP      REC     TBL     SEC     PH      REM     ";
     let WordRead::Word(k, at) = scan::words::word_at(line, 1, table) else {
         return Line::NoForm;
     };
     command_at(line, at, k)
+}
+
+// A line's command with its arguments, a text, or that it has no form.
+pub fn parse_line(line: &[u8]) -> Line
+    ensures { λ r. ⌜ r ≡ parseLine (now (line .entry)) ⌝ }
+{
+    if bytes::byte(line, 0) == b'$' {
+        return command_in(line);
+    }
+    if texts::text::text_fits(line, 0) {
+        return Line::Text;
+    }
+    Line::NoForm
 }
