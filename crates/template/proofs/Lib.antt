@@ -7,3 +7,4 @@ pub mod FormLaws
 pub mod SectionLaws
 pub mod OrderLaws
 pub mod SeekLaws
+pub mod NameForm
