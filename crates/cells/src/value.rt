@@ -16,15 +16,14 @@ fn signed_quad(n: u64) -> i64
     ((n + 2147483648) % 4294967296) as i64 - 2147483648
 }
 
-// The value of a number in two's complement, `top` being the highest of its width.
-fn signed_of(n: u64, top: u64) -> i64
-    requires { ⌜ n ≤ top ⌝ }
-    ensures { λ r. ⌜ r ≡ signed (top + 1) n ⌝ }
+// The value of 64 bits in two's complement.
+fn signed_octet(n: u64) -> i64
+    ensures { λ r. ⌜ r ≡ signed 18446744073709551616 n ⌝ }
 {
-    if n <= top / 2 {
+    if n <= 9223372036854775807 {
         return n as i64;
     }
-    -1 - (top - n) as i64
+    -1 - (18446744073709551615 - n) as i64
 }
 
 // The two bytes at an offset of at most 6 in the cell at a place; 0 where the store has no room for one.
@@ -57,7 +56,7 @@ pub fn value_at(store: &[u8], at: usize) -> Answered
         return Answered::Integer(signed_quad(bytes::quad(store, at + 8)));
     }
     if store[at] == form::DECIMAL {
-        return Answered::Decimal(signed_of(bytes::octet(store, at + 8), 18446744073709551615));
+        return Answered::Decimal(signed_octet(bytes::octet(store, at + 8)));
     }
     if room < 25 {
         return Answered::Missing;

@@ -47,13 +47,13 @@ add-octet c = search needs
 octet-requires : tie.Need-octet-requires
 octet-requires c κs = omega (arith, size-decimal _ (c .if4 .taken))
 
-signed-of-requires : tie.Need-signed-of-requires
-signed-of-requires c κs = search needs
+signed-octet-requires : tie.Need-signed-octet-requires
+signed-octet-requires c κs = search needs
 
 returns-4 : tie.Need-returns-4
 returns-4 c =
     let k = c .before .before in
-    value-decimal _ _ (k .before .before .if3 .left) (k .if4 .taken) _ (c .before .octet .ensures .0) _ (bits-back 18446744073709551615 _ _ (c .signed-of .ensures) (omega arith) (omega arith))
+    value-decimal _ _ (k .before .before .if3 .left) (k .if4 .taken) _ (c .before .octet .ensures .0) _ (bits-back 18446744073709551615 _ _ (c .signed-octet .ensures) (omega arith) (omega arith))
 
 returns-5 : tie.Need-returns-5
 returns-5 c =
@@ -94,7 +94,7 @@ value-at-spec =
     shared-slice-read-if4
     add-octet
     octet-requires
-    signed-of-requires
+    signed-octet-requires
     returns-4
     returns-5
     add-t4
