@@ -7,3 +7,4 @@ pub mod Notes
 pub mod Sections
 pub mod Order
 pub mod Seek
+pub mod Rows

@@ -7,7 +7,7 @@ ghost use Rattle.scan.specs.Line.{firstRefused};
 ghost use Rattle.template.specs.Lines.{linesOf};
 ghost use Rattle.template.specs.Verdicts.{firstFault, lineAllowed, bytesCheck};
 
-const LONGEST_TEMPLATE: usize = 32_768;
+pub const LONGEST_TEMPLATE: usize = 32_768;
 
 const LONGEST_LINE: usize = 132;
 

@@ -1,4 +1,5 @@
 // Where a failed test, an executed $ELSE and a $BT with n below 1 go on.
+use crate::bytes;
 use crate::form;
 use nesting::Shape;
 ghost use mathlib.Core.Path.{_≡_};
@@ -33,8 +34,6 @@ pub struct Skip {
     pub bytes: usize,
     pub lines: u32,
 }
-
-const LONGEST_TEMPLATE: usize = 32_768;
 
 // A failed test and an executed $ELSE look among tests.
 fn among_tests(sought: Sought, role: Role) -> Role
@@ -112,7 +111,7 @@ fn way_past(role: Role, depth: u32) -> Way
 pub fn skip_lines(rest: &[u8], sought: Sought) -> Skip
     ensures { λ r. ⌜ r ≡ skipped (now (rest .entry)) sought ⌝ }
 {
-    if LONGEST_TEMPLATE < rest.len() {
+    if bytes::LONGEST_TEMPLATE < rest.len() {
         return Skip { bytes: 0, lines: 0 };
     }
     let mut at = 0;
