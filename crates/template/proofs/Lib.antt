@@ -8,3 +8,4 @@ pub mod SectionLaws
 pub mod OrderLaws
 pub mod SeekLaws
 pub mod NameForm
+pub mod Reach

@@ -4,7 +4,7 @@ use mathlib.Core.List.{List}
 use Prim.Native.Nat.{ℕ, zero, suc, _+_, _-_, _<_, _≤_}
 use native.Mathlib.Numerals.{add-one}
 use native.Mathlib.Omega.{arith}
-use borrow.Author.Tests.{le-ltb}
+use borrow.Author.Tests.{lt-ltb, le-ltb}
 use lib.ListN.{length, drop}
 use Rattle.scan.specs.Line.{lineAt}
 use Rattle.nesting.specs.declared.Shape.{Shape}
@@ -16,7 +16,7 @@ use Rattle.template.specs.declared.seek.Way.the-variants.{On, Match}
 use Rattle.template.specs.declared.seek.Skip.{Skip}
 use Rattle.template.specs.Lines.{linesOf}
 use Rattle.template.specs.Form.{shapeOf}
-use Rattle.template.specs.Seek.{roleOf, past, orSkip, skipFrom, skipped}
+use Rattle.template.specs.Seek.{roleOf, past, orSkip, skipFrom, atMost, skipped}
 use Rattle.template.proofs.LineLaws.{lines-none, lines-more}
 
 pub past-closes : (d : ℕ) → (d ≡ 0 → ⊥) → past Closes d ≡ On (d - 1)
@@ -38,9 +38,23 @@ past-bound Divides zero k e = let z : _≡_ {A = ℕ} 0 1 = cc in absurd (omega 
 past-bound Divides (suc d) k e = let x : suc d ≡ k = cc in omega arith
 past-bound Passes d k e = let x : d ≡ k = cc in omega arith
 
-pub skip-start : (t : List ℕ) (q : Sought) → length t ≤ 32768 → skipFrom q 0 0 0 (linesOf (drop 0 t)) ≡ skipped t q
-unfolding skipped
-skip-start t q h = rw (le-ltb 32768 (length t) h)
+-- ---- the part as a whole
+
+module _ (t : List ℕ) (q : Sought) where
+  pub skip-nothing : 32768 < length t → record { bytes = 0; lines = 0 } ≡ skipped t q
+  unfolding skipped
+  skip-nothing h = rw (lt-ltb 32768 (length t) h)
+
+  module _ (h : length t ≤ 32768) (k : Skip) (e : k ≡ skipFrom q 0 0 0 (linesOf t)) where
+    pub skip-to-end : length t < k .bytes → record { bytes = length t; lines = k .lines } ≡ skipped t q
+    unfolding skipped atMost
+    skip-to-end l = rw (le-ltb 32768 (length t) h, ← e, lt-ltb (length t) (k .bytes) l)
+
+    pub skip-within : k .bytes ≤ length t → k ≡ skipped t q
+    unfolding skipped atMost
+    skip-within l = rw (le-ltb 32768 (length t) h, ← e, le-ltb (length t) (k .bytes) l)
+
+-- ---- the loop
 
 module _ (t : List ℕ) (q : Sought) (d at n : ℕ) {w : Skip} (inv : skipFrom q d at n (linesOf (drop at t)) ≡ w) where
   pub skip-end : length t ≤ at → record { bytes = at; lines = n } ≡ w

@@ -37,7 +37,7 @@ use Rattle.template.specs.Form.{shapeIn, shapeOf, hasForm, isFormed}
 use Rattle.template.specs.Checks.{formCheck, nestStep, nestEnd, nestCheck, hasName, cameBefore, nameStep, nameEnd, nameCheck}
 use Rattle.template.specs.Sections.{selects, sectionFrom, endAt, sectionEnd, runFrom, selected}
 use Rattle.template.specs.Order.{unlessFault, acceptedRun, sectionChecked, namesChecked, nestingChecked, formsChecked, templateChecked}
-use Rattle.template.specs.Seek.{amongTests, amongTables, atElse, roleOf, past, orSkip, skipFrom, skipped}
+use Rattle.template.specs.Seek.{amongTests, amongTables, atElse, roleOf, past, orSkip, skipFrom, atMost, skipped}
 
 -- lines, each with its line end
 unfoldable pub lines : List String → List ℕ
@@ -60,9 +60,9 @@ check t name e = record { computed = checked (templateChecked t (ascii name)); e
 abbrev run : ℕ → ℕ → ℕ → Checked
 run start line end = Accepted (record { start = start; line = line; end = end })
 
--- the lines behind the one that seeks, and how many bytes and lines are passed over
-abbrev seek : List String → Sought → ℕ → ℕ → Row
-seek ls q bytes n = record { computed = found (skipped (lines ls) q); expected = found (record { bytes = bytes; lines = n }) }
+-- what stands behind the line that seeks, and how many bytes and lines are passed over
+abbrev seek : List ℕ → Sought → ℕ → ℕ → Row
+seek t q bytes n = record { computed = found (skipped t q); expected = found (record { bytes = bytes; lines = n }) }
 
 abbrev two : List ℕ
 two = lines ("$REM first" ∷ "$SEC A" ∷ "text" ∷ "$SEC B" ∷ "text" ∷ [])
@@ -99,13 +99,15 @@ rows =
     -- 5: by the first eight characters
     ∷ check (lines ("$SEC LONGNAME1" ∷ "$SEC LONGNAM" ∷ "$SEC LONGNAME2" ∷ [])) "" (Refused RepeatedSection 3)
     -- a failed test goes on behind its own $ELSE, or its $ENDIF
-    ∷ seek ("$IF 1" ∷ "$ELSE" ∷ "$ENDIF" ∷ "$ELSE" ∷ "x" ∷ "$ENDIF" ∷ []) Branch 25 4
-    ∷ seek ("x" ∷ "$ENDIF" ∷ "y" ∷ []) Branch 9 2
+    ∷ seek (lines ("$IF 1" ∷ "$ELSE" ∷ "$ENDIF" ∷ "$ELSE" ∷ "x" ∷ "$ENDIF" ∷ [])) Branch 25 4
+    ∷ seek (lines ("x" ∷ "$ENDIF" ∷ "y" ∷ [])) Branch 9 2
     -- an executed $ELSE behind its own $ENDIF, a skipped table behind its own $ET
-    ∷ seek ("x" ∷ "$IF 1" ∷ "$ELSE" ∷ "$ENDIF" ∷ "$ENDIF" ∷ "y" ∷ []) TestEnd 28 5
-    ∷ seek ("$BT 1" ∷ "$ET" ∷ "$ET 2" ∷ "x" ∷ []) TableEnd 16 3
+    ∷ seek (lines ("x" ∷ "$IF 1" ∷ "$ELSE" ∷ "$ENDIF" ∷ "$ENDIF" ∷ "y" ∷ [])) TestEnd 28 5
+    ∷ seek (lines ("$BT 1" ∷ "$ET" ∷ "$ET 2" ∷ "x" ∷ [])) TableEnd 16 3
+    -- the matching line is the last and lacks its line end
+    ∷ seek (ascii "$ENDIF") Branch 6 1
     ∷ []
 
 pub rows-hold : map (λ (r : Row). r .computed) rows ≡ map (λ (r : Row). r .expected) rows
-unfolding rows belongs span byteAt valueFrom digitsAt numberAt begins standsAt wordIn wordFrom wordAt firstOf inMillionths fractionAt unsignedAt literalAt variableIndex indexAt stringAt entryOf recordOf cellOf cellAt wholeAt numberedOf numberedAt names namedAt numberOr operandAt countOf admits filteredAt filters argumentOf argumentAt placesAt placesOf widthNext fieldOf fieldAt placed pieceAt widthOf totalWidth before piecesWithin textPieces fitsBehind textFits behindSpace stringTarget targetOf setAt datasourceAt compareAt singleAt bareAt optionalAt parameterAt fetchedAt fetchAt nameAt sectionAt headingOf headingAt remarkAt commands parseLine lines bytesCheck firstFault lineAllowed allAllowed linesWithin linesOf shapeIn shapeOf hasForm isFormed walk orElse nestStep nestEnd nestCheck formCheck nameOf hasName cameBefore nameStep nameEnd nameCheck selects sectionFrom endAt sectionEnd runFrom selected unlessFault acceptedRun sectionChecked namesChecked nestingChecked formsChecked templateChecked amongTests amongTables atElse roleOf past orSkip skipFrom skipped tests tables sectionBegun testTurned testEnded tableEnded inSection behind allClosed
+unfolding rows belongs span byteAt valueFrom digitsAt numberAt begins standsAt wordIn wordFrom wordAt firstOf inMillionths fractionAt unsignedAt literalAt variableIndex indexAt stringAt entryOf recordOf cellOf cellAt wholeAt numberedOf numberedAt names namedAt numberOr operandAt countOf admits filteredAt filters argumentOf argumentAt placesAt placesOf widthNext fieldOf fieldAt placed pieceAt widthOf totalWidth before piecesWithin textPieces fitsBehind textFits behindSpace stringTarget targetOf setAt datasourceAt compareAt singleAt bareAt optionalAt parameterAt fetchedAt fetchAt nameAt sectionAt headingOf headingAt remarkAt commands parseLine lines bytesCheck firstFault lineAllowed allAllowed linesWithin linesOf shapeIn shapeOf hasForm isFormed walk orElse nestStep nestEnd nestCheck formCheck nameOf hasName cameBefore nameStep nameEnd nameCheck selects sectionFrom endAt sectionEnd runFrom selected unlessFault acceptedRun sectionChecked namesChecked nestingChecked formsChecked templateChecked amongTests amongTables atElse roleOf past orSkip skipFrom atMost skipped tests tables sectionBegun testTurned testEnded tableEnded inSection behind allClosed
 rows-hold = refl

@@ -63,6 +63,10 @@ skipFrom q d at n [] = record { bytes = at; lines = n }
 skipFrom q d at n (l ∷ ls) =
     orSkip (past (roleOf q (shapeOf l)) d) (λ k. skipFrom q k (at + length l + 1) (suc n) ls) (record { bytes = at + length l + 1; lines = suc n })
 
+-- "the last may lack it": no more bytes than the part has
+unfoldable pub atMost : ℕ → Skip → Skip
+atMost most k = cond (ltb most (k .bytes)) (record { bytes = most; lines = k .lines }) k
+
 -- "A template has at most 32,768 bytes"; nothing of a longer part is passed over
 unfoldable pub skipped : List ℕ → Sought → Skip
-skipped t q = cond (ltb 32768 (length t)) (record { bytes = 0; lines = 0 }) (skipFrom q 0 0 0 (linesOf t))
+skipped t q = cond (ltb 32768 (length t)) (record { bytes = 0; lines = 0 }) (atMost (length t) (skipFrom q 0 0 0 (linesOf t)))

@@ -4,7 +4,9 @@ use crate::form;
 use nesting::Shape;
 ghost use mathlib.Core.Path.{_≡_};
 ghost use Prim.Native.Nat.{_≤_};
-ghost use Rattle.template.specs.Seek.{amongTests, amongTables, atElse, roleOf, past, skipped};
+ghost use lib.ListN.{length};
+ghost use Rattle.template.specs.Lines.{linesOf};
+ghost use Rattle.template.specs.Seek.{amongTests, amongTables, atElse, roleOf, past, skipFrom, skipped};
 
 pub enum Sought {
     // a failed test: "the line after its matching `$ELSE`, or `$ENDIF` if there is none"
@@ -106,14 +108,11 @@ fn way_past(role: Role, depth: u32) -> Way
     }
 }
 
-// The lines of a part of a template up to the one that matches, or all where none does. Such a part isn't longer than a
-// template may be; nothing of a longer one is passed over.
-pub fn skip_lines(rest: &[u8], sought: Sought) -> Skip
-    ensures { λ r. ⌜ r ≡ skipped (now (rest .entry)) sought ⌝ }
+// The lines of a part of a template up to the one that matches, or all where none does, each with a line end.
+fn lines_passed(rest: &[u8], sought: Sought) -> Skip
+    requires { ⌜ length (now rest) ≤ 32768 ⌝ }
+    ensures { λ r. ⌜ r ≡ skipFrom sought 0 0 0 (linesOf (now (rest .entry))) ⌝ }
 {
-    if bytes::LONGEST_TEMPLATE < rest.len() {
-        return Skip { bytes: 0, lines: 0 };
-    }
     let mut at = 0;
     let mut lines: u32 = 0;
     let mut depth: u32 = 0;
@@ -134,4 +133,24 @@ pub fn skip_lines(rest: &[u8], sought: Sought) -> Skip
         lines += 1;
     }
     Skip { bytes: at, lines }
+}
+
+// How much of a part of a template is passed over. Such a part isn't longer than a template may be; nothing of a longer
+// one is passed over.
+pub fn skip_lines(rest: &[u8], sought: Sought) -> Skip
+    ensures { λ r. ⌜ r ≡ skipped (now (rest .entry)) sought ⌝ }
+{
+    if bytes::LONGEST_TEMPLATE < rest.len() {
+        return Skip { bytes: 0, lines: 0 };
+    }
+    let passed = lines_passed(rest, sought);
+    let length = rest.len();
+    let lines = passed.lines;
+    if length < passed.bytes {
+        return Skip {
+            bytes: length,
+            lines,
+        };
+    }
+    passed
 }

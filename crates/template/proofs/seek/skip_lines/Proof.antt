@@ -1,109 +1,20 @@
--- The loop keeps: the lines from its place on, with what is open inside, give what the whole part gives.
-use mathlib.Core.Path.{_≡_, sym, _∙_}
-use Prim.Native.Nat.{_-_, _≤_, zero-le}
-use native.Mathlib.Omega.{arith}
-use borrow.Author.Tests.{lt-ltb}
-use lib.ListN.{length, drop}
-use Rattle.template.specs.Lines.{linesOf}
-use Rattle.template.specs.Seek.{skipFrom, skipped}
-use Rattle.template.proofs.LineLaws.{part-line}
-use Rattle.template.proofs.SeekLaws.{past-bound, skip-start, skip-end, skip-here, skip-on}
+-- What the lines passed over have, held to what the part has.
+use Rattle.template.proofs.SeekLaws.{skip-nothing, skip-to-end, skip-within}
 use borrow.Author.Needs.{needs}
 use Rattle.template.proofs.seek.skip_lines.Statement.{statement}
 use Rattle.template.proofs.seek.skip_lines.Tie as tie
 
-abbrev Inv-loop : tie.InvT-loop
-Inv-loop rest sought at₀ lines₀ depth₀ at lines depth = (skipFrom sought depth at lines (linesOf (drop at rest)) ≡ skipped rest sought) × (lines ≤ at) × (depth ≤ lines)
+returns : tie.Need-returns
+returns c = skip-nothing _ _ (c .if1 .taken)
 
-abbrev μ-loop : tie.MeasureT-loop
-μ-loop rest sought at₀ lines₀ depth₀ at lines depth = length rest - at
+lines-passed-requires : tie.Need-lines-passed-requires
+lines-passed-requires c κs = search needs
 
-returns : tie.Need-returns Inv-loop μ-loop
-unfolding skipped
-returns c = rw (lt-ltb _ _ (c .if1 .taken))
+returns-2 : tie.Need-returns-2
+returns-2 c = skip-to-end _ _ (search needs) _ (c .before .before .lines-passed .ensures) (c .if2 .taken)
 
-loop-holds : tie.Need-loop-holds Inv-loop μ-loop
-loop-holds c = (skip-start _ _ (c .if1 .left), zero-le, zero-le)
-
-sub-line-of : tie.Need-sub-line-of Inv-loop μ-loop
-sub-line-of c = search needs
-
-part-line-of-start : tie.Need-part-line-of-start Inv-loop μ-loop
-part-line-of-start c = search needs
-
-part-line-of-end : tie.Need-part-line-of-end Inv-loop μ-loop
-part-line-of-end c = search needs
-
-line-of-requires : tie.Need-line-of-requires Inv-loop μ-loop
-line-of-requires c κs = search needs
-
-shape-of-requires : tie.Need-shape-of-requires Inv-loop μ-loop
-shape-of-requires c κs = search needs
-
-role-of-requires : tie.Need-role-of-requires Inv-loop μ-loop
-role-of-requires c κs = search needs
-
-way-past-requires : tie.Need-way-past-requires Inv-loop μ-loop
-way-past-requires c κs = omega arith
-
-add-next : tie.Need-add-next Inv-loop μ-loop
-add-next c = search needs
-
-add-next-2 : tie.Need-add-next-2 Inv-loop μ-loop
-add-next-2 c = search needs
-
-enum-known-way : tie.Need-enum-known-way Inv-loop μ-loop
-enum-known-way c = search needs
-
-enum-told : tie.Need-enum-told Inv-loop μ-loop
-enum-told c = search needs
-
-add-t20 : tie.Need-add-t20 Inv-loop μ-loop
-add-t20 c = search needs
-
-returns-2 : tie.Need-returns-2 Inv-loop μ-loop
-returns-2 c =
-    let k = c .before .before .before .before .before .before .before in
-    skip-here _ _ _ _ _ (k .before .loop .inv .0) _ _ _ _ (k .loop-test .taken) (part-line (k .before .before .before .before .args .rest .now) _ (k .before .loop .at) (c .before .before .before .before .before .line-of .ensures)) (c .before .before .before .before .shape-of .ensures) (c .before .before .before .role-of .ensures) (c .before .before .way-past .ensures) (c .enum-told .given .1)
-
-add-lines : tie.Need-add-lines Inv-loop μ-loop
-add-lines c = search needs
-
-loop-less : tie.Need-loop-less Inv-loop μ-loop
-loop-less c = search needs
-
-loop-again : tie.Need-loop-again Inv-loop μ-loop
-loop-again c =
-    let k = c .before .before .before .before .before .before .before .before in
-    let p = c .before .before .before .way-past .ensures in
-    let g = c .before .way .given .1 in
-    (skip-on _ _ _ _ _ (k .before .loop .inv .0) _ _ _ _ (k .loop-test .taken) (part-line (k .before .before .before .before .args .rest .now) _ (k .before .loop .at) (c .before .before .before .before .before .before .line-of .ensures)) (c .before .before .before .before .before .shape-of .ensures) (c .before .before .before .before .role-of .ensures) p _ g, omega arith, omega (arith, past-bound _ _ _ (sym p ∙ g)))
-
-returns-3 : tie.Need-returns-3 Inv-loop μ-loop
-returns-3 c = skip-end _ _ _ _ _ (c .before .loop .inv .0) (c .loop-test .left)
+returns-3 : tie.Need-returns-3
+returns-3 c = skip-within _ _ (search needs) _ (c .before .before .lines-passed .ensures) (c .if2 .left)
 
 pub skip-lines-spec : {M : Type 1} → statement M
-skip-lines-spec =
-    tie.close
-    (tie.spec
-    Inv-loop
-    μ-loop
-    returns
-    loop-holds
-    sub-line-of
-    part-line-of-start
-    part-line-of-end
-    line-of-requires
-    shape-of-requires
-    role-of-requires
-    way-past-requires
-    add-next
-    add-next-2
-    enum-known-way
-    enum-told
-    add-t20
-    returns-2
-    add-lines
-    loop-less
-    loop-again
-    returns-3)
+skip-lines-spec = tie.close (tie.spec returns lines-passed-requires returns-2 returns-3)
