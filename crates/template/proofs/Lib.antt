@@ -9,3 +9,6 @@ pub mod OrderLaws
 pub mod SeekLaws
 pub mod NameForm
 pub mod Reach
+pub mod Turns
+pub mod Opening
+pub mod Accepted

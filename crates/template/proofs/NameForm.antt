@@ -13,7 +13,8 @@ use Rattle.lines.proofs.SectionLaws.{section-begins, begins-section}
 use Rattle.names.specs.Name.{sectionWord, nameOf}
 use Rattle.template.specs.Form.{shapeIn, shapeOf, hasForm, isFormed}
 
-formed : (l : List ℕ) → isFormed l ≡ true → parseLine l ≡ NoForm → ⊥
+-- A line with a form isn't parsed as a line without one.
+pub formed : (l : List ℕ) → isFormed l ≡ true → parseLine l ≡ NoForm → ⊥
 unfolding isFormed shapeOf shapeIn hasForm
 formed l h k = false≢true (rw k at h)
 

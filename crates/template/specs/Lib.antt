@@ -7,4 +7,5 @@ pub mod Notes
 pub mod Sections
 pub mod Order
 pub mod Seek
+pub mod Opening
 pub mod Rows
