@@ -2,6 +2,7 @@
 use mathlib.Core.Path.{_≡_, refl, sym, _∙_, subst}
 use mathlib.Core.Bool.{Bool, true, false, cond, not, _&&_, false≢true}
 use mathlib.Core.List.{List, [], _∷_}
+use mathlib.Core.Logic.{_⊎_, inl, inr}
 use Prim.Native.Nat.{ℕ, zero, suc, _+_, _<_, _≤_}
 use native.Mathlib.Omega.{arith}
 use borrow.Author.Tests.{leb-true, leb-false, ne-eqb}
@@ -35,7 +36,7 @@ use Rattle.template.specs.Order.{unlessFault, acceptedRun, sectionChecke
 use Rattle.template.specs.Opening.{Opens, first, Checks}
 use Rattle.template.proofs.LineLaws.{lines-none, lines-more}
 use Rattle.template.proofs.NameForm.{formed}
-use Rattle.template.proofs.Opening.{checks-short, opens-line, opens-next, behind-section}
+use Rattle.template.proofs.Opening.{checks-short, opens-line, opens-next, behind-section, line-before}
 
 -- ---- a line that a name selects is a section
 
@@ -135,6 +136,11 @@ pub record Runs (t : List ℕ) (r : Run) : Type 0 where
 end-inside : {t : List ℕ} {a e : ℕ} → RunEnd t a e → a < length t → (a < e) × (e ≤ length t)
 end-inside at-end h = (h, omega arith)
 end-inside (at-section s l) h = (omega arith, omega (arith, s .inside))
+
+-- A line of a run ends in it, or the run ends with the template.
+pub line-within : {t : List ℕ} {at n a e : ℕ} {M : List Mark} → Opens t at n M → RunEnd t a e → at < e → (nextLine t at ≤ e) ⊎ (e ≡ length t)
+line-within o at-end h = inr refl
+line-within o (at-section s l) h = inl (line-before o (s .opens) h)
 
 unless : (e : Refusal) (v : Verdict) (next : Checked) (r : Run) → unlessFault e v next ≡ Accepted r → (v ≡ Fine) × (next ≡ Accepted r)
 unfolding unlessFault

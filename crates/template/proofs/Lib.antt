@@ -12,3 +12,5 @@ pub mod Reach
 pub mod Turns
 pub mod Opening
 pub mod Accepted
+pub mod Matching
+pub mod Jumps

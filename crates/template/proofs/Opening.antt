@@ -109,6 +109,14 @@ opens-next c o h = next o h (opens-line c o h .steps)
 pub opens-closed : {t : List ℕ} {at n : ℕ} {M : List Mark} → Checks t → Opens t at n M → length t ≤ at → allClosed M ≡ true
 opens-closed c o h = ends-closed (c .nesting) o h
 
+-- While a test or a table is open the template doesn't end.
+pub open-inside : {t : List ℕ} {at n : ℕ} {M : List Mark} → Checks t → Opens t at n M → allClosed M ≡ false → at < length t
+open-inside {t} {at} c o k = by (leb (length t) at) refl
+  where
+    by : (b : Bool) → leb (length t) at ≡ b → at < length t
+    by true e = absurd (false≢true (sym k ∙ opens-closed c o (leb-true (length t) at e)))
+    by false e = omega (arith, leb-false (length t) at e)
+
 -- ---- what is open
 
 -- as many lines as bytes at most stand before a place; 10 tests and 5 tables at most are open
