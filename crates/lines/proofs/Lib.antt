@@ -1,3 +1,4 @@
 pub mod EndLaws
 pub mod DispatchLaws
+pub mod Makes
 pub mod SectionLaws

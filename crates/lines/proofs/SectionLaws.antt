@@ -7,51 +7,26 @@ use Prim.Native.Nat.{ℕ, zero, suc, _+_, _<_}
 use native.Mathlib.Nat.{le-antisymm}
 use native.Mathlib.Omega.{arith}
 use borrow.Author.Tests.{eqb-true, eq-eqb, ltb-false}
-use lib.Dec.{ltb, leb, eqb}
+use lib.Dec.{ltb, eqb}
 use lib.ListN.{length, getD, take, drop}
 use Rattle.scan.specs.declared.run.Class.the-variants.{InName}
-use Rattle.scan.specs.declared.digits.Numeral.{Numeral}
-use Rattle.scan.specs.declared.digits.Numeral.the-variants.{Value, NoNumeral}
 use Rattle.scan.specs.Ascii.{ascii}
-use Rattle.scan.specs.Run.{belongs, span}
+use Rattle.scan.specs.Run.{span}
 use Rattle.scan.specs.Line.{byteAt, byteIs}
 use Rattle.scan.specs.Words.{begins, standsAt, Spelled, firstOf}
-use Rattle.scan.specs.Digits.{numberAt}
 use Rattle.scan.proofs.RunLaws.{window-end, run-within}
 use Rattle.scan.proofs.OnwardLaws.{picked}
-use Rattle.arguments.specs.declared.argument.Argument.{Argument}
-use Rattle.arguments.specs.declared.argument.ArgumentRead.{ArgumentRead}
-use Rattle.arguments.specs.declared.argument.ArgumentRead.the-variants.{ArgumentTo, NoArgument}
-use Rattle.arguments.specs.declared.index.Index.{Index}
-use Rattle.arguments.specs.declared.index.IndexRead.{IndexRead}
-use Rattle.arguments.specs.declared.index.IndexRead.the-variants.{IndexTo, NoIndex}
-use Rattle.arguments.specs.declared.operand.Operand.{Operand}
-use Rattle.arguments.specs.declared.operand.OperandRead.{OperandRead}
-use Rattle.arguments.specs.declared.operand.OperandRead.the-variants.{OperandTo, NoOperand}
-use Rattle.arguments.specs.Index.{indexAt}
-use Rattle.arguments.specs.Operand.{operandAt}
-use Rattle.arguments.specs.Argument.{argumentAt}
 use Rattle.texts.specs.Text.{textFits}
 use Rattle.lines.specs.declared.command.Operation.{Operation}
 use Rattle.lines.specs.declared.command.Comparison.{Comparison}
-use Rattle.lines.specs.declared.command.Target.{Target}
-use Rattle.lines.specs.declared.set.TargetRead.{TargetRead}
-use Rattle.lines.specs.declared.set.TargetRead.the-variants.{TargetIs, NoTarget}
-use Rattle.lines.specs.declared.command.Fetch.{Fetch}
-use Rattle.lines.specs.declared.fetch.FetchRead.{FetchRead}
-use Rattle.lines.specs.declared.fetch.FetchRead.the-variants.{FetchTo, NoFetch}
-use Rattle.lines.specs.declared.command.Optional.{Optional}
-use Rattle.lines.specs.declared.command.Optional.the-variants.{Given, Absent}
 use Rattle.lines.specs.declared.command.Line.{Line}
 use Rattle.lines.specs.declared.command.Line.the-variants.{NoForm, Text, Section, Set, IfZero, IfNonZero, Compare, Else, EndIf, BeginTable, EndTable, Records, Entries, Datasource, NoFormFeed, NewPage, Heading, NoHeading, Remark}
-use Rattle.lines.specs.Reading.{argumentOr, indexOr, numeralOr}
-use Rattle.lines.specs.Behind.{behindSpace, ending}
-use Rattle.lines.specs.Set.{targetOf, operandOr, targetOr, setAt, datasourceAt}
+use Rattle.lines.specs.Behind.{behindSpace}
+use Rattle.lines.specs.Set.{setAt}
 use Rattle.lines.specs.Compare.{compareAt}
-use Rattle.lines.specs.Simple.{singleAt, bareAt, optionalAt}
-use Rattle.lines.specs.Fetch.{parameterAt, fetchedAt, fetchOr, fetchAt}
-use Rattle.lines.specs.Title.{nameLength, nameAt, sectionAt, headingOf, headingAt, remarkAt}
+use Rattle.lines.specs.Title.{nameLength, nameAt, sectionAt}
 use Rattle.lines.specs.Command.{commands, parseLine}
+use Rattle.lines.proofs.Makes.{set-makes, datasource-makes, compare-makes, single-makes, bare-makes, optional-makes, fetch-makes, heading-makes, remark-makes}
 
 -- ---- the other forms
 
@@ -82,85 +57,8 @@ pub record Other (f : Line) : Type 0 where
 other : {f : Line} → IsOther f → Other f
 other o = record { no = λ a e q. subst IsOther q o }
 
-last : (l : List ℕ) (at : ℕ) (f : Line) → Other f → Other (ending l at f)
-last l at f o = picked Other (ltb at (length l)) (other tt) o
-
-module _ (lack : Line) (o : Other lack) where
-  behind-argument : (r : ArgumentRead) {found : Argument → ℕ → Line} → ((a : Argument) (n : ℕ) → Other (found a n)) → Other (argumentOr lack r found)
-  behind-argument (ArgumentTo a n) h = h a n
-  behind-argument NoArgument h = o
-
-  behind-index : (r : IndexRead) {found : Index → ℕ → Line} → ((i : Index) (n : ℕ) → Other (found i n)) → Other (indexOr lack r found)
-  behind-index (IndexTo i n) h = h i n
-  behind-index NoIndex h = o
-
-  behind-number : (r : Numeral) {found : ℕ → ℕ → Line} → ((m n : ℕ) → Other (found m n)) → Other (numeralOr lack r found)
-  behind-number (Value m n) h = h m n
-  behind-number NoNumeral h = o
-
-behind-operand : (r : OperandRead) {found : Operand → ℕ → Line} → ((o : Operand) (n : ℕ) → Other (found o n)) → Other (operandOr r found)
-behind-operand (OperandTo o n) h = h o n
-behind-operand NoOperand h = (other tt)
-
-behind-target : (r : TargetRead) {found : Target → Line} → ((t : Target) → Other (found t)) → Other (targetOr r found)
-behind-target (TargetIs t) h = h t
-behind-target NoTarget h = (other tt)
-
-behind-fetch : (r : FetchRead) {found : Fetch → ℕ → Line} → ((f : Fetch) (n : ℕ) → Other (found f n)) → Other (fetchOr r found)
-behind-fetch (FetchTo f n) h = h f n
-behind-fetch NoFetch h = (other tt)
-
-module _ (l : List ℕ) (at : ℕ) where
-  set-other : (word : Operation) → Other (setAt word l at)
-  unfolding setAt
-  set-other word =
-      behind-operand (operandAt l (behindSpace l at)) (λ o next.
-      behind-target (targetOf o word) (λ t.
-      behind-argument NoForm (other tt) (argumentAt l (behindSpace l next)) (λ a end. last l end (Set word t a) (other tt))))
-
-  datasource-other : Other (datasourceAt l at)
-  unfolding datasourceAt
-  datasource-other = behind-index NoForm (other tt) (indexAt l (behindSpace l at)) (λ i end. last l end (Datasource i) (other tt))
-
-  compare-other : (word : Comparison) → Other (compareAt word l at)
-  unfolding compareAt
-  compare-other word =
-      behind-argument NoForm (other tt) (argumentAt l (behindSpace l at)) (λ a next.
-      behind-argument NoForm (other tt) (argumentAt l (behindSpace l next)) (λ b end. last l end (Compare word a b) (other tt)))
-
-  single-other : (form : Argument → Line) → ((a : Argument) → Other (form a)) → Other (singleAt form l at)
-  unfolding singleAt
-  single-other form o = behind-argument NoForm (other tt) (argumentAt l (behindSpace l at)) (λ a end. last l end (form a) (o a))
-
-  bare-other : (form : Line) → Other form → Other (bareAt form l at)
-  unfolding bareAt
-  bare-other form o = last l at form o
-
-  optional-other : (form : Optional → Line) → ((k : Optional) → Other (form k)) → Other (optionalAt form l at)
-  unfolding optionalAt
-  optional-other form o =
-      picked Other (leb (length l) at) (o Absent)
-      (behind-argument NoForm (other tt) (argumentAt l (behindSpace l at)) (λ a end. last l end (form (Given a)) (o (Given a))))
-
-  fetch-other : (form : Fetch → Line) → ((f : Fetch) → Other (form f)) → Other (fetchAt form l at)
-  unfolding fetchAt
-  fetch-other form o =
-      behind-number NoForm (other tt) (numberAt l (behindSpace l at) 10) (λ n next.
-      behind-number NoForm (other tt) (parameterAt l (behindSpace l next)) (λ m after.
-      behind-fetch (fetchedAt l after n m) (λ f end. last l end (form f) (o f))))
-
-  remark-other : Other (remarkAt l at)
-  unfolding remarkAt
-  remark-other = picked Other (leb (length l) at) (other tt) (picked Other (byteIs l at " ") (other tt) (other tt))
-
-heading-of-other : (l : List ℕ) (at n : ℕ) → Other (headingOf l at n)
-unfolding headingOf
-heading-of-other l at n =
-    picked Other (leb (length l) at) (other tt) (picked Other (byteIs l at " ") (picked Other (textFits l (at + 1)) (other tt) (other tt)) (other tt))
-
-heading-other : (l : List ℕ) (at : ℕ) → Other (headingAt l at)
-unfolding headingAt
-heading-other l at = behind-number (headingOf l at 1) (heading-of-other l at 1) (numberAt l at 9) (λ n next. heading-of-other l next n)
+lacking : Other NoForm
+lacking = other tt
 
 -- ---- the word
 
@@ -209,35 +107,42 @@ module _ (l : List ℕ) (a e : ℕ) where
 before-section : Never (take 24 commands)
 unfolding commands
 before-section =
-    datasource-other
-    besides (λ l at. set-other l at _)
-    besides (λ l at. set-other l at _)
-    besides (λ l at. set-other l at _)
-    besides (λ l at. set-other l at _)
-    besides (λ l at. set-other l at _)
-    besides (λ l at. compare-other l at _)
-    besides (λ l at. compare-other l at _)
-    besides (λ l at. compare-other l at _)
-    besides (λ l at. compare-other l at _)
-    besides (λ l at. compare-other l at _)
-    besides (λ l at. compare-other l at _)
-    besides (λ l at. compare-other l at _)
-    besides (λ l at. compare-other l at _)
-    besides (λ l at. single-other l at IfZero (λ a. other tt))
-    besides (λ l at. single-other l at IfNonZero (λ a. other tt))
-    besides (λ l at. single-other l at BeginTable (λ a. other tt))
-    besides (λ l at. bare-other l at Else (other tt))
-    besides (λ l at. bare-other l at EndIf (other tt))
-    besides (λ l at. bare-other l at NoFormFeed (other tt))
-    besides (λ l at. optional-other l at EndTable (λ k. other tt))
-    besides (λ l at. optional-other l at NewPage (λ k. other tt))
-    besides (λ l at. fetch-other l at Records (λ f. other tt))
-    besides (λ l at. fetch-other l at Entries (λ f. other tt))
+    datasource-makes Other lacking (λ i. other tt)
+    besides set _
+    besides set _
+    besides set _
+    besides set _
+    besides set _
+    besides compare _
+    besides compare _
+    besides compare _
+    besides compare _
+    besides compare _
+    besides compare _
+    besides compare _
+    besides compare _
+    besides single-makes Other lacking IfZero (λ a. other tt)
+    besides single-makes Other lacking IfNonZero (λ a. other tt)
+    besides single-makes Other lacking BeginTable (λ a. other tt)
+    besides bare-makes Other lacking Else (other tt)
+    besides bare-makes Other lacking EndIf (other tt)
+    besides bare-makes Other lacking NoFormFeed (other tt)
+    besides optional-makes Other lacking EndTable (λ k. other tt)
+    besides optional-makes Other lacking NewPage (λ k. other tt)
+    besides fetch-makes Other lacking Records (λ f. other tt)
+    besides fetch-makes Other lacking Entries (λ f. other tt)
     besides all
+  where
+    set : (word : Operation) (l : List ℕ) (at : ℕ) → Other (setAt word l at)
+    set word = set-makes Other lacking word (λ t a. other tt)
+
+    compare : (word : Comparison) (l : List ℕ) (at : ℕ) → Other (compareAt word l at)
+    compare word = compare-makes Other lacking word (λ a b. other tt)
 
 behind-section : Never (drop 25 commands)
 unfolding commands
-behind-section = heading-other besides remark-other besides all
+behind-section =
+    heading-makes Other lacking (λ n at. other tt) (λ n. other tt) besides remark-makes Other lacking (other tt) besides all
 
 -- where no space stands behind the word, no name does
 space-behind : (l : List ℕ) (at a e : ℕ) → sectionAt l at ≡ Section a e → byteIs l at " " ≡ true
@@ -261,7 +166,8 @@ section-begins l a e = go (byteIs l 0 "$") refl
     go true d f = word (standsAt (ascii "SEC") l 1) refl (passed l a e (take 24 commands) (drop 24 commands) before-section f) d
     go false d f = absurd (picked Other (textFits l 0) (other tt) (other tt) .no a e f)
 
-begins-says : (w s : List ℕ) → begins w s ≡ true → s ≡ w ++ drop (length w) s
+-- A line that begins with a word is the word and what stands behind it.
+pub begins-says : (w s : List ℕ) → begins w s ≡ true → s ≡ w ++ drop (length w) s
 unfolding begins
 begins-says [] s e = refl
 begins-says (a ∷ w) [] e = absurd (false≢true e)

@@ -23,6 +23,7 @@ use Rattle.template.specs.Opening.{Opens, Checks}
 use Rattle.template.proofs.LineLaws.{lines-more}
 use Rattle.template.proofs.Reach.{Inside, skip-inside}
 use Rattle.template.proofs.Opening.{checks-short, opens-line, opens-next, open-inside, line-turn, line-before}
+use Rattle.template.proofs.WordForm.{shape-by-word}
 use Rattle.template.proofs.Accepted.{RunEnd, at-end, at-section}
 use Rattle.template.proofs.Matching.{Over, here, topOf, depthOf, Lands, behind-end, behind-else, Went, on, landed, over-open, search-step, search-inside}
 
@@ -69,7 +70,7 @@ module _ {t : List ℕ} (q : Sought) {M : List Mark} (at n p b m : ℕ) where
         let w = line-turn (lineAt t p) (opens-line c o h .steps) in
         let z : nextLine t p ≡ at + (b + length (lineAt t p) + 1) = omega arith in
         let y : suc j ≡ n + suc m = omega arith in
-        rw (lines-more t p h) (behind-line (search-step q w v) z (moved (opens-next c o h) z y) (λ r i W′ u x l. section-behind o (search-inside q w v) u x l) more)
+        rw (lines-more t p h, shape-by-word (lineAt t p) (opens-line c o h .formed)) (behind-line (search-step q w v) z (moved (opens-next c o h) z y) (λ r i W′ u x l. section-behind o (search-inside q w v) u x l) more)
 
 module _ {t : List ℕ} (c : Checks t) (q : Sought) {M : List Mark} (at n : ℕ) where
   search-from : (f b m : ℕ) {p j a d : ℕ} {W : List Mark} → length t ≤ p + f → Opens t p j W → p ≡ at + b → j ≡ n + m → Over (topOf q) M a d W → Landing t q M at n p (skipFrom q (depthOf q a d) b m (linesOf (drop p t)))

@@ -14,3 +14,4 @@ pub mod Opening
 pub mod Accepted
 pub mod Matching
 pub mod Jumps
+pub mod WordForm

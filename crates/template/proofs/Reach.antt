@@ -13,7 +13,7 @@ use Rattle.template.specs.declared.seek.Way.{Way}
 use Rattle.template.specs.declared.seek.Way.the-variants.{On, Match}
 use Rattle.template.specs.declared.seek.Skip.{Skip}
 use Rattle.template.specs.Lines.{linesWithin, linesOf}
-use Rattle.template.specs.Form.{shapeOf}
+use Rattle.template.specs.Form.{wordShape}
 use Rattle.template.specs.Seek.{roleOf, past, orSkip, skipFrom, atMost, skipped}
 
 -- a template has no more lines than bytes
@@ -31,7 +31,7 @@ record Passed (at n there : ℕ) (k : Skip) : Type 0 where
 skip-passed : (q : Sought) (d at n : ℕ) (ls : List (List ℕ)) → Passed at n (length ls) (skipFrom q d at n ls)
 unfolding skipFrom orSkip
 skip-passed q d at n [] = record { few = omega arith; lines = omega arith }
-skip-passed q d at n (l ∷ ls) = go (λ k. skip-passed q k (at + length l + 1) (suc n) ls) (past (roleOf q (shapeOf l)) d)
+skip-passed q d at n (l ∷ ls) = go (λ k. skip-passed q k (at + length l + 1) (suc n) ls) (past (roleOf q (wordShape l)) d)
   where
     go : ((k : ℕ) → Passed (at + length l + 1) (suc n) (length ls) (skipFrom q k (at + length l + 1) (suc n) ls)) → (w : Way) → Passed at n (length (l ∷ ls)) (orSkip w (λ k. skipFrom q k (at + length l + 1) (suc n) ls) (record { bytes = at + length l + 1; lines = suc n }))
     go more (On k) =

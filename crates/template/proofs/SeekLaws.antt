@@ -15,7 +15,7 @@ use Rattle.template.specs.declared.seek.Way.{Way}
 use Rattle.template.specs.declared.seek.Way.the-variants.{On, Match}
 use Rattle.template.specs.declared.seek.Skip.{Skip}
 use Rattle.template.specs.Lines.{linesOf}
-use Rattle.template.specs.Form.{shapeOf}
+use Rattle.template.specs.Form.{wordShape}
 use Rattle.template.specs.Seek.{roleOf, past, orSkip, skipFrom, atMost, skipped}
 use Rattle.template.proofs.LineLaws.{lines-none, lines-more}
 
@@ -61,7 +61,7 @@ module _ (t : List ℕ) (q : Sought) (d at n : ℕ) {w : Skip} (inv : skipFrom q
   unfolding skipFrom
   skip-end h = sym (ap (skipFrom q d at n) (lines-none t at h)) ∙ inv
 
-  module _ (line : List ℕ) (shape : Shape) (role : Role) (way : Way) (inside : at < length t) (e : line ≡ lineAt t at) (o : shape ≡ shapeOf line) (r : role ≡ roleOf q shape) (p : way ≡ past role d) where
+  module _ (line : List ℕ) (shape : Shape) (role : Role) (way : Way) (inside : at < length t) (e : line ≡ lineAt t at) (o : shape ≡ wordShape line) (r : role ≡ roleOf q shape) (p : way ≡ past role d) where
     pub skip-here : way ≡ Match → record { bytes = at + length line + 1; lines = n + 1 } ≡ w
     unfolding skipFrom orSkip
     skip-here k = rw (add-one n) (sym (rw (lines-more t at inside, ← e, ← o, ← r, ← p, k)) ∙ inv)

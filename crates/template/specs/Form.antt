@@ -1,7 +1,10 @@
 -- What a line is to the checks of a whole template. Assumes nothing.
-use mathlib.Core.Bool.{Bool, true, false}
-use mathlib.Core.List.{List}
+use mathlib.Core.Bool.{Bool, true, false, cond}
+use mathlib.Core.List.{List, [], _∷_}
 use Prim.Native.Nat.{ℕ}
+use lib.Dec.{eqb}
+use Rattle.scan.specs.Line.{byteIs}
+use Rattle.scan.specs.Words.{Spelled, _takes_, firstOf}
 use Rattle.lines.specs.declared.command.Line.{Line}
 use Rattle.lines.specs.declared.command.Line.the-variants as form
 use Rattle.lines.specs.Command.{parseLine}
@@ -46,3 +49,30 @@ hasForm NoForm = false
 
 unfoldable pub isFormed : List ℕ → Bool
 isFormed l = hasForm (shapeOf l)
+
+-- the words that tell a shape: each test's begins with IF
+unfoldable pub shapeWords : List (Spelled Shape)
+shapeWords =
+    "IF" takes (λ l at. Test)
+    ∷ "ELSE" takes (λ l at. Else)
+    ∷ "ENDIF" takes (λ l at. EndTest)
+    ∷ "BT" takes (λ l at. Table)
+    ∷ "ET" takes (λ l at. EndTable)
+    ∷ "SEC" takes (λ l at. Section)
+    ∷ "REM" takes (λ l at. Remark)
+    ∷ []
+
+-- how the code finds the shape: by the number of its word in a table
+unfoldable pub numberedShape : ℕ → Shape
+numberedShape k =
+    cond (eqb k 0) Test
+    (cond (eqb k 1) Else
+    (cond (eqb k 2) EndTest
+    (cond (eqb k 3) Table
+    (cond (eqb k 4) EndTable
+    (cond (eqb k 5) Section
+    Remark)))))
+
+-- what a line is by its word alone: the same where it has a form (proofs/WordForm:shape-by-word)
+unfoldable pub wordShape : List ℕ → Shape
+wordShape l = cond (byteIs l 0 "$") (firstOf Plain shapeWords l 1) Plain

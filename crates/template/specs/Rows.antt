@@ -33,7 +33,7 @@ use Rattle.template.specs.declared.seek.Sought.the-variants.{Branch, Tes
 use Rattle.template.specs.Lines.{linesWithin, linesOf}
 use Rattle.template.specs.Verdicts.{firstFault, lineAllowed, bytesCheck}
 use Rattle.template.specs.Walk.{orElse, walk}
-use Rattle.template.specs.Form.{shapeIn, shapeOf, hasForm, isFormed}
+use Rattle.template.specs.Form.{shapeIn, shapeOf, hasForm, isFormed, shapeWords, wordShape}
 use Rattle.template.specs.Checks.{formCheck, nestStep, nestEnd, nestCheck, hasName, cameBefore, nameStep, nameEnd, nameCheck}
 use Rattle.template.specs.Sections.{selects, sectionFrom, endAt, sectionEnd, runFrom, selected}
 use Rattle.template.specs.Order.{unlessFault, acceptedRun, sectionChecked, namesChecked, nestingChecked, formsChecked, templateChecked}
@@ -104,10 +104,12 @@ rows =
     -- an executed $ELSE behind its own $ENDIF, a skipped table behind its own $ET
     ∷ seek (lines ("x" ∷ "$IF 1" ∷ "$ELSE" ∷ "$ENDIF" ∷ "$ENDIF" ∷ "y" ∷ [])) TestEnd 28 5
     ∷ seek (lines ("$BT 1" ∷ "$ET" ∷ "$ET 2" ∷ "x" ∷ [])) TableEnd 16 3
+    -- no line that is passed over is read further than its word
+    ∷ seek (lines ("$IF what" ∷ "{" ∷ "$ENDIF" ∷ "$ENDIF" ∷ [])) TestEnd 25 4
     -- the matching line is the last and lacks its line end
     ∷ seek (ascii "$ENDIF") Branch 6 1
     ∷ []
 
 pub rows-hold : map (λ (r : Row). r .computed) rows ≡ map (λ (r : Row). r .expected) rows
-unfolding rows belongs span byteAt valueFrom digitsAt numberAt begins standsAt wordIn wordFrom wordAt firstOf inMillionths fractionAt unsignedAt literalAt variableIndex indexAt stringAt entryOf recordOf cellOf cellAt wholeAt numberedOf numberedAt names namedAt numberOr operandAt countOf admits filteredAt filters argumentOf argumentAt placesAt placesOf widthNext fieldOf fieldAt placed pieceAt widthOf totalWidth before piecesWithin textPieces fitsBehind textFits behindSpace stringTarget targetOf setAt datasourceAt compareAt singleAt bareAt optionalAt parameterAt fetchedAt fetchAt nameAt sectionAt headingOf headingAt remarkAt commands parseLine lines bytesCheck firstFault lineAllowed allAllowed linesWithin linesOf shapeIn shapeOf hasForm isFormed walk orElse nestStep nestEnd nestCheck formCheck nameOf hasName cameBefore nameStep nameEnd nameCheck selects sectionFrom endAt sectionEnd runFrom selected unlessFault acceptedRun sectionChecked namesChecked nestingChecked formsChecked templateChecked amongTests amongTables atElse roleOf past orSkip skipFrom atMost skipped tests tables sectionBegun testTurned testEnded tableEnded inSection behind allClosed
+unfolding rows belongs span byteAt valueFrom digitsAt numberAt begins standsAt wordIn wordFrom wordAt firstOf inMillionths fractionAt unsignedAt literalAt variableIndex indexAt stringAt entryOf recordOf cellOf cellAt wholeAt numberedOf numberedAt names namedAt numberOr operandAt countOf admits filteredAt filters argumentOf argumentAt placesAt placesOf widthNext fieldOf fieldAt placed pieceAt widthOf totalWidth before piecesWithin textPieces fitsBehind textFits behindSpace stringTarget targetOf setAt datasourceAt compareAt singleAt bareAt optionalAt parameterAt fetchedAt fetchAt nameAt sectionAt headingOf headingAt remarkAt commands parseLine lines bytesCheck firstFault lineAllowed allAllowed linesWithin linesOf shapeIn shapeOf hasForm isFormed shapeWords wordShape walk orElse nestStep nestEnd nestCheck formCheck nameOf hasName cameBefore nameStep nameEnd nameCheck selects sectionFrom endAt sectionEnd runFrom selected unlessFault acceptedRun sectionChecked namesChecked nestingChecked formsChecked templateChecked amongTests amongTables atElse roleOf past orSkip skipFrom atMost skipped tests tables sectionBegun testTurned testEnded tableEnded inSection behind allClosed
 rows-hold = refl

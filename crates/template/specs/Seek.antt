@@ -14,7 +14,7 @@ use Rattle.template.specs.declared.seek.Way.{Way}
 use Rattle.template.specs.declared.seek.Way.the-variants.{On, Match}
 use Rattle.template.specs.declared.seek.Skip.{Skip}
 use Rattle.template.specs.Lines.{linesOf}
-use Rattle.template.specs.Form.{shapeOf}
+use Rattle.template.specs.Form.{wordShape}
 
 -- a failed test and an executed $ELSE look among tests, a skipped table among tables
 unfoldable pub amongTests : Sought → Role → Role
@@ -57,11 +57,11 @@ unfoldable pub orSkip : Way → (ℕ → Skip) → Skip → Skip
 orSkip (On d) next skip = next d
 orSkip Match next skip = skip
 
--- the lines up to the one that matches, behind some bytes and n lines, with d open inside
+-- the lines up to the one that matches, each by its word, behind some bytes and n lines, with d open inside
 unfoldable pub skipFrom : Sought → ℕ → ℕ → ℕ → List (List ℕ) → Skip
 skipFrom q d at n [] = record { bytes = at; lines = n }
 skipFrom q d at n (l ∷ ls) =
-    orSkip (past (roleOf q (shapeOf l)) d) (λ k. skipFrom q k (at + length l + 1) (suc n) ls) (record { bytes = at + length l + 1; lines = suc n })
+    orSkip (past (roleOf q (wordShape l)) d) (λ k. skipFrom q k (at + length l + 1) (suc n) ls) (record { bytes = at + length l + 1; lines = suc n })
 
 -- "the last may lack it": no more bytes than the part has
 unfoldable pub atMost : ℕ → Skip → Skip

@@ -2,8 +2,11 @@
 use lines::command;
 use lines::command::Line;
 use nesting::Shape;
+use scan::words::WordRead;
 ghost use mathlib.Core.Path.{_≡_};
-ghost use Rattle.template.specs.Form.{shapeIn, shapeOf, hasForm, isFormed};
+ghost use Rattle.scan.specs.Words.{firstOf};
+ghost use Rattle.nesting.specs.declared.Shape.the-variants.{Plain};
+ghost use Rattle.template.specs.Form.{shapeIn, shapeOf, hasForm, isFormed, numberedShape, shapeWords, wordShape};
 
 fn shape_in(form: Line) -> Shape
     ensures { λ r. ⌜ r ≡ shapeIn form ⌝ }
@@ -60,4 +63,50 @@ pub fn is_formed(line: &[u8]) -> bool
 {
     let shape = shape_of(line);
     has_form(shape)
+}
+
+// The shape that a word of the table tells, by the word's number.
+fn shape_numbered(k: usize) -> Shape
+    ensures { λ r. ⌜ r ≡ numberedShape k ⌝ }
+{
+    if k == 0 {
+        return Shape::Test;
+    }
+    if k == 1 {
+        return Shape::Else;
+    }
+    if k == 2 {
+        return Shape::EndTest;
+    }
+    if k == 3 {
+        return Shape::Table;
+    }
+    if k == 4 {
+        return Shape::EndTable;
+    }
+    if k == 5 {
+        return Shape::Section;
+    }
+    Shape::Remark
+}
+
+// What a command is by its word. Apart from `shape_by_word`, since the table is built with each call.
+fn command_shape(line: &[u8]) -> Shape
+    ensures { λ r. ⌜ r ≡ firstOf Plain shapeWords (now (line .entry)) 1 ⌝ }
+{
+    let table = b"IF      ELSE    ENDIF   BT      ET      SEC     REM     ";
+    let WordRead::Word(k, _) = scan::words::word_at(line, 1, table) else {
+        return Shape::Plain;
+    };
+    shape_numbered(k)
+}
+
+// What a line is by its word alone.
+pub fn shape_by_word(line: &[u8]) -> Shape
+    ensures { λ r. ⌜ r ≡ wordShape (now (line .entry)) ⌝ }
+{
+    if scan::bytes::byte(line, 0) == b'$' {
+        return command_shape(line);
+    }
+    Shape::Plain
 }

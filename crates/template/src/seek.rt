@@ -118,7 +118,7 @@ fn lines_passed(rest: &[u8], sought: Sought) -> Skip
     let mut depth: u32 = 0;
     while at < rest.len() {
         let line = scan::bytes::line_of(&rest[at..]);
-        let shape = form::shape_of(line);
+        let shape = form::shape_by_word(line);
         let role = role_of(sought, shape);
         let way = way_past(role, depth);
         let next = at + line.len() + 1;

@@ -32,8 +32,8 @@ part-line-of-end c = search needs
 line-of-requires : tie.Need-line-of-requires Inv-loop μ-loop
 line-of-requires c κs = search needs
 
-shape-of-requires : tie.Need-shape-of-requires Inv-loop μ-loop
-shape-of-requires c κs = search needs
+shape-by-word-requires : tie.Need-shape-by-word-requires Inv-loop μ-loop
+shape-by-word-requires c κs = search needs
 
 role-of-requires : tie.Need-role-of-requires Inv-loop μ-loop
 role-of-requires c κs = search needs
@@ -59,7 +59,7 @@ add-t18 c = search needs
 returns : tie.Need-returns Inv-loop μ-loop
 returns c =
     let k = c .before .before .before .before .before .before .before in
-    skip-here _ _ _ _ _ (k .before .loop .inv .0) _ _ _ _ (k .loop-test .taken) (part-line (k .before .before .before .args .rest .now) _ (k .before .loop .at) (c .before .before .before .before .before .line-of .ensures)) (c .before .before .before .before .shape-of .ensures) (c .before .before .before .role-of .ensures) (c .before .before .way-past .ensures) (c .enum-told .given .1)
+    skip-here _ _ _ _ _ (k .before .loop .inv .0) _ _ _ _ (k .loop-test .taken) (part-line (k .before .before .before .args .rest .now) _ (k .before .loop .at) (c .before .before .before .before .before .line-of .ensures)) (c .before .before .before .before .shape-by-word .ensures) (c .before .before .before .role-of .ensures) (c .before .before .way-past .ensures) (c .enum-told .given .1)
 
 add-lines : tie.Need-add-lines Inv-loop μ-loop
 add-lines c = search needs
@@ -72,7 +72,7 @@ loop-again c =
     let k = c .before .before .before .before .before .before .before .before in
     let p = c .before .before .before .way-past .ensures in
     let g = c .before .way .given .1 in
-    (skip-on _ _ _ _ _ (k .before .loop .inv .0) _ _ _ _ (k .loop-test .taken) (part-line (k .before .before .before .args .rest .now) _ (k .before .loop .at) (c .before .before .before .before .before .before .line-of .ensures)) (c .before .before .before .before .before .shape-of .ensures) (c .before .before .before .before .role-of .ensures) p _ g, omega arith, omega (arith, past-bound _ _ _ (sym p ∙ g)))
+    (skip-on _ _ _ _ _ (k .before .loop .inv .0) _ _ _ _ (k .loop-test .taken) (part-line (k .before .before .before .args .rest .now) _ (k .before .loop .at) (c .before .before .before .before .before .before .line-of .ensures)) (c .before .before .before .before .before .shape-by-word .ensures) (c .before .before .before .before .role-of .ensures) p _ g, omega arith, omega (arith, past-bound _ _ _ (sym p ∙ g)))
 
 returns-2 : tie.Need-returns-2 Inv-loop μ-loop
 returns-2 c = skip-end _ _ _ _ _ (c .before .loop .inv .0) (c .loop-test .left)
@@ -88,7 +88,7 @@ lines-passed-spec =
     part-line-of-start
     part-line-of-end
     line-of-requires
-    shape-of-requires
+    shape-by-word-requires
     role-of-requires
     way-past-requires
     add-next
