@@ -4,11 +4,11 @@ use mathlib.Core.Path.{_≡_, refl, sym, ap, subst, _∙_}
 use mathlib.Core.Bool.{Bool, true, false, cond}
 use mathlib.Core.List.{List, _∷_}
 use mathlib.Core.Logic.{_⊎_, inl, inr, ⊎-elim}
-use Prim.Native.Nat.{ℕ, zero, suc, _+_, _<_, _≤_}
+use Prim.Native.Nat.{ℕ, zero, suc, _+_, _-_, _<_, _≤_}
 use native.Mathlib.Omega.{arith}
 use borrow.Author.Tests.{leb-true, leb-false, ltb-true, le-ltb}
 use lib.Dec.{leb, ltb}
-use lib.ListN.{length, drop, length-drop}
+use lib.ListN.{length, take, drop, length-drop}
 use Rattle.scan.specs.Line.{lineAt, nextLine}
 use Rattle.nesting.specs.declared.Shape.the-variants.{Section}
 use Rattle.nesting.specs.Nest.{Mark, test, other, table}
@@ -21,7 +21,7 @@ use Rattle.template.specs.Form.{shapeOf}
 use Rattle.template.specs.Seek.{orSkip, skipFrom, atMost, skipped}
 use Rattle.template.specs.Opening.{Opens, Checks}
 use Rattle.template.proofs.LineLaws.{lines-more}
-use Rattle.template.proofs.Reach.{Inside, skip-inside}
+use Rattle.template.proofs.Reach.{Inside, skip-inside, part-skip}
 use Rattle.template.proofs.Opening.{checks-short, opens-line, opens-next, open-inside, line-turn, line-before}
 use Rattle.template.proofs.WordForm.{shape-by-word}
 use Rattle.template.proofs.Accepted.{RunEnd, at-end, at-section}
@@ -140,6 +140,10 @@ jump {t} {M} {at} {n} c q o =
     let e = whole (drop at t) q (omega (arith, checks-short c, length-drop at t)) in
     let i = search-from c q at n (length t) 0 0 (omega arith) o (omega arith) (omega arith) here in
     rw e (held (skipFrom q 0 0 0 (linesOf (drop at t))) (rw (depth-none q) at i) (open-inside c o (over-open {M = M} q here .1)) (rw e at (skip-inside (drop at t) q)))
+
+-- The same of what the code found in the part of the template from there on.
+pub found-jump : {t : List ℕ} {M : List Mark} {at n : ℕ} → Checks t → (q : Sought) → Opens t at n (topOf q ∷ M) → (k : Skip) → k ≡ skipped (take (length t - at) (drop at t)) q → Jump t q M at n k
+found-jump {t} {M} {at} {n} c q o k e = subst (Jump t q M at n) (sym (part-skip t q at k e)) (jump c q o)
 
 module _ {t : List ℕ} {M : List Mark} {at n : ℕ} (c : Checks t) where
   -- A failed test.

@@ -1,12 +1,13 @@
 -- How far a search for a matching line goes: no further than the part that it is handed, and over no more lines than bytes.
-use mathlib.Core.Path.{_≡_, refl}
+use mathlib.Core.Path.{_≡_, refl, ap, _∙_}
 use mathlib.Core.Bool.{Bool, true, false, cond}
 use mathlib.Core.List.{List, [], _∷_}
-use Prim.Native.Nat.{ℕ, zero, suc, _+_, _≤_}
+use Prim.Native.Nat.{ℕ, zero, suc, _+_, _-_, _≤_}
 use native.Mathlib.Omega.{arith}
 use borrow.Author.Tests.{ltb-false}
 use lib.Dec.{ltb}
-use lib.ListN.{length, drop}
+use lib.ListN.{length, take, drop, length-drop}
+use lib.Seq.{take-all}
 use Rattle.scan.specs.Line.{lineOf}
 use Rattle.template.specs.declared.seek.Sought.{Sought}
 use Rattle.template.specs.declared.seek.Way.{Way}
@@ -66,3 +67,11 @@ skip-inside t q = go (ltb 32768 (length t))
 -- The same of what the code found.
 pub found-inside : (t : List ℕ) (q : Sought) (k : Skip) → k ≡ skipped t q → Inside (length t) k
 found-inside t q k e = rw e (skip-inside t q)
+
+-- A search from a place of the template ends in the template.
+pub skip-place : (t : List ℕ) (q : Sought) (at : ℕ) → at ≤ length t → at + skipped (drop at t) q .bytes ≤ length t
+skip-place t q at h = omega (arith, skip-inside (drop at t) q .bytes, length-drop at t)
+
+-- The part of a template from a place on, as the code hands it to the search.
+pub part-skip : (t : List ℕ) (q : Sought) (at : ℕ) (k : Skip) → k ≡ skipped (take (length t - at) (drop at t)) q → k ≡ skipped (drop at t) q
+part-skip t q at k e = e ∙ ap (λ (s : List ℕ). skipped s q) (take-all (length t - at) (drop at t) (omega (arith, length-drop at t)))
