@@ -1,0 +1,68 @@
+-- $REC and $TBL: one law for each return of the code.
+use mathlib.Core.Path.{_≡_, refl, ap, _∙_}
+use mathlib.Core.List.{List, map}
+use Prim.Native.Nat.{ℕ, zero, suc}
+use lib.IntN.{ℤ}
+use Rattle.meaning.specs.Answer.{Answer}
+use Rattle.meaning.specs.Tree.{done, bind}
+use Rattle.meaning.specs.Meaning.{Meaning}
+use Rattle.meaning.specs.Place.{at}
+use Rattle.meaning.specs.declared.question.Question.{Question}
+use Rattle.meaning.specs.declared.end.Halt.{Halt}
+use Rattle.meaning.specs.declared.end.Ended.the-variants.{Finished, Halted}
+use Rattle.meaning.proofs.Doing.{then-does, then-over, does-done}
+use Rattle.lines.specs.declared.command.Fetch.{Fetch}
+use Rattle.values.specs.declared.scene.Scene.{Scene}
+use Rattle.values.specs.declared.fetch.Fetched.{Fetched}
+use Rattle.values.specs.declared.fetch.Along.{Along}
+use Rattle.values.specs.declared.fetch.Along.the-variants.{Records, Entries}
+use Rattle.values.specs.Machine.{Machine}
+use Rattle.values.specs.Fetching.{Fetches, FetchValue}
+use Rattle.values.specs.State.{answers, fetched, machine}
+use Rattle.values.specs.Word.{questions}
+use Rattle.values.proofs.Words.{map-set}
+use Rattle.commands.specs.Setting.{setNumbered}
+use Rattle.commands.specs.Contracts.{Runs}
+use Rattle.commands.specs.Fetching.{withRecords, withEntries, recordsMeaning, entriesMeaning, TakesRecords, TakesEntries}
+
+-- A fetch that led to v, and the machine with what it fetched.
+module _ (b index : List ℕ) (count : ℕ) (t : (Question → Answer) → Meaning (List Answer)) (along : Along) (put : (Question → Answer) → List Answer → Machine) (after : (Question → Answer) → Machine) (log : List ℕ) (a p : ℕ) (log′ : List ℕ) (v : Fetched) (d : Fetches t along log a p log′ v) where
+  abbrev Line : (Question → Answer) → Meaning Machine
+  Line source = bind (t source) (λ l. done (put source l))
+
+  over : (h : Halt) (l : ℕ) → v .end ≡ Halted h l → Runs b index count Line after 64 log a p log′ (v .asked) (Halted h l)
+  over h l e = record {
+    does = λ n cs r text m g. then-over (λ x. done (put (answers b n) x)) (rw e at (d .does (answers b n) text m g));
+    few = d .few;
+  }
+
+  follows : v .end ≡ Finished → ((source : Question → Answer) → after source ≡ put source (fetched source along (v .fetched))) → Runs b index count Line after 64 log a p log′ (v .asked) Finished
+  follows e k = record {
+    does = λ n cs r text m g. let source = answers b n in rw (k source) (then-does (λ x. done (put source x)) (rw e at (d .does source text m g)) (does-done source (at text m (questions log′) (v .asked) p g) (put source (fetched source along (v .fetched)))));
+    few = d .few;
+  }
+
+-- What is stored as Rn or Tn stands for the answers.
+kept : (source : Question → Answer) (along : Along) (words : List ℕ) (n w : ℕ) → map (fetched source along) (setNumbered words n w) ≡ setNumbered (map (fetched source along) words) n (fetched source along w)
+unfolding setNumbered
+kept source along words zero w = refl
+kept source along words (suc n) w = map-set (fetched source along) words n w
+
+module _ (integers : List ℤ) (words : List ℕ) (sc : Scene) (f : Fetch) (log : List ℕ) (a p : ℕ) (log′ : List ℕ) (v : Fetched) where
+  module _ (d : FetchValue integers sc Records (f .parameter) (f .first) (f .second) (f .count) log a p log′ v) where
+    pub records-over : (h : Halt) (l : ℕ) → v .end ≡ Halted h l → TakesRecords integers words sc f log a p words log′ (record { end = Halted h l; asked = v .asked })
+    unfolding recordsMeaning
+    records-over h l e = record { runs = λ b index count decimals rows lengths entries. let now : (Question → Answer) → Machine = λ source. machine source integers decimals rows lengths words entries sc in over b index count _ Records (λ source x. withRecords (now source) (setNumbered (now source .records) (f .number) x)) now log a p log′ v (d .fetches decimals rows lengths words entries) h l e }
+
+    pub records-follow : (words′ : List ℕ) → v .end ≡ Finished → words′ ≡ setNumbered words (f .number) (v .fetched) → TakesRecords integers words sc f log a p words′ log′ (record { end = Finished; asked = v .asked })
+    unfolding recordsMeaning
+    records-follow words′ e k = record { runs = λ b index count decimals rows lengths entries. let now : (Question → Answer) → Machine = λ source. machine source integers decimals rows lengths words entries sc in follows b index count _ Records (λ source x. withRecords (now source) (setNumbered (now source .records) (f .number) x)) (λ source. machine source integers decimals rows lengths words′ entries sc) log a p log′ v (d .fetches decimals rows lengths words entries) e (λ source. ap (withRecords (now source)) (ap (map (fetched source Records)) k ∙ kept source Records words (f .number) (v .fetched))) }
+
+  module _ (d : FetchValue integers sc Entries (f .parameter) (f .first) (f .second) (f .count) log a p log′ v) where
+    pub entries-over : (h : Halt) (l : ℕ) → v .end ≡ Halted h l → TakesEntries integers words sc f log a p words log′ (record { end = Halted h l; asked = v .asked })
+    unfolding entriesMeaning
+    entries-over h l e = record { runs = λ b index count decimals rows lengths records. let now : (Question → Answer) → Machine = λ source. machine source integers decimals rows lengths records words sc in over b index count _ Entries (λ source x. withEntries (now source) (setNumbered (now source .entries) (f .number) x)) now log a p log′ v (d .fetches decimals rows lengths records words) h l e }
+
+    pub entries-follow : (words′ : List ℕ) → v .end ≡ Finished → words′ ≡ setNumbered words (f .number) (v .fetched) → TakesEntries integers words sc f log a p words′ log′ (record { end = Finished; asked = v .asked })
+    unfolding entriesMeaning
+    entries-follow words′ e k = record { runs = λ b index count decimals rows lengths records. let now : (Question → Answer) → Machine = λ source. machine source integers decimals rows lengths records words sc in follows b index count _ Entries (λ source x. withEntries (now source) (setNumbered (now source .entries) (f .number) x)) (λ source. machine source integers decimals rows lengths records words′ sc) log a p log′ v (d .fetches decimals rows lengths records words) e (λ source. ap (withEntries (now source)) (ap (map (fetched source Entries)) k ∙ kept source Entries words (f .number) (v .fetched))) }

@@ -1,0 +1,331 @@
+-- What the trees of commands give, whatever the answers are: they only ask, and what they yield keeps what a run needs.
+use mathlib.Core.Path.{_≡_, refl, sym, subst}
+use mathlib.Core.Bool.{Bool, true, false, cond, _||_, _&&_}
+use mathlib.Core.List.{List, [], _∷_}
+use Prim.Native.Nat.{ℕ, zero, suc, _+_, _≤_}
+use native.Mathlib.Omega.{arith}
+use borrow.Author.Tests.{leb-true, ltb-false}
+use lib.Dec.{leb, ltb}
+use lib.IntN.{ℤ, pos, negsuc, natAbs}
+use lib.Signed.{ltZ}
+use lib.ListN.{length, drop, length-set}
+use Rattle.meaning.specs.Answer.{Answer}
+use Rattle.meaning.specs.Each.{Each}
+use Rattle.meaning.specs.Tree.{done, stop, ask, print, bind, finished}
+use Rattle.meaning.specs.Meaning.{Meaning}
+use Rattle.meaning.specs.Place.{Place, Does, placesLeft, roomLeft, from}
+use Rattle.meaning.specs.Rule.{Rule, after, Keeps, AtEnd}
+use Rattle.meaning.specs.declared.question.Question.{Question}
+use Rattle.meaning.specs.declared.refusal.Refusal.{Refusal}
+use Rattle.meaning.specs.declared.refusal.Refusal.the-variants.{BadIndex, OutOfRange}
+use Rattle.meaning.proofs.Keeping.{keeps-end}
+use Rattle.arguments.specs.declared.argument.Argument.{Argument}
+use Rattle.arguments.specs.declared.index.Index.{Index}
+use Rattle.arguments.specs.declared.index.Index.the-variants.{Fixed}
+use Rattle.arguments.specs.declared.operand.Operand.{Operand}
+use Rattle.arguments.specs.declared.operand.Operand.the-variants.{Number, Text, IntegerVariable, DecimalVariable, StringVariable, PageNumber, LineNumber, LoopCounter, RecordElement, EntryElement, Parameter, Record, Entry}
+use Rattle.lines.specs.declared.command.Comparison.{Comparison}
+use Rattle.lines.specs.declared.command.Fetch.{Fetch}
+use Rattle.lines.specs.declared.command.Operation.{Operation}
+use Rattle.lines.specs.declared.command.Optional.{Optional}
+use Rattle.lines.specs.declared.command.Optional.the-variants.{Given, Absent}
+use Rattle.lines.specs.declared.command.Target.{Target}
+use Rattle.lines.specs.declared.command.Target.the-variants.{IntegerTarget, DecimalTarget, StringTarget}
+use Rattle.values.specs.declared.fetch.Along.{Along}
+use Rattle.values.specs.declared.fetch.Along.the-variants.{Records, Entries}
+use Rattle.values.specs.Machine.{Machine}
+use Rattle.values.specs.Worth.{Worth, answered, filtered, kindOf}
+use Rattle.values.specs.Meanings.{indexNumber, limited, indexValue, asks, cellMeaning, worthOf, operandMeaning, argumentMeaning}
+use Rattle.values.specs.Fetching.{firstOf, asksEach, countValue, asksElements, elementQuestion, elementQuestions, fetchMeaning}
+use Rattle.commands.specs.declared.table.Table.{Table}
+use Rattle.commands.specs.Settling.{Settled, settled, against, andThen, concluded, integerFrom, integerMeaning}
+use Rattle.commands.specs.Setting.{setNumbered, stored, setOf, setMeaning}
+use Rattle.commands.specs.Testing.{zeroJudged, compared, zeroMeaning, testMeaning}
+use Rattle.commands.specs.Fetching.{withRecords, withEntries, recordsMeaning, entriesMeaning}
+use Rattle.commands.specs.Looping.{loop, Looping, looping, newTable, begun, beginMeaning, innermost, exceeds, countedTo, counting, counted, endMeaning}
+use Rattle.commands.specs.Selecting.{datasourceFrom, datasourceMeaning}
+
+-- The tree prints nothing, and where it is done with a, Φ a holds.
+abbrev pub Gives : {A : Type 0} → Meaning A → (A → Type 0) → Type 0
+Gives (done a) Φ = Φ a
+Gives (stop e l) Φ = Unit {0}
+Gives (ask q l k) Φ = (r : Answer) → Gives (k r) Φ
+Gives (print v l t) Φ = ⊥
+
+abbrev pub Anything : {A : Type 0} → A → Type 0
+Anything a = Unit {0}
+
+-- Φ a where x is settled with a
+abbrev pub Whenever : {A : Type 0} → Settled A → (A → Type 0) → Type 0
+Whenever (settled a) Φ = Φ a
+Whenever (against e) Φ = Unit {0}
+
+module _ {A : Type 0} where
+  pub gives-bind : {B : Type 0} (t : Meaning A) (f : A → Meaning B) (Φ : A → Type 0) (Ψ : B → Type 0) → Gives t Φ → ((a : A) → Φ a → Gives (f a) Ψ) → Gives (bind t f) Ψ
+  gives-bind (done a) f Φ Ψ h g = g a h
+  gives-bind (stop e l) f Φ Ψ h g = tt
+  gives-bind (ask q l k) f Φ Ψ h g = λ r. gives-bind (k r) f Φ Ψ (h r) g
+  gives-bind (print v l t) f Φ Ψ h g = absurd h
+
+  -- Such a tree keeps every rule on what is printed, and its state.
+  pub gives-keeps : {S : Type 0} (rule : Rule S) (t : Meaning A) (s : S) (Φ : A → Type 0) → Gives t Φ → Keeps rule t s (λ a s′. Φ a × (s′ ≡ s))
+  gives-keeps rule (done a) s Φ h = (h, refl)
+  gives-keeps rule (stop e l) s Φ h = tt
+  gives-keeps rule (ask q l k) s Φ h = λ r. gives-keeps rule (k r) s Φ (h r)
+  gives-keeps rule (print v l t) s Φ h = absurd h
+
+  pub gives-concluded : (line : ℕ) (x : Settled A) (Φ : A → Type 0) → Whenever x Φ → Gives (concluded line x) Φ
+  gives-concluded line (settled a) Φ h = h
+  gives-concluded line (against e) Φ h = h
+
+  whenever-then : {B : Type 0} (x : Settled A) (f : A → Settled B) (Φ : A → Type 0) (Ψ : B → Type 0) → Whenever x Φ → ((a : A) → Φ a → Whenever (f a) Ψ) → Whenever (andThen x f) Ψ
+  whenever-then (settled a) f Φ Ψ h g = g a h
+  whenever-then (against e) f Φ Ψ h g = tt
+
+  whenever-any : (x : Settled A) → Whenever x Anything
+  whenever-any (settled a) = tt
+  whenever-any (against e) = tt
+
+-- ---- arguments
+
+stops-or : {A : Type 0} (b : Bool) (t : Meaning A) (e : Refusal) (line : ℕ) (Φ : A → Type 0) → Gives t Φ → Gives (cond b t (stop e line)) Φ
+stops-or true t e line Φ h = h
+stops-or false t e line Φ h = tt
+
+limited-gives : (line : ℕ) (z : ℤ) → Gives (limited line z) Anything
+unfolding limited
+limited-gives line (negsuc k) = tt
+limited-gives line (pos k) = stops-or (leb k 999) (done k) BadIndex line Anything tt
+
+index-gives : (m : Machine) (line : ℕ) (i : Index) → Gives (indexValue m line i) Anything
+unfolding indexValue
+index-gives m line i = limited-gives line (indexNumber (m .integers) (m .counter) i)
+
+cell-gives : (m : Machine) (line kind p : ℕ) (i j : Index) → Gives (worthOf (cellMeaning m line kind p i j)) Anything
+unfolding worthOf cellMeaning asks
+cell-gives m line kind p i j =
+    gives-bind (cellMeaning m line kind p i j) (λ a. done (answered a)) Anything Anything
+    (gives-bind (indexValue m line i) _ Anything Anything (index-gives m line i) (λ r h. gives-bind (indexValue m line j) _ Anything Anything (index-gives m line j) (λ e k a. tt)))
+    (λ a h. tt)
+
+operand-gives : (m : Machine) (s : List ℕ) (line kind : ℕ) (o : Operand) → Gives (operandMeaning m s line kind o) Anything
+unfolding operandMeaning
+operand-gives m s line kind (Number q) = tt
+operand-gives m s line kind (Text a e) = tt
+operand-gives m s line kind (IntegerVariable n) = tt
+operand-gives m s line kind (DecimalVariable n) = tt
+operand-gives m s line kind (StringVariable n) = tt
+operand-gives m s line kind PageNumber = tt
+operand-gives m s line kind LineNumber = tt
+operand-gives m s line kind LoopCounter = tt
+operand-gives m s line kind (RecordElement n) = tt
+operand-gives m s line kind (EntryElement n) = tt
+operand-gives m s line kind (Parameter p) = cell-gives m line kind p (Fixed 0) (Fixed 0)
+operand-gives m s line kind (Record p r) = cell-gives m line kind p r (Fixed 0)
+operand-gives m s line kind (Entry p r e) = cell-gives m line kind p r e
+
+module _ (m : Machine) (s : List ℕ) (line : ℕ) where
+  pub argument-gives : (a : Argument) → Gives (argumentMeaning m s line a) Anything
+  unfolding argumentMeaning
+  argument-gives a =
+      gives-bind (operandMeaning m s line (kindOf (a .filter)) (a .operand)) (λ w. done (filtered (a .filter) w)) Anything Anything (operand-gives m s line (kindOf (a .filter)) (a .operand)) (λ w h. tt)
+
+  -- an argument, and what follows from its value
+  followed : {A : Type 0} (a : Argument) (f : Worth → Settled A) (Φ : A → Type 0) → ((w : Worth) → Whenever (f w) Φ) → Gives (bind (argumentMeaning m s line a) (λ w. concluded line (f w))) Φ
+  followed a f Φ g =
+      gives-bind (argumentMeaning m s line a) (λ w. concluded line (f w)) Anything Φ (argument-gives a) (λ w h. gives-concluded line (f w) Φ (g w))
+
+  pub integer-gives : (a : Argument) → Gives (integerMeaning m s line a) Anything
+  unfolding integerMeaning
+  integer-gives a = followed a integerFrom Anything (λ w. whenever-any (integerFrom w))
+
+  -- ---- tests
+
+  pub zero-gives : (wanted : Bool) (a : Argument) → Gives (zeroMeaning m s line wanted a) Anything
+  unfolding zeroMeaning
+  zero-gives wanted a = followed a (zeroJudged wanted) Anything (λ w. whenever-any (zeroJudged wanted w))
+
+  pub test-gives : (c : Comparison) (a b : Argument) → Gives (testMeaning m s line c a b) Anything
+  unfolding testMeaning
+  test-gives c a b =
+      gives-bind (argumentMeaning m s line a) (λ v. bind (argumentMeaning m s line b) (λ w. concluded line (compared c v w))) Anything Anything (argument-gives a) (λ v h. followed b (compared c v) Anything (λ w. whenever-any (compared c v w)))
+
+-- ---- variables
+
+-- a machine with as many variables as m, and its counters, page and datasource
+pub record Shaped (m m′ : Machine) : Type 0 where
+  pub integers : length (m′ .integers) ≡ length (m .integers)
+  pub decimals : length (m′ .decimals) ≡ length (m .decimals)
+  pub strings : length (m′ .strings) ≡ length (m .strings)
+  pub records : length (m′ .records) ≡ length (m .records)
+  pub entries : length (m′ .entries) ≡ length (m .entries)
+  pub counter : m′ .counter ≡ m .counter
+  pub datasource : m′ .datasource ≡ m .datasource
+  pub page : m′ .page ≡ m .page
+  pub row : m′ .row ≡ m .row
+
+pub numbered-length : {A : Type 0} (l : List A) (n : ℕ) (x : A) → length (setNumbered l n x) ≡ length l
+unfolding setNumbered
+numbered-length l zero x = refl
+numbered-length l (suc k) x = length-set l k x
+
+-- a result as the n-th of l
+stored-length : {A : Type 0} (l : List A) (n : ℕ) (x : Settled A) → Whenever (stored l n x) (λ l′. length l′ ≡ length l)
+unfolding stored
+stored-length l n (settled x) = numbered-length l n x
+stored-length l n (against e) = tt
+
+set-shapes : (m : Machine) (o : Operation) (t : Target) (w : Worth) → Whenever (setOf m o t w) (Shaped m)
+unfolding setOf
+set-shapes m o (IntegerTarget n) w =
+    whenever-then (stored (m .integers) n _) _ (λ l. length l ≡ length (m .integers)) (Shaped m) (stored-length (m .integers) n _) (λ l h. record { integers = h; decimals = refl; strings = refl; records = refl; entries = refl; counter = refl; datasource = refl; page = refl; row = refl })
+set-shapes m o (DecimalTarget n) w =
+    whenever-then (stored (m .decimals) n _) _ (λ l. length l ≡ length (m .decimals)) (Shaped m) (stored-length (m .decimals) n _) (λ l h. record { integers = refl; decimals = h; strings = refl; records = refl; entries = refl; counter = refl; datasource = refl; page = refl; row = refl })
+set-shapes m o (StringTarget n) w =
+    whenever-then (stored (m .strings) n _) _ (λ l. length l ≡ length (m .strings)) (Shaped m) (stored-length (m .strings) n _) (λ l h. record { integers = refl; decimals = refl; strings = h; records = refl; entries = refl; counter = refl; datasource = refl; page = refl; row = refl })
+
+pub set-gives : (m : Machine) (s : List ℕ) (line : ℕ) (o : Operation) (t : Target) (a : Argument) → Gives (setMeaning m s line o t a) (Shaped m)
+unfolding setMeaning
+set-gives m s line o t a = followed m s line a (setOf m o t) (Shaped m) (λ w. set-shapes m o t w)
+
+-- ---- $REC and $TBL
+
+each-gives : (line : ℕ) (qs : List Question) → Gives (asksEach line qs) Anything
+unfolding asksEach
+each-gives line [] = tt
+each-gives line (q ∷ qs) = λ r. gives-bind (asksEach line qs) (λ rest. done (r ∷ rest)) Anything Anything (each-gives line qs) (λ l h. tt)
+
+count-gives : (line : ℕ) (z : ℤ) → Gives (countValue line z) Anything
+unfolding countValue
+count-gives line (pos n) = stops-or (leb n 64) (done n) BadIndex line Anything tt
+count-gives line (negsuc n) = tt
+
+fetch-gives : (m : Machine) (line : ℕ) (along : Along) (p : ℕ) (i j c : Index) → Gives (fetchMeaning m line along p i j c) Anything
+unfolding fetchMeaning asksElements
+fetch-gives m line along p i j c =
+    gives-bind (indexValue m line i) _ Anything Anything (index-gives m line i) (λ r h.
+    gives-bind (indexValue m line j) _ Anything Anything (index-gives m line j) (λ e k.
+    gives-bind (countValue line (indexNumber (m .integers) (m .counter) c)) _ Anything Anything (count-gives line (indexNumber (m .integers) (m .counter) c)) (λ n l.
+    stops-or (leb (firstOf along r e + n) 1000) (asksEach line (elementQuestions (elementQuestion (m .datasource) along p r e) 0 n)) BadIndex line Anything (each-gives line _))))
+
+module _ (m : Machine) (line : ℕ) (f : Fetch) where
+  pub records-gives : Gives (recordsMeaning m line f) (Shaped m)
+  unfolding recordsMeaning
+  records-gives =
+      gives-bind (fetchMeaning m line Records (f .parameter) (f .first) (f .second) (f .count)) (λ l. done (withRecords m (setNumbered (m .records) (f .number) l))) Anything (Shaped m) (fetch-gives m line Records (f .parameter) (f .first) (f .second) (f .count)) (λ l h. record { integers = refl; decimals = refl; strings = refl; records = numbered-length (m .records) (f .number) l; entries = refl; counter = refl; datasource = refl; page = refl; row = refl })
+
+  pub entries-gives : Gives (entriesMeaning m line f) (Shaped m)
+  unfolding entriesMeaning
+  entries-gives =
+      gives-bind (fetchMeaning m line Entries (f .parameter) (f .first) (f .second) (f .count)) (λ l. done (withEntries m (setNumbered (m .entries) (f .number) l))) Anything (Shaped m) (fetch-gives m line Entries (f .parameter) (f .first) (f .second) (f .count)) (λ l h. record { integers = refl; decimals = refl; strings = refl; records = refl; entries = numbered-length (m .entries) (f .number) l; counter = refl; datasource = refl; page = refl; row = refl })
+
+-- ---- tables
+
+-- what $BT leads to: it is skipped, or a table more is open
+pub data Begun (ts : List Table) (start next : ℕ) : Looping → Type 0 where
+  skipped : Begun ts start next (looping ts true)
+  opened : (n : ℕ) → Begun ts start next (looping (newTable n start next ∷ ts) false)
+
+-- what $ET leads to: the innermost table has ended, or it is counted on within its limits
+pub data Counting (ts : List Table) : Looping → Type 0 where
+  ended : Counting ts (looping (drop 1 ts) false)
+  again : (c : ℕ) → c ≤ 2000000000 → c ≤ innermost ts .last → Counting ts (looping (countedTo (innermost ts) c ∷ drop 1 ts) true)
+
+begun-is : (ts : List Table) (start next : ℕ) (n : ℤ) → Begun ts start next (begun ts start next n)
+unfolding begun
+begun-is ts start next n = by (ltZ n (pos 1))
+  where
+    by : (b : Bool) → Begun ts start next (cond b (looping ts true) (looping (newTable (natAbs n) start next ∷ ts) false))
+    by true = skipped
+    by false = opened (natAbs n)
+
+counting-is : (ts : List Table) (c : ℕ) → Counting ts (counting ts c)
+unfolding counting exceeds
+counting-is ts c = by (ltb 2000000000 c) refl (ltb (innermost ts .last) c) refl
+  where
+    by : (b : Bool) → ltb 2000000000 c ≡ b → (d : Bool) → ltb (innermost ts .last) c ≡ d → Counting ts (cond (b || d) (looping (drop 1 ts) false) (looping (countedTo (innermost ts) c ∷ drop 1 ts) true))
+    by true e d f = ended
+    by false e true f = ended
+    by false e false f = again c (ltb-false 2000000000 c e) (ltb-false (innermost ts .last) c f)
+
+counted-is : (ts : List Table) (k : ℤ) → Whenever (counted ts k) (Counting ts)
+unfolding counted
+counted-is ts k = by (ltZ k (pos 1))
+  where
+    by : (b : Bool) → Whenever (cond b (against OutOfRange) (settled (counting ts (innermost ts .counter + natAbs k)))) (Counting ts)
+    by true = tt
+    by false = counting-is ts (innermost ts .counter + natAbs k)
+
+module _ (m : Machine) (s : List ℕ) (line : ℕ) (ts : List Table) where
+  pub begin-gives : (start next : ℕ) (a : Argument) → Gives (beginMeaning m s line ts start next a) (Begun ts start next)
+  unfolding beginMeaning
+  begin-gives start next a =
+      gives-bind (integerMeaning m s line a) (λ n. done (begun ts start next n)) Anything (Begun ts start next) (integer-gives m s line a) (λ n h. begun-is ts start next n)
+
+  pub end-gives : (o : Optional) → Gives (endMeaning m s line ts o) (Counting ts)
+  unfolding endMeaning
+  end-gives Absent = gives-concluded line (counted ts (pos 1)) (Counting ts) (counted-is ts (pos 1))
+  end-gives (Given a) =
+      gives-bind (integerMeaning m s line a) (λ k. concluded line (counted ts k)) Anything (Counting ts) (integer-gives m s line a) (λ k h. gives-concluded line (counted ts k) (Counting ts) (counted-is ts k))
+
+-- Counters and limits of tables are integers within their range, where $BT takes one.
+pub record Bounded (t : Table) : Type 0 where
+  pub counter : t .counter ≤ 2000000000
+  pub last : t .last ≤ 2000000000
+
+drop-each : (ts : List Table) → Each Bounded ts → Each Bounded (drop 1 ts)
+drop-each [] h = tt
+drop-each (t ∷ ts) h = h .1
+
+innermost-last : (ts : List Table) → Each Bounded ts → innermost ts .last ≤ 2000000000
+innermost-last [] h = omega arith
+innermost-last (t ∷ ts) h = h .0 .last
+
+pub begun-bounded : (ts : List Table) (start next : ℕ) (n : ℤ) → natAbs n ≤ 2000000000 → Each Bounded ts → Each Bounded (begun ts start next n .tables)
+unfolding begun
+begun-bounded ts start next n k h = by (ltZ n (pos 1))
+  where
+    by : (b : Bool) → Each Bounded (cond b (looping ts true) (looping (newTable (natAbs n) start next ∷ ts) false) .tables)
+    by true = h
+    by false = (record { counter = omega arith; last = k }, h)
+
+pub counting-bounded : (ts : List Table) (l : Looping) → Counting ts l → Each Bounded ts → Each Bounded (l .tables)
+counting-bounded ts _ ended h = drop-each ts h
+counting-bounded ts _ (again c j k) h = (record { counter = j; last = innermost-last ts h }, drop-each ts h)
+
+-- LOOP is then an integer within its range.
+pub loop-bounded : (ts : List Table) → Each Bounded ts → loop ts ≤ 2000000000
+unfolding loop
+loop-bounded [] h = omega arith
+loop-bounded (t ∷ ts) h = h .0 .counter
+
+-- ---- $SETDS
+
+-- "datasource 1–35"
+pub record Selectable (n : ℕ) : Type 0 where
+  pub low : 1 ≤ n
+  pub high : n ≤ 35
+
+from-selectable : (z : ℤ) → Whenever (datasourceFrom z) Selectable
+unfolding datasourceFrom
+from-selectable (negsuc n) = tt
+from-selectable (pos n) = by (leb 1 n) refl (leb n 35) refl
+  where
+    by : (b : Bool) → leb 1 n ≡ b → (d : Bool) → leb n 35 ≡ d → Whenever (cond (b && d) (settled n) (against BadIndex)) Selectable
+    by true e true f = record { low = leb-true 1 n e; high = leb-true n 35 f }
+    by true e false f = tt
+    by false e d f = tt
+
+pub datasource-gives : (m : Machine) (line : ℕ) (i : Index) → Gives (datasourceMeaning m line i) Selectable
+unfolding datasourceMeaning
+datasource-gives m line i = gives-concluded line (datasourceFrom (indexNumber (m .integers) (m .counter) i)) Selectable (from-selectable (indexNumber (m .integers) (m .counter) i))
+
+-- ---- what a call that finished has
+
+-- Where a call led such a tree to a, Φ a holds.
+pub gives-does : {A : Type 0} (source : Question → Answer) (t : Meaning A) (P P′ : Place Question) (a : A) (Φ : A → Type 0) → Gives t Φ → Does source t P P′ (finished a) → Φ a
+gives-does {A} source t P P′ a Φ h d =
+    subst (λ e. AtEnd (λ x s. Φ x × (s ≡ 0)) e (after nothing 0 (from source P t .events))) (sym (d .did .end)) (keeps-end nothing source (placesLeft P) (roomLeft P) t 0 (λ x s. Φ x × (s ≡ 0)) (gives-keeps nothing t 0 Φ h)) .0
+  where
+    nothing : Rule ℕ
+    nothing = record { next = λ s v. s; allowed = λ s v. ⊥ }

@@ -1,0 +1,8 @@
+pub mod Settling
+pub mod Setting
+pub mod Testing
+pub mod Contracts
+pub mod Fetching
+pub mod Looping
+pub mod Selecting
+pub mod Rows

@@ -1,0 +1,195 @@
+-- Rows of document 01, each computed from the meaning of a whole command. Assumes nothing.
+use mathlib.Core.Path.{_≡_, refl}
+use mathlib.Core.Bool.{Bool, true, false}
+use mathlib.Core.List.{List, [], _∷_}
+use Prim.Native.Nat.{ℕ}
+use lib.IntN.{ℤ, pos, negsuc}
+use lib.ListN.{length}
+use Rattle.meaning.specs.Answer as A
+use Rattle.meaning.specs.Answer.{Answer}
+use Rattle.meaning.specs.Tree.{finished, halted, refused, cut, End, Run, run}
+use Rattle.meaning.specs.declared.question.Question.{Question}
+use Rattle.meaning.specs.declared.refusal.Refusal.{Refusal}
+use Rattle.meaning.specs.declared.refusal.Refusal.the-variants.{BadIndex, MissingArgument, WrongKind, ZeroDivisor, OutOfRange}
+use Rattle.meaning.specs.declared.refusal.Overflow.the-variants.{ReadList}
+use Rattle.numbers.specs.declared.Quantity.the-variants.{Integer, Decimal}
+use Rattle.numbers.specs.Sign.{opposed}
+use Rattle.numbers.specs.Range.{within}
+use Rattle.numbers.specs.Rounding.{rounded}
+use Rattle.numbers.specs.Arithmetic.{checked, operands, dividedBy, sumOf, differenceOf, integerProduct, integerQuotient, decimalProduct, decimalQuotient, inMillionths}
+use Rattle.scan.specs.Ascii.{ascii}
+use Rattle.arguments.specs.declared.index.Index.{Index}
+use Rattle.arguments.specs.declared.index.Index.the-variants.{Fixed, Variable, Loop}
+use Rattle.arguments.specs.declared.operand.Operand.{Operand}
+use Rattle.arguments.specs.declared.operand.Operand.the-variants.{Number, Text, IntegerVariable, StringVariable, Parameter, Record}
+use Rattle.arguments.specs.declared.argument.Argument.{Argument}
+use Rattle.arguments.specs.declared.argument.Filter.the-variants.{Unfiltered, Absolute, UpperCase}
+use Rattle.lines.specs.declared.command.Operation.{Operation}
+use Rattle.lines.specs.declared.command.Operation.the-variants.{Assign, Multiply, Divide}
+use Rattle.lines.specs.declared.command.Target.{Target}
+use Rattle.lines.specs.declared.command.Target.the-variants.{IntegerTarget, DecimalTarget, StringTarget}
+use Rattle.lines.specs.declared.command.Optional.{Optional}
+use Rattle.lines.specs.declared.command.Optional.the-variants.{Given, Absent}
+use Rattle.lines.specs.declared.command.Comparison.{Comparison}
+use Rattle.lines.specs.declared.command.Comparison.the-variants.{SameString, SameLetters, Equal, Less}
+use Rattle.values.specs.Letters.{upper, alike}
+use Rattle.values.specs.Machine.{Machine, numbered}
+use Rattle.values.specs.Worth.{answered, ranged, absolute, filteredNumber, filteredString, filtered, kindOf}
+use Rattle.values.specs.Meanings.{indexNumber, limited, indexValue, asks, cellMeaning, worthOf, operandMeaning, argumentMeaning}
+use Rattle.values.specs.Fetching.{firstOf, elementQuestion, elementQuestions, asksEach, countValue, asksElements, fetchMeaning}
+use Rattle.commands.specs.declared.table.Table.{Table}
+use Rattle.commands.specs.Settling.{settled, integerFrom, quantityFrom, stringFrom, resultOf, millionthsOf, decimalFrom, integerMeaning}
+use Rattle.commands.specs.Setting.{integerOutcome, decimalOutcome, setNumbered, stored, newFrom, stringNew, setOf, setMeaning}
+use Rattle.commands.specs.Testing.{zeroTest, zeroJudged, textual, ignoring, numbersHold, ofNumbers, ofStrings, isMissing, compared, zeroMeaning, testMeaning}
+use Rattle.commands.specs.Fetching.{recordsMeaning}
+use Rattle.commands.specs.Looping.{loop, Looping, looping, newTable, begun, beginMeaning, exceeds, countedTo, counting, counted, endMeaning}
+use Rattle.commands.specs.Selecting.{datasourceFrom, datasourceMeaning}
+
+-- IV1 is −7, IV2 is 1000, IV3 is 2,000,000,000; FV1 is 0.000001, FV2 is −1; SV1 is "cs", SV2 is empty; R1 has no elements
+abbrev sample : Machine
+sample =
+    record {
+      integers = negsuc 6 ∷ pos 1000 ∷ pos 2000000000 ∷ [];
+      decimals = pos 1 ∷ negsuc 999999 ∷ [];
+      strings = ascii "cs" ∷ [] ∷ [];
+      counter = pos 0;
+      records = [] ∷ [];
+      entries = [];
+      datasource = 1;
+      page = 1;
+      row = 1;
+    }
+
+-- every cell is missing
+abbrev source : Question → Answer
+source q = A.missing
+
+abbrev plain : Operand → Argument
+plain o = record { operand = o; filter = Unfiltered }
+
+abbrev whole : ℤ → Argument
+whole z = plain (Number (Integer z))
+
+abbrev millionths : ℤ → Argument
+millionths z = plain (Number (Decimal z))
+
+-- how a command on line 7 ends, with some places on the read list
+abbrev sets : Operation → Target → Argument → End Refusal ℕ Machine
+sets o t a = run source 5 0 (setMeaning sample (ascii "") 7 o t a) .end
+
+-- the value that a variable has then, 0 where the run is over
+abbrev valueIn : (Machine → List ℤ) → ℕ → End Refusal ℕ Machine → ℤ
+valueIn f n (finished m) = numbered (pos 0) (f m) n
+valueIn f n (halted c l) = pos 0
+
+abbrev integersOf : Machine → List ℤ
+integersOf m = m .integers
+
+abbrev decimalsOf : Machine → List ℤ
+decimalsOf m = m .decimals
+
+-- SVn then, of the line `"cs-137" "0123456789abcdefg"`
+abbrev words : Argument → ℕ → End Refusal ℕ Machine
+words a n = run source 5 0 (setMeaning sample (ascii "\"cs-137\" \"0123456789abcdefg\"") 7 Assign (StringTarget n) a) .end
+
+abbrev wordIn : ℕ → End Refusal ℕ Machine → List ℕ
+wordIn n (finished m) = numbered [] (m .strings) n
+wordIn n (halted c l) = []
+
+-- the run of a test of the line `"cs-137" "CS" "" "Cs"`
+abbrev tests : ℕ → Comparison → Argument → Argument → Run Question Refusal ℕ Bool
+tests places c a b = run source places 0 (testMeaning sample (ascii "\"cs-137\" \"CS\" \"\" \"Cs\"") 7 c a b)
+
+abbrev long : Argument
+long = plain (Text 1 7)
+
+abbrev short : Argument
+short = plain (Text 10 12)
+
+abbrev empty : Argument
+empty = plain (Text 15 15)
+
+-- a table whose first line is line 2, at byte 10
+abbrev table : ℕ → ℕ → Table
+table n c = countedTo (newTable n 10 2) c
+
+-- how $BT ends where no table is open, and $ET in a table of 5 whose counter is 3
+abbrev begins : Argument → End Refusal ℕ Looping
+begins a = run source 5 0 (beginMeaning sample (ascii "") 7 [] 10 2 a) .end
+
+abbrev ends : Optional → End Refusal ℕ Looping
+ends k = run source 5 0 (endMeaning sample (ascii "") 7 (table 5 3 ∷ []) k) .end
+
+-- the run of `$REC 1 P9 record 0 count`, with two places on the read list
+abbrev fetches : Index → Index → Run Question Refusal ℕ Machine
+fetches r n = run source 2 0 (recordsMeaning sample 7 (record { number = 1; parameter = 9; first = r; second = Fixed 0; count = n }))
+
+-- how $SETDS ends
+abbrev selects : Index → End Refusal ℕ ℕ
+selects i = run source 0 0 (datasourceMeaning sample 7 i) .end
+
+abbrev Rows : Type 0
+Rows =
+    -- document 01: 0.000001 × 0.5 = 0.000001; −1 ÷ 3 in FV = −0.333333; IV −7 ÷ 2 = −3; 2,000,000,000 × 2: 13
+    (valueIn decimalsOf 1 (sets Multiply (DecimalTarget 1) (millionths (pos 500000))) ≡ pos 1)
+    × (valueIn decimalsOf 2 (sets Divide (DecimalTarget 2) (whole (pos 3))) ≡ negsuc 333332)
+    × (valueIn integersOf 1 (sets Divide (IntegerTarget 1) (whole (pos 2))) ≡ negsuc 2)
+    × (sets Multiply (IntegerTarget 3) (whole (pos 2)) ≡ halted (refused OutOfRange) 7)
+    -- document 01: "" equals "Cs"; "cs-137", "CS" equal under SI, not SS
+    × (tests 0 SameString empty (plain (Text 18 20)) .end ≡ finished true)
+    × (tests 0 SameLetters long short .end ≡ finished true)
+    × (tests 0 SameString long short .end ≡ finished false)
+    -- `$SETE IV1 2.0` is 11, `$SETE FV1 2` is 2; `$SETD IV1 0` is 12; a missing cell is 10
+    × (sets Assign (IntegerTarget 1) (millionths (pos 2000000)) ≡ halted (refused WrongKind) 7)
+    × (valueIn decimalsOf 1 (sets Assign (DecimalTarget 1) (whole (pos 2))) ≡ pos 2000000)
+    × (sets Divide (IntegerTarget 1) (whole (pos 0)) ≡ halted (refused ZeroDivisor) 7)
+    × (sets Assign (IntegerTarget 1) (plain (Parameter 9)) ≡ halted (refused MissingArgument) 7)
+    -- `$IFEQSS "cs-137"|ABS P9` with P9 missing is 10; with no place, 9; `$IFEQ P9 P9.IV2` is 8 with one question asked
+    × (tests 5 SameString (record { operand = Text 1 7; filter = Absolute }) (plain (Parameter 9)) .end ≡ halted (refused MissingArgument) 7)
+    × (tests 0 SameString (record { operand = Text 1 7; filter = Absolute }) (plain (Parameter 9)) .end ≡ halted (cut ReadList) 7)
+    × (tests 5 Equal (plain (Parameter 9)) (plain (Record 9 (Variable 2))) .end ≡ halted (refused BadIndex) 7)
+    -- 2 and 2.0 are equal; a string is no number
+    × (tests 0 Equal (whole (pos 2)) (millionths (pos 2000000)) .end ≡ finished true)
+    × (tests 0 Less (whole (pos 2)) short .end ≡ halted (refused WrongKind) 7)
+    -- SV takes a string, of at most 16 bytes, from itself too; a number is 11
+    × (wordIn 2 (words (plain (Text 1 7)) 2) ≡ ascii "cs-137")
+    × (wordIn 1 (words (plain (Text 10 27)) 1) ≡ ascii "0123456789abcdef")
+    × (wordIn 1 (words (record { operand = StringVariable 1; filter = UpperCase }) 1) ≡ ascii "CS")
+    × (words (whole (pos 5)) 1 ≡ halted (refused WrongKind) 7)
+    × (words (plain (Parameter 9)) 1 ≡ halted (refused MissingArgument) 7)
+    -- document 01: $BT 5, $ET 2: three passes; $BT 0: none
+    × (begins (whole (pos 5)) ≡ finished (looping (table 5 1 ∷ []) false))
+    × (counted (table 5 1 ∷ []) (pos 2) ≡ settled (looping (table 5 3 ∷ []) true))
+    × (ends (Given (whole (pos 2))) ≡ finished (looping (table 5 5 ∷ []) true))
+    × (counted (table 5 5 ∷ []) (pos 2) ≡ settled (looping [] false))
+    × (begins (whole (pos 0)) ≡ finished (looping [] true))
+    -- `$BT IV1` with −7: none; `$BT 1` opens; `$BT 1.0` is 11; `$ET` adds 1; `$ET 0` is 13; `$ET P9` with P9 missing is 10
+    × (begins (plain (IntegerVariable 1)) ≡ finished (looping [] true))
+    × (begins (whole (pos 1)) ≡ finished (looping (table 1 1 ∷ []) false))
+    × (begins (millionths (pos 1000000)) ≡ halted (refused WrongKind) 7)
+    × (ends Absent ≡ finished (looping (table 5 4 ∷ []) true))
+    × (ends (Given (whole (pos 0))) ≡ halted (refused OutOfRange) 7)
+    × (ends (Given (plain (Parameter 9))) ≡ halted (refused MissingArgument) 7)
+    -- a counter past 2,000,000,000 ends its table, one of 2,000,000,000 doesn't; LOOP outside is 0
+    × (counted (table 2000000000 1999999999 ∷ []) (pos 1) ≡ settled (looping (table 2000000000 2000000000 ∷ []) true))
+    × (counted (table 2000000000 2000000000 ∷ []) (pos 1) ≡ settled (looping [] false))
+    × (loop [] ≡ 0)
+    × (loop (table 5 3 ∷ table 9 1 ∷ []) ≡ 3)
+    -- $REC: record 999 is the last; past it, and a count of 65, are 8 before any question; a third place is missing: 9, two asked
+    × (length (fetches (Fixed 999) (Fixed 1) .asked) ≡ 1)
+    × (fetches (Fixed 999) (Fixed 2) ≡ record { end = halted (refused BadIndex) 7; asked = []; events = [] })
+    × (fetches (Fixed 0) (Fixed 65) ≡ record { end = halted (refused BadIndex) 7; asked = []; events = [] })
+    × (length (fetches (Fixed 1) (Fixed 3) .asked) ≡ 2)
+    × (fetches (Fixed 1) (Fixed 3) .end ≡ halted (cut ReadList) 7)
+    -- `$SETDS` takes 1 to 35
+    × (selects (Fixed 0) ≡ halted (refused BadIndex) 7)
+    × (selects (Fixed 1) ≡ finished 1)
+    × (selects (Fixed 35) ≡ finished 35)
+    × (selects (Fixed 36) ≡ halted (refused BadIndex) 7)
+    × (selects (Variable 1) ≡ halted (refused BadIndex) 7)
+    × (selects Loop ≡ halted (refused BadIndex) 7)
+
+pub rows : Rows
+unfolding run opposed within rounded checked operands dividedBy sumOf differenceOf integerProduct integerQuotient decimalProduct decimalQuotient inMillionths upper alike numbered answered ranged absolute filteredNumber filteredString filtered kindOf indexNumber limited indexValue asks cellMeaning worthOf operandMeaning argumentMeaning firstOf elementQuestion elementQuestions asksEach countValue asksElements fetchMeaning integerFrom quantityFrom stringFrom resultOf millionthsOf decimalFrom integerMeaning integerOutcome decimalOutcome setNumbered stored newFrom stringNew setOf setMeaning zeroTest zeroJudged textual ignoring numbersHold ofNumbers ofStrings isMissing compared zeroMeaning testMeaning recordsMeaning loop begun beginMeaning exceeds counting counted endMeaning datasourceFrom datasourceMeaning
+rows =
+    (refl, refl, refl, refl, refl, refl, refl, refl, refl, refl, refl, refl, refl, refl, refl, refl, refl, refl, refl, refl, refl, refl, refl, refl, refl, refl, refl, refl, refl, refl, refl, refl, refl, refl, refl, refl, refl, refl, refl, refl, refl, refl, refl, refl, refl, refl, refl)

@@ -1,0 +1,37 @@
+// $SETDS.
+use arguments::index::Index;
+use meaning::end::Ended;
+use meaning::end::Halt;
+use meaning::refusal::Refusal;
+use values::scene;
+use values::scene::Scene;
+ghost use Rattle.commands.specs.Selecting.{Selects};
+
+// How the line ended, and the selected datasource.
+pub struct Selected {
+    pub end: Ended,
+    pub datasource: u32,
+}
+
+// 8: "a $SETDS number outside 1–35"
+pub fn select(i: Index, scene: Scene, integers: &[i64]) -> Selected
+    ensures { λ r. ⌜ Selects (now (integers .entry)) scene i r ⌝ }
+{
+    let n = scene::index_place(i, scene.turn, integers);
+    if n < 1 {
+        return Selected {
+            end: Ended::Halted(Halt::Refused(Refusal::BadIndex), scene.number),
+            datasource: scene.datasource,
+        };
+    }
+    if 35 < n {
+        return Selected {
+            end: Ended::Halted(Halt::Refused(Refusal::BadIndex), scene.number),
+            datasource: scene.datasource,
+        };
+    }
+    Selected {
+        end: Ended::Finished,
+        datasource: n,
+    }
+}

@@ -1,0 +1,63 @@
+use Rattle.pages.proofs.Turning.{highest-here, highest-below, highest-none}
+use Rattle.pages.specs.Heading.{headingsOf}
+use Rattle.pages.specs.Page.{highestOf}
+use native.Mathlib.Omega.{arith}
+use Prim.Native.Nat.{_≤_}
+use mathlib.Core.Path.{_≡_, refl, sym, _∙_}
+use borrow.Author.Needs.{needs}
+use Rattle.pages.proofs.step.highest.Statement.{statement}
+use Rattle.pages.proofs.step.highest.Tie as tie
+use Rattle.pages.proofs.step.highest.Reads as reads
+use Rattle.pages.proofs.step.highest.Lts as lts
+use Rattle.pages.proofs.heading.heading_at.Reads as heading-at-reads
+
+abbrev Inv-loop : tie.InvT-loop
+Inv-loop headings k₀ k = (highestOf (headingsOf headings) 9 ≡ highestOf (headingsOf headings) k) × (k ≤ 9)
+
+abbrev μ-loop : tie.MeasureT-loop
+μ-loop headings k₀ k = k
+
+loop-holds : tie.Need-loop-holds Inv-loop μ-loop
+loop-holds c = (refl, omega arith)
+
+sub-heading-at : tie.Need-sub-heading-at Inv-loop μ-loop
+sub-heading-at c = search needs
+
+heading-at-requires : tie.Need-heading-at-requires Inv-loop μ-loop
+heading-at-requires c κs = search needs
+
+returns : tie.Need-returns Inv-loop μ-loop
+returns c =
+    let l = c .before .before .before .before .loop .inv in
+    let e = c .before .before .heading-at .ensures in
+    (sym (l .0 ∙ highest-here (headingsOf (c .before .before .before .before .before .before .args .headings .now)) _ (c .before .before .before .loop-test .taken) (rw e at (c .if1 .taken))), l .1)
+
+sub-k : tie.Need-sub-k Inv-loop μ-loop
+sub-k c = search needs
+
+loop-less : tie.Need-loop-less Inv-loop μ-loop
+loop-less c = search needs
+
+loop-again : tie.Need-loop-again Inv-loop μ-loop
+loop-again c =
+    let l = c .before .before .before .before .loop .inv in
+    let e = c .before .before .heading-at .ensures in
+    (l .0 ∙ highest-below (headingsOf (c .before .before .before .before .before .before .args .headings .now)) _ (c .before .before .before .loop-test .taken) (rw e at (c .if1 .left)), omega arith)
+
+returns-2 : tie.Need-returns-2 Inv-loop μ-loop
+returns-2 c = let l = c .before .loop .inv in (sym (l .0 ∙ highest-none _ _ (c .loop-test .left)), omega arith)
+
+pub highest-spec : {M : Type 1} → statement M
+highest-spec =
+    tie.close
+    (tie.spec
+    Inv-loop
+    μ-loop
+    loop-holds
+    sub-heading-at
+    heading-at-requires
+    returns
+    sub-k
+    loop-less
+    loop-again
+    returns-2)

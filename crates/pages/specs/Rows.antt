@@ -1,0 +1,57 @@
+-- Rows of document 01 and cases at the limits, each computed from the definitions. Assumes nothing.
+use mathlib.Core.Path.{_≡_, refl}
+use mathlib.Core.Bool.{true}
+use mathlib.Core.List.{List, [], _∷_}
+use Prim.Native.Nat.{ℕ}
+use lib.IntN.{pos}
+use lib.ListN.{length, replicate}
+use Rattle.meaning.specs.Answer as A
+use Rattle.meaning.specs.Answer.{Answer}
+use Rattle.meaning.specs.Event.{pageFrom, laterPages, pages}
+use Rattle.meaning.specs.Tree.{Run, run, halted, cut}
+use Rattle.meaning.specs.declared.question.Question.{Question}
+use Rattle.meaning.specs.declared.refusal.Refusal.{Refusal}
+use Rattle.meaning.specs.declared.refusal.Overflow.the-variants.{Output}
+use Rattle.scan.specs.Ascii.{ascii}
+use Rattle.texts.specs.Text.{piecesWithin, textPieces}
+use Rattle.values.specs.Machine.{Machine}
+use Rattle.pages.specs.declared.page.Page.{Page}
+use Rattle.pages.specs.declared.heading.Heading.{Heading}
+use Rattle.pages.specs.Heading.{noHeading}
+use Rattle.pages.specs.Text.{read, piecesOf, textMeaning}
+use Rattle.pages.specs.Page.{newPage, sayMeaning, headLine, headFrom, headNumber, headMeaning, highestOf, breakMeaning, turnMeaning, topMeaning, lineStep, linesMeaning}
+
+abbrev sample : Machine
+sample = record { integers = []; decimals = []; strings = []; counter = pos 0; records = []; entries = []; datasource = 1; page = 1; row = 1 }
+
+abbrev none : List Heading
+none = replicate 9 noHeading
+
+-- heading 2 is defined blank on line 4, heading 1 is not
+abbrev second : List Heading
+second = noHeading ∷ record { start = 0; length = 5; from = 5; number = 4 } ∷ replicate 7 noHeading
+
+abbrev source : Question → Answer
+source q = A.missing
+
+-- so many blank text lines, on line 7, in so many bytes of room
+abbrev ran : List Heading → ℕ → ℕ → Run Question Refusal ℕ Page
+ran hs n room = run source 0 room (linesMeaning (ascii "$PH2 ") (replicate n (record { machine = sample; number = 7; feeds = true; headings = hs; bytes = [] })) newPage)
+
+abbrev Rows : Type 0
+Rows =
+    -- document 01: 60 lines without heading: one page; 61: two
+    (length (pages (ran none 60 1000 .events)) ≡ 1)
+    × (length (pages (ran none 61 1000 .events)) ≡ 2)
+    -- headings 1 and 2, then a blank line: 57 lines are left on the page
+    × (length (pages (ran second 57 1000 .events)) ≡ 1)
+    × (length (pages (ran second 58 1000 .events)) ≡ 2)
+    -- an undefined heading's refusal names the text line due, a defined one's its $PH line, the closing blank line's the text line
+    × (ran second 1 0 .end ≡ halted (cut Output) 7)
+    × (ran second 1 1 .end ≡ halted (cut Output) 4)
+    × (ran second 1 2 .end ≡ halted (cut Output) 7)
+
+-- The rows hold.
+pub rows : Rows
+unfolding run pageFrom laterPages pages piecesWithin textPieces read piecesOf textMeaning sayMeaning headLine headFrom headNumber headMeaning highestOf breakMeaning turnMeaning topMeaning lineStep
+rows = (refl, refl, refl, refl, refl, refl, refl)

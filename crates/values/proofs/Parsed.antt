@@ -1,0 +1,121 @@
+-- An argument that was parsed has a parameter within its limits: what `argument_value` requires of it.
+use mathlib.Core.Path.{_≡_, refl, subst}
+use mathlib.Core.Bool.{Bool, true, false, cond}
+use mathlib.Core.List.{List, [], _∷_}
+use Prim.Native.Nat.{ℕ, _+_, _≤_}
+use native.Mathlib.Omega.{arith}
+use borrow.Author.Tests.{leb-true}
+use lib.Dec.{leb, eqb}
+use lib.ListN.{length}
+use Rattle.meaning.specs.Each.{Each}
+use Rattle.scan.specs.declared.digits.Numeral.{Numeral}
+use Rattle.scan.specs.declared.digits.Numeral.the-variants.{Value, NoNumeral}
+use Rattle.scan.specs.Line.{byteIs}
+use Rattle.scan.specs.Digits.{digitsAt, numberAt}
+use Rattle.scan.specs.Words.{Spelled, standsAt, firstOf}
+use Rattle.arguments.specs.declared.index.Index.{Index}
+use Rattle.arguments.specs.declared.index.IndexRead.{IndexRead}
+use Rattle.arguments.specs.declared.index.IndexRead.the-variants.{IndexTo, NoIndex}
+use Rattle.arguments.specs.declared.literal.LiteralRead.{LiteralRead}
+use Rattle.arguments.specs.declared.literal.LiteralRead.the-variants.{LiteralTo, NoLiteral}
+use Rattle.arguments.specs.declared.operand.Operand.{Operand}
+use Rattle.arguments.specs.declared.operand.Operand.the-variants.{IntegerVariable, DecimalVariable, StringVariable, RecordElement, EntryElement}
+use Rattle.arguments.specs.declared.operand.OperandRead.{OperandRead}
+use Rattle.arguments.specs.declared.operand.OperandRead.the-variants.{OperandTo, NoOperand}
+use Rattle.arguments.specs.declared.argument.Filter.{Filter}
+use Rattle.arguments.specs.declared.argument.Filter.the-variants.{Absolute, Truncated, UpperCase, Length, RecordCount, EntryCount}
+use Rattle.arguments.specs.declared.argument.Argument.{Argument}
+use Rattle.arguments.specs.declared.argument.ArgumentRead.{ArgumentRead}
+use Rattle.arguments.specs.declared.argument.ArgumentRead.the-variants.{ArgumentTo, NoArgument}
+use Rattle.arguments.specs.Literal.{literalAt}
+use Rattle.arguments.specs.Index.{indexAt}
+use Rattle.arguments.specs.Operand.{stringEnd, stringAt, entryOf, recordOf, cellOf, cellAt, wholeAt, numberedOf, numberedAt, names, namedAt, numberOr, operandAt}
+use Rattle.arguments.specs.Argument.{countOf, admits, filteredAt, filters, argumentOf, argumentAt}
+use Rattle.values.specs.Yielding.{parameterOf}
+
+-- what was read, if anything, is within the limits
+abbrev pub Most : ℕ → Numeral → Type 0
+Most limit (Value n next) = n ≤ limit
+Most limit NoNumeral = Unit {0}
+
+abbrev Fine : OperandRead → Type 0
+Fine (OperandTo o next) = parameterOf o ≤ 65535
+Fine NoOperand = Unit {0}
+
+abbrev Good : ArgumentRead → Type 0
+Good (ArgumentTo a next) = parameterOf (a .operand) ≤ 65535
+Good NoArgument = Unit {0}
+
+either : {A : Type 0} (P : A → Type 0) (t : Bool) {a b : A} → P a → P b → P (cond t a b)
+either P true x y = x
+either P false x y = y
+
+first : {A : Type 0} (P : A → Type 0) (none : A) (es : List (Spelled A)) (l : List ℕ) (at : ℕ) → P none → Each (λ (e : Spelled A). (k : ℕ) → P (e .form l k)) es → P (firstOf none es l at)
+unfolding firstOf
+first P none [] l at x h = x
+first P none (e ∷ es) l at x h = either P (standsAt (e .word) l at) (h .0 (at + length (e .word))) (first P none es l at x (h .1))
+
+pub number-most : (l : List ℕ) (at limit : ℕ) → Most limit (numberAt l at limit)
+unfolding numberAt
+number-most l at limit = either (Most limit) (byteIs l at "0") tt (either (Most limit) (eqb (digitsAt l at 5 .count) 0) tt (go (leb (digitsAt l at 5 .value) limit) refl))
+  where
+    go : (t : Bool) → leb (digitsAt l at 5 .value) limit ≡ t → Most limit (cond t (Value (digitsAt l at 5 .value) (at + digitsAt l at 5 .count)) NoNumeral)
+    go true e = leb-true (digitsAt l at 5 .value) limit e
+    go false e = tt
+
+-- ---- cells
+
+entry-fine : (n : ℕ) (r : Index) (x : IndexRead) → n ≤ 65535 → Fine (entryOf n r x)
+unfolding entryOf parameterOf
+entry-fine n r (IndexTo e next) h = h
+entry-fine n r NoIndex h = tt
+
+record-fine : (l : List ℕ) (n : ℕ) (x : IndexRead) → n ≤ 65535 → Fine (recordOf l n x)
+unfolding recordOf parameterOf
+record-fine l n (IndexTo r next) h = either Fine (byteIs l next ".") (entry-fine n r (indexAt l (next + 1)) h) h
+record-fine l n NoIndex h = tt
+
+cell-fine : (l : List ℕ) (x : Numeral) → Most 65535 x → Fine (cellOf l x)
+unfolding cellOf parameterOf
+cell-fine l (Value n next) h = either Fine (byteIs l next ".") (record-fine l n (indexAt l (next + 1)) h) h
+cell-fine l NoNumeral h = tt
+
+-- ---- the other operands
+
+numbered-fine : (form : ℕ → Operand) (x : Numeral) → ((n : ℕ) → parameterOf (form n) ≤ 65535) → Fine (numberedOf form x)
+unfolding numberedOf
+numbered-fine form (Value n next) h = h n
+numbered-fine form NoNumeral h = tt
+
+named-fine : (l : List ℕ) (at : ℕ) → Fine (namedAt l at)
+unfolding namedAt names wholeAt numberedAt cellAt parameterOf
+named-fine l at = first Fine NoOperand names l at tt (λ k. omega arith, (λ k. omega arith, (λ k. omega arith, (λ k. numbered-fine IntegerVariable (numberAt l k 99) (λ n. omega arith), (λ k. numbered-fine DecimalVariable (numberAt l k 99) (λ n. omega arith), (λ k. numbered-fine StringVariable (numberAt l k 99) (λ n. omega arith), (λ k. numbered-fine RecordElement (numberAt l k 10) (λ n. omega arith), (λ k. numbered-fine EntryElement (numberAt l k 10) (λ n. omega arith), (λ k. cell-fine l (numberAt l k 65535) (number-most l k 65535), tt)))))))))
+
+number-fine : (o : OperandRead) (x : LiteralRead) → Fine o → Fine (numberOr o x)
+unfolding numberOr parameterOf
+number-fine o (LiteralTo q next) h = omega arith
+number-fine o NoLiteral h = h
+
+string-fine : (l : List ℕ) (at : ℕ) → Fine (stringAt l at)
+unfolding stringAt parameterOf
+string-fine l at = either Fine (byteIs l (stringEnd l at) "\"") (omega arith) tt
+
+operand-fine : (l : List ℕ) (at : ℕ) → Fine (operandAt l at)
+unfolding operandAt
+operand-fine l at = either Fine (byteIs l at "\"") (string-fine l (at + 1)) (number-fine (namedAt l at) (literalAt l at) (named-fine l at))
+
+-- ---- filters
+
+filtered-good : (o : Operand) (f : Filter) (l : List ℕ) (k : ℕ) → parameterOf o ≤ 65535 → Good (filteredAt o f l k)
+unfolding filteredAt
+filtered-good o f l k h = either Good (admits f (countOf o)) h tt
+
+argument-good : (l : List ℕ) (x : OperandRead) → Fine x → Good (argumentOf l x)
+unfolding argumentOf filters
+argument-good l NoOperand h = tt
+argument-good l (OperandTo o next) h = either Good (byteIs l next "|") (first Good NoArgument (filters o) l (next + 1) tt (λ k. filtered-good o Absolute l k h, (λ k. filtered-good o Truncated l k h, (λ k. filtered-good o UpperCase l k h, (λ k. filtered-good o Length l k h, (λ k. filtered-good o RecordCount l k h, (λ k. filtered-good o EntryCount l k h, tt))))))) h
+
+-- "a cell Pn .. n 1–65,535"
+pub parsed-parameter : (l : List ℕ) (at : ℕ) (a : Argument) (next : ℕ) → argumentAt l at ≡ ArgumentTo a next → parameterOf (a .operand) ≤ 65535
+unfolding argumentAt
+parsed-parameter l at a next e = subst Good e (argument-good l (operandAt l at) (operand-fine l at))
