@@ -50,7 +50,7 @@ begun ts start next n = cond (ltZ n (pos 1)) (looping ts true) (looping (newTabl
 unfoldable pub beginMeaning : Machine → List ℕ → ℕ → List Table → ℕ → ℕ → Argument → Meaning Looping
 beginMeaning m s line ts start next a = bind (integerMeaning m s line a) (λ n. done (begun ts start next n))
 
--- The innermost table. Check 4 has seen to it that one is open where a $ET is executed: a law of the report's crate says so.
+-- The innermost table. Check 4 has seen to it that one is open where a $ET stands (template/proofs/Opening:behind-end-table).
 abbrev pub noTable : Table
 noTable = record { counter = 0; last = 0; start = 0; line = 0 }
 

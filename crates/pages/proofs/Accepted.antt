@@ -33,7 +33,6 @@ use Rattle.lines.specs.declared.command.Target.{Target}
 use Rattle.lines.specs.declared.set.TargetRead.{TargetRead}
 use Rattle.lines.specs.declared.set.TargetRead.the-variants.{TargetIs, NoTarget}
 use Rattle.lines.specs.declared.command.Fetch.{Fetch}
-use Rattle.lines.specs.declared.fetch.FetchRead.{FetchRead}
 use Rattle.lines.specs.declared.fetch.FetchRead.the-variants.{FetchTo, NoFetch}
 use Rattle.lines.specs.declared.command.Optional.{Optional}
 use Rattle.lines.specs.declared.command.Optional.the-variants.{Given, Absent}

@@ -1,27 +1,16 @@
 -- No page holds more than 60 lines, whatever the store answers.
-use mathlib.Core.Path.{_≡_, refl, sym, ap, subst}
+use mathlib.Core.Path.{_≡_, refl, ap}
 use mathlib.Core.Bool.{Bool, true, false, cond}
 use mathlib.Core.List.{List, [], _∷_}
 use Prim.Native.Nat.{ℕ, suc, _+_, _≤_, _<_}
 use native.Mathlib.Omega.{arith}
 use borrow.Author.Tests.{ltb-false, eqb-true}
-use lib.Dec.{ltb, leb, eqb}
-use lib.IntN.{ℤ, pos, negsuc}
+use lib.Dec.{ltb, eqb}
 use lib.ListN.{length, take, length-take}
-use Rattle.meaning.specs.Answer.{Answer}
-use Rattle.meaning.specs.Each.{Each}
-use Rattle.meaning.specs.Event.{line, pages}
-use Rattle.meaning.specs.Tree.{done, stop, bind, run}
-use Rattle.meaning.specs.Meaning.{Meaning}
-use Rattle.meaning.specs.Rule.{Keeps, AtEnd, after, pageLimit}
-use Rattle.meaning.specs.declared.question.Question.{Question}
-use Rattle.meaning.specs.declared.refusal.Refusal.the-variants.{BadIndex}
-use Rattle.meaning.proofs.Keeping.{keeps-bind, keeps-more, keeps-end, keeps-pages}
-use Rattle.arguments.specs.declared.index.Index.{Index}
-use Rattle.arguments.specs.declared.index.Index.the-variants.{Fixed}
-use Rattle.arguments.specs.declared.argument.Argument.{Argument}
-use Rattle.arguments.specs.declared.operand.Operand.{Operand}
-use Rattle.arguments.specs.declared.operand.Operand.the-variants.{Number, Text, IntegerVariable, DecimalVariable, StringVariable, PageNumber, LineNumber, LoopCounter, RecordElement, EntryElement, Parameter, Record, Entry}
+use Rattle.meaning.specs.Event.{line}
+use Rattle.meaning.specs.Tree.{done, bind}
+use Rattle.meaning.specs.Rule.{Keeps, pageLimit}
+use Rattle.meaning.proofs.Keeping.{keeps-bind, keeps-more}
 use Rattle.texts.specs.declared.text.Piece.{Piece}
 use Rattle.texts.specs.declared.text.Piece.the-variants.{Plain, Placed}
 use Rattle.values.specs.Machine.{Machine}

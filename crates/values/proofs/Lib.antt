@@ -10,4 +10,5 @@ pub mod Arguments
 pub mod Fetches
 pub mod Keeping
 pub mod Parsed
+pub mod Giving
 pub mod Still

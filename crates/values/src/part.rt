@@ -6,7 +6,7 @@ ghost use Prim.Native.Nat.{_≤_};
 ghost use lib.ListN.{length, take, drop};
 ghost use Rattle.values.specs.Letters as L;
 ghost use Rattle.values.specs.Letters.{equalStrings};
-ghost use Rattle.values.specs.State.{strings, sourceBytes, cased, textOf};
+ghost use Rattle.values.specs.State.{cased, textOf};
 ghost use Rattle.values.specs.State as S;
 ghost use Rattle.values.specs.Yielding.{Sized};
 

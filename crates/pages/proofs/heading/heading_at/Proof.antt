@@ -3,9 +3,6 @@ use mathlib.Core.Path.{sym, _∙_}
 use borrow.Author.Needs.{needs}
 use Rattle.pages.proofs.heading.heading_at.Statement.{statement}
 use Rattle.pages.proofs.heading.heading_at.Tie as tie
-use Rattle.pages.proofs.heading.heading_at.Reads as reads
-use Rattle.pages.proofs.heading.heading_at.Lts as lts
-use Rattle.pages.proofs.heading.unpacked.Reads as unpacked-reads
 
 mul-unpacked : tie.Need-mul-unpacked
 mul-unpacked c = search needs

@@ -3,9 +3,6 @@ use Rattle.pages.proofs.Heads.{read-back}
 use borrow.Author.Needs.{needs}
 use Rattle.pages.proofs.heading.packed.Statement.{statement}
 use Rattle.pages.proofs.heading.packed.Tie as tie
-use Rattle.pages.proofs.heading.packed.Reads as reads
-use Rattle.pages.proofs.heading.packed.Lts as lts
-use Rattle.pages.proofs.heading.wide.Reads as wide-reads
 
 wide-requires : tie.Need-wide-requires
 wide-requires c κs = search needs

@@ -3,8 +3,6 @@ use mathlib.Core.Path.{refl}
 use borrow.Author.Needs.{needs}
 use Rattle.pages.proofs.heading.unpacked.Statement.{statement}
 use Rattle.pages.proofs.heading.unpacked.Tie as tie
-use Rattle.pages.proofs.heading.unpacked.Reads as reads
-use Rattle.pages.proofs.heading.unpacked.Lts as lts
 
 cast-t11 : tie.Need-cast-t11
 cast-t11 c = search needs

@@ -2,9 +2,6 @@ use Rattle.pages.proofs.Turning.{break-quiet, break-feeds, break-full}
 use borrow.Author.Needs.{needs}
 use Rattle.pages.proofs.page.break_page.Statement.{statement}
 use Rattle.pages.proofs.page.break_page.Tie as tie
-use Rattle.pages.proofs.page.break_page.Reads as reads
-use Rattle.pages.proofs.page.break_page.Lts as lts
-use Rattle.pages.proofs.page.Page.broken.Reads as broken-reads
 
 slice-write-text : tie.Need-slice-write-text
 slice-write-text c = search needs

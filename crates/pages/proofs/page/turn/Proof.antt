@@ -2,9 +2,6 @@ use Rattle.pages.proofs.Turning.{turn-not, turn-breaks}
 use borrow.Author.Needs.{needs}
 use Rattle.pages.proofs.page.turn.Statement.{statement}
 use Rattle.pages.proofs.page.turn.Tie as tie
-use Rattle.pages.proofs.page.turn.Reads as reads
-use Rattle.pages.proofs.page.turn.Lts as lts
-use Rattle.pages.proofs.page.break_page.Reads as break-page-reads
 
 returns : tie.Need-returns
 returns c = turn-not _ _ _ _ _ (c .before .before .before .pre) (c .if1 .taken)

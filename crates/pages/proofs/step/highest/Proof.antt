@@ -7,9 +7,6 @@ use mathlib.Core.Path.{_≡_, refl, sym, _∙_}
 use borrow.Author.Needs.{needs}
 use Rattle.pages.proofs.step.highest.Statement.{statement}
 use Rattle.pages.proofs.step.highest.Tie as tie
-use Rattle.pages.proofs.step.highest.Reads as reads
-use Rattle.pages.proofs.step.highest.Lts as lts
-use Rattle.pages.proofs.heading.heading_at.Reads as heading-at-reads
 
 abbrev Inv-loop : tie.InvT-loop
 Inv-loop headings k₀ k = (highestOf (headingsOf headings) 9 ≡ highestOf (headingsOf headings) k) × (k ≤ 9)
