@@ -3,3 +3,4 @@ pub mod ScaleLaws
 pub mod NameLaws
 pub mod FilterLaws
 pub mod OnwardLaws
+pub mod Parsed

@@ -21,7 +21,8 @@ use Rattle.lines.specs.declared.command.Optional.{Optional}
 use Rattle.lines.specs.declared.command.Optional.the-variants.{Given, Absent}
 use Rattle.values.specs.declared.scene.Scene.{Scene}
 use Rattle.values.specs.State.{machine}
-use Rattle.values.specs.Yielding.{parameterOf, Askable}
+use Rattle.arguments.specs.Parameter.{parameterOf}
+use Rattle.values.specs.Yielding.{Askable}
 use Rattle.commands.specs.declared.table.Table.{Table}
 use Rattle.commands.specs.declared.table.Tables.{Tables}
 use Rattle.commands.specs.declared.table.Looped.{Looped}

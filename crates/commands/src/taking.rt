@@ -7,7 +7,8 @@ use meaning::end::Halt;
 use values::scene::Scene;
 use values::value;
 ghost use mathlib.Core.Path.{_≡_};
-ghost use Rattle.values.specs.Yielding.{Askable, Sized, parameterOf};
+ghost use Rattle.arguments.specs.Parameter.{parameterOf};
+ghost use Rattle.values.specs.Yielding.{Askable, Sized};
 ghost use Rattle.commands.specs.Contracts.{takenOf, Concludes, TakesIntegerValue};
 
 // How an argument ended, its integer, and how many questions have been asked now.

@@ -16,7 +16,8 @@ use values::worth::Worth;
 ghost use mathlib.Core.Path.{_≡_};
 ghost use Prim.Native.Nat.{_+_};
 ghost use Rattle.values.specs.State.{meant, strings as stringsOf};
-ghost use Rattle.values.specs.Yielding.{Askable, Sized, parameterOf};
+ghost use Rattle.arguments.specs.Parameter.{parameterOf};
+ghost use Rattle.values.specs.Yielding.{Askable, Sized};
 ghost use Rattle.commands.specs.Testing as T;
 ghost use Rattle.commands.specs.Contracts.{judgedOf, Lacks, JudgesNumbers, JudgesZero, Concludes, TestsZero, Tests};
 

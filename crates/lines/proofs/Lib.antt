@@ -2,3 +2,4 @@ pub mod EndLaws
 pub mod DispatchLaws
 pub mod Makes
 pub mod SectionLaws
+pub mod Accepted

@@ -121,28 +121,28 @@ before-section =
     besides compare _
     besides compare _
     besides compare _
-    besides single-makes Other lacking IfZero (λ a. other tt)
-    besides single-makes Other lacking IfNonZero (λ a. other tt)
-    besides single-makes Other lacking BeginTable (λ a. other tt)
+    besides single-makes Other lacking IfZero (λ a k. other tt)
+    besides single-makes Other lacking IfNonZero (λ a k. other tt)
+    besides single-makes Other lacking BeginTable (λ a k. other tt)
     besides bare-makes Other lacking Else (other tt)
     besides bare-makes Other lacking EndIf (other tt)
     besides bare-makes Other lacking NoFormFeed (other tt)
-    besides optional-makes Other lacking EndTable (λ k. other tt)
-    besides optional-makes Other lacking NewPage (λ k. other tt)
-    besides fetch-makes Other lacking Records (λ f. other tt)
-    besides fetch-makes Other lacking Entries (λ f. other tt)
+    besides optional-makes Other lacking EndTable (λ k h. other tt)
+    besides optional-makes Other lacking NewPage (λ k h. other tt)
+    besides fetch-makes Other lacking Records (λ f h. other tt)
+    besides fetch-makes Other lacking Entries (λ f h. other tt)
     besides all
   where
     set : (word : Operation) (l : List ℕ) (at : ℕ) → Other (setAt word l at)
-    set word = set-makes Other lacking word (λ t a. other tt)
+    set word = set-makes Other lacking word (λ t a k. other tt)
 
     compare : (word : Comparison) (l : List ℕ) (at : ℕ) → Other (compareAt word l at)
-    compare word = compare-makes Other lacking word (λ a b. other tt)
+    compare word = compare-makes Other lacking word (λ a b j k. other tt)
 
 behind-section : Never (drop 25 commands)
 unfolding commands
 behind-section =
-    heading-makes Other lacking (λ n at. other tt) (λ n. other tt) besides remark-makes Other lacking (other tt) besides all
+    (λ l. heading-makes Other lacking l (λ n at e h. other tt) (λ n. other tt)) besides remark-makes Other lacking (other tt) besides all
 
 -- where no space stands behind the word, no name does
 space-behind : (l : List ℕ) (at a e : ℕ) → sectionAt l at ≡ Section a e → byteIs l at " " ≡ true

@@ -1,11 +1,8 @@
 pub mod Shows
-pub mod Limits
 pub mod Making
 pub mod Telling
 pub mod Heads
 pub mod Turning
 pub mod Stepping
 pub mod Sixty
-pub mod Accepted
-pub mod Few
 pub mod InRange

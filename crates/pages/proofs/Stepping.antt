@@ -24,7 +24,7 @@ use Rattle.pages.specs.declared.page.Page.{Page}
 use Rattle.pages.specs.declared.page.Turned.{Turned}
 use Rattle.pages.specs.declared.heading.Heading.{Heading}
 use Rattle.pages.specs.declared.step.Paged.{Paged}
-use Rattle.pages.specs.Text.{piecesOf, fieldCount}
+use Rattle.texts.specs.Pieces.{piecesOf, fieldCount}
 use Rattle.pages.specs.Pass.{Lent, machineOf, Sourced}
 use Rattle.pages.specs.Heading.{noHeading}
 use Rattle.pages.specs.Page.{sayMeaning, headLine, headFrom, headNumber, headMeaning, headsMeaning, highestOf, topMeaning, lineStep}

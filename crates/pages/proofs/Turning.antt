@@ -26,7 +26,7 @@ use Rattle.pages.specs.declared.page.Page.{Page}
 use Rattle.pages.specs.declared.page.Turned.{Turned}
 use Rattle.pages.specs.declared.heading.Heading.{Heading}
 use Rattle.pages.specs.declared.step.Paged.{Paged}
-use Rattle.pages.specs.Text.{read, piecesOf, fieldCount}
+use Rattle.texts.specs.Pieces.{read, piecesOf, fieldCount}
 use Rattle.pages.specs.Pass.{Lent, Sayable, Tells}
 use Rattle.pages.specs.Page.{brokenOf, advancedOf, sayMeaning, headLine, headFrom, headNumber, highestOf, breakMeaning, turnMeaning}
 use Rattle.pages.specs.Heading.{noHeading}

@@ -16,7 +16,7 @@ use Rattle.pages.specs.declared.page.Page.{Page}
 use Rattle.pages.specs.declared.page.Turned.{Turned}
 use Rattle.pages.specs.declared.heading.Heading.{Heading}
 use Rattle.pages.specs.declared.step.Paged.{Paged}
-use Rattle.pages.specs.Text.{piecesOf, fieldCount}
+use Rattle.texts.specs.Pieces.{piecesOf, fieldCount}
 use Rattle.pages.specs.Pass.{Lent, machineOf, Sourced, Sayable}
 use Rattle.pages.specs.Page.{sayMeaning, headLine, headFrom, headsMeaning, highestOf, breakMeaning, turnMeaning, topMeaning, lineStep}
 

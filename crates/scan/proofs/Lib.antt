@@ -1,4 +1,5 @@
 pub mod RunLaws
 pub mod DigitLaws
-pub mod WordLaws
 pub mod OnwardLaws
+pub mod WordLaws
+pub mod NumberLaws

@@ -15,6 +15,7 @@ use Rattle.scan.specs.Run.{belongs, span}
 use Rattle.scan.specs.Line.{window}
 use Rattle.scan.specs.Words.{begins, standsAt, wordIn, wordFrom, wordAt, Spelled, firstOf, wordOr}
 use Rattle.scan.proofs.RunLaws.{span-end, span-stop, span-more}
+use Rattle.scan.proofs.OnwardLaws.{picked}
 
 pub begins-end : (w s : List ℕ) (j : ℕ) → length w ≤ j → begins (drop j w) s ≡ true
 unfolding begins
@@ -115,3 +116,18 @@ module _ {A : Type 0} (none : A) (table : List ℕ) (act : List ℕ → ℕ → 
   pub by-number : (es : List (Spelled A)) → tabled table act (length table / 8) 0 ≡ es → firstOf none es l at ≡ wordOr none (wordAt table l at) (λ j next. act l next j)
   unfolding wordAt
   by-number es e = rw (← e) (tabled-found (length table / 8) 0)
+
+-- ---- what the words of a table begin
+
+-- P holds of what each word begins in the line
+infixr 5 _besides_
+pub data EachForm {A : Type 0} (P : A → Type 0) (l : List ℕ) : List (Spelled A) → Type 0 where
+  all : EachForm P l []
+  _besides_ : {e : Spelled A} {es : List (Spelled A)} → ((at : ℕ) → P (e .form l at)) → EachForm P l es → EachForm P l (e ∷ es)
+
+-- then it holds of what is found, and of none where it holds of that
+pub found-form : {A : Type 0} (P : A → Type 0) (none : A) (es : List (Spelled A)) (l : List ℕ) (at : ℕ) → P none → EachForm P l es → P (firstOf none es l at)
+unfolding firstOf
+found-form P none [] l at x all = x
+found-form P none (e ∷ es) l at x (h besides hs) =
+    picked P (standsAt (e .word) l at) (h (at + length (e .word))) (found-form P none es l at x hs)

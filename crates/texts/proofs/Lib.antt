@@ -1,2 +1,3 @@
 pub mod PieceLaws
 pub mod TextLaws
+pub mod FieldLaws

@@ -9,6 +9,5 @@ pub mod Operands
 pub mod Arguments
 pub mod Fetches
 pub mod Keeping
-pub mod Parsed
 pub mod Giving
 pub mod Still

@@ -1,0 +1,22 @@
+-- The pieces of an accepted text, and its fields. Assumes nothing.
+use mathlib.Core.List.{List, [], _∷_}
+use mathlib.Core.Option.{Option, none, some}
+use Prim.Native.Nat.{ℕ, _+_}
+use Rattle.texts.specs.declared.text.Piece.{Piece}
+use Rattle.texts.specs.declared.text.Piece.the-variants.{Plain, Placed}
+use Rattle.texts.specs.Text.{textPieces}
+
+-- the pieces of an accepted text, which always has some
+unfoldable pub read : Option (List Piece) → List Piece
+read (some ps) = ps
+read none = []
+
+-- of the line l, whose text starts at `from`
+unfoldable pub piecesOf : List ℕ → ℕ → List Piece
+piecesOf l from = read (textPieces l from)
+
+-- how many fields there are
+abbrev pub fieldCount : List Piece → ℕ
+fieldCount [] = 0
+fieldCount (Plain b ∷ ps) = fieldCount ps
+fieldCount (Placed f ∷ ps) = 1 + fieldCount ps
