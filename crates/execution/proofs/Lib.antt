@@ -1,0 +1,6 @@
+pub mod Places
+pub mod Kept
+pub mod Sounds
+pub mod Following
+pub mod Commanding
+pub mod Lining

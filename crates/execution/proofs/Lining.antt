@@ -1,0 +1,95 @@
+-- The line that is due: split, parsed, and executed in its form.
+use mathlib.Core.Path.{_≡_, refl, sym, ap, _∙_, subst}
+use mathlib.Core.List.{List, [], _∷_, map}
+use Prim.Native.Nat.{ℕ, suc, _+_, _-_, _≤_, _<_}
+use native.Mathlib.Omega.{arith}
+use lib.ListN.{length, take, drop, length-map, length-drop}
+use lib.Seq.{take-all}
+use Rattle.scan.specs.declared.run.Class.the-variants.{InLine}
+use Rattle.scan.specs.Line.{lineOf, lineAt}
+use Rattle.scan.proofs.RunLaws.{length-span}
+use Rattle.nesting.specs.declared.Shape.the-variants.{Table}
+use Rattle.arguments.specs.declared.argument.Argument.{Argument}
+use Rattle.lines.specs.declared.command.Line.{Line}
+use Rattle.lines.specs.declared.command.Line.the-variants.{BeginTable}
+use Rattle.lines.specs.Command.{parseLine}
+use Rattle.template.specs.Form.{shapeIn, shapeOf}
+use Rattle.template.proofs.Opening.{checks-short, opens-line}
+use Rattle.values.specs.declared.scene.Scene.{Scene}
+use Rattle.values.specs.declared.fetch.Along.the-variants.{Records, Entries}
+use Rattle.values.specs.State.{rowOf, texts, fetched}
+use Rattle.commands.specs.Looping.{openOf}
+use Rattle.commands.proofs.Tabling.{opened-length}
+use Rattle.pages.specs.Heading.{headingIn}
+use Rattle.lines.proofs.Accepted.{parsed-sound}
+use Rattle.execution.specs.declared.state.Flow.{Flow}
+use Rattle.execution.specs.declared.state.Lined.{Lined}
+use Rattle.execution.specs.State.{Held}
+use Rattle.execution.specs.Line.{formMeaning, lineMeaning}
+use Rattle.execution.specs.Sound.{Nested}
+use Rattle.execution.specs.Going.{sceneOf, placedAt}
+use Rattle.execution.specs.Executing.{sourceOf, stateAt, Executes, LineReady, FormReady}
+use Rattle.execution.proofs.Places.{nested-few, nested-line, nested-room}
+
+pub texts-length : (rows : List (List ℕ)) (k : ℕ) (ns : List ℕ) → length (texts rows k ns) ≡ length ns
+unfolding texts
+texts-length rows k [] = refl
+texts-length rows k (n ∷ ns) = ap suc (texts-length rows (suc k) ns)
+
+module _ {b index : List ℕ} {count : ℕ} {t : List ℕ} {h : Held} {f : Flow} {T : List ℕ} {u a : ℕ} (k : LineReady b index count t h f T u a) {body : List ℕ} (e : body ≡ lineOf (take (length t - f .at) (drop (f .at) t))) where
+  here : Nested t (f .at) (f .line) (openOf (f .tables))
+  here = k .sound .nested (k .inside)
+
+  body-is : body ≡ lineAt t (f .at)
+  body-is = e ∙ ap lineOf (take-all (length t - f .at) (drop (f .at) t) (omega (arith, length-drop (f .at) t)))
+
+  body-short : length body ≤ 132
+  body-short = omega (arith, ap length body-is, opens-line (k .sound .checks) (here .opens) (k .inside) .short)
+
+  pub past-ready : (f .at + length body ≤ 65536) × (f .line ≤ 65536)
+  past-ready = (omega (arith, body-short, k .inside, checks-short (k .sound .checks)), omega (arith, nested-line (k .sound .checks) here (k .inside), k .inside, checks-short (k .sound .checks)))
+
+  module _ {scene : Scene} {next : Flow} {line : Line} (s : scene ≡ sceneOf f (f .line)) (n : next ≡ placedAt f (f .at + length body + 1) (f .line + 1)) (l : line ≡ parseLine body) where
+    few : f .tables .depth ≤ 5
+    few = omega (arith, nested-few (k .sound .checks) here (k .inside), opened-length (f .tables .rows) (f .tables .depth))
+
+    table-shape : (x : Argument) → line ≡ BeginTable x → shapeOf (lineAt t (f .at)) ≡ Table
+    unfolding shapeOf shapeIn
+    table-shape x q = ap shapeIn (sym (l ∙ ap parseLine body-is) ∙ q)
+
+    room : (x : Argument) → line ≡ BeginTable x → f .tables .depth ≤ 4
+    room x q = omega (arith, nested-room (k .sound .checks) here (k .inside) (table-shape x q), opened-length (f .tables .rows) (f .tables .depth))
+
+    pub form-ready : FormReady body b index count t h scene (f .at) next line T u a
+    form-ready = rw (n, s) (record {
+      kept = k .kept;
+      stored = k .stored;
+      scened = refl;
+      parsed = parsed-sound body line (sym l);
+      short = body-short;
+      template = checks-short (k .sound .checks);
+      placed = omega (arith, k .inside, checks-short (k .sound .checks));
+      numbered = (omega (arith, here .number), omega (arith, nested-line (k .sound .checks) here (k .inside), k .inside, checks-short (k .sound .checks)));
+      few = omega (arith, nested-line (k .sound .checks) here (k .inside), k .inside, checks-short (k .sound .checks));
+      datasource = k .sound .datasource;
+      tables = few;
+      room-for-table = room;
+      page = k .sound .number;
+      row = k .sound .last-row;
+      integers = k .sound .integers;
+      decimals = k .sound .decimals;
+      rows = k .rows;
+      lengths = sym (texts-length (h .rows) 0 (h .lengths)) ∙ k .sound .strings;
+      records = sym (length-map (h .records) (fetched (sourceOf b) Records)) ∙ k .sound .records;
+      entries = sym (length-map (h .entries) (fetched (sourceOf b) Entries)) ∙ k .sound .entries;
+      headings = sym (length-map (h .headings) headingIn) ∙ k .sound .headings;
+      heads = k .sound .heads;
+      room = k .room;
+      places = k .places;
+    })
+
+    pub line-executes : (log : List ℕ) (p : ℕ) (h′ : Held) (T′ log′ : List ℕ) (r : Lined) → Executes (formMeaning t (f .at) (scene .number) body (stateAt b h next) line) b h next T u log a p h′ T′ log′ r → Executes (lineMeaning t (stateAt b h f)) b h f T u log a p h′ T′ log′ r
+    unfolding lineMeaning
+    line-executes log p h′ T′ log′ r d =
+        let x = rw (n, s, l) at d in
+        rw (← body-is) (record { does = x .does; few = x .few; rows = x .rows })

@@ -1,0 +1,80 @@
+use Rattle.execution.proofs.Lining.{past-ready, form-ready, line-executes}
+use borrow.Author.Needs.{needs}
+use Rattle.execution.proofs.line.line.Statement.{statement}
+use Rattle.execution.proofs.line.line.Tie as tie
+use Rattle.execution.proofs.line.line.Reads as reads
+use Rattle.execution.proofs.line.line.Lts as lts
+use Rattle.execution.proofs.flow.past.Reads as past-reads
+use Rattle.execution.proofs.flow.scene_of.Reads as scene-of-reads
+use Rattle.execution.proofs.line.execute.Reads as execute-reads
+use Rattle.lines.proofs.command.parse_line.Reads as parse-line-reads
+use Rattle.scan.proofs.bytes.line_of.Reads as line-of-reads
+
+sub-line-of : tie.Need-sub-line-of
+sub-line-of c = search needs
+
+part-line-of-start : tie.Need-part-line-of-start
+part-line-of-start c = search needs
+
+part-line-of-end : tie.Need-part-line-of-end
+part-line-of-end c = search needs
+
+line-of-requires : tie.Need-line-of-requires
+line-of-requires c κs = search needs
+
+parse-line-requires : tie.Need-parse-line-requires
+parse-line-requires c κs = search needs
+
+scene-of-requires : tie.Need-scene-of-requires
+scene-of-requires c κs = search needs
+
+past-requires : tie.Need-past-requires
+past-requires c κs = past-ready (c .before .before .before .before .before .before .before .before .before .before .before .before .pre) (c .before .before .line-of .ensures)
+
+execute-requires : tie.Need-execute-requires
+execute-requires c κs = form-ready (c .before .before .before .before .before .before .before .before .before .before .before .before .before .before .before .before .before .before .before .before .before .before .pre) (c .before .before .before .before .before .before .before .before .before .before .before .before .line-of .ensures) (c .before .before .before .before .before .before .before .before .before .before .scene-of .ensures) (c .before .before .before .before .before .before .before .before .before .past .ensures) (c .before .before .before .before .before .before .before .before .before .before .before .parse-line .ensures)
+
+same-length : tie.Need-same-length
+same-length c = search needs
+
+same-length-2 : tie.Need-same-length-2
+same-length-2 c = search needs
+
+same-length-3 : tie.Need-same-length-3
+same-length-3 c = search needs
+
+same-length-4 : tie.Need-same-length-4
+same-length-4 c = search needs
+
+same-length-5 : tie.Need-same-length-5
+same-length-5 c = search needs
+
+same-length-6 : tie.Need-same-length-6
+same-length-6 c = search needs
+
+same-length-7 : tie.Need-same-length-7
+same-length-7 c = search needs
+
+returns : tie.Need-returns
+returns c = line-executes (c .before .before .before .before .before .before .before .before .before .before .before .before .before .before .before .before .before .before .before .before .before .before .before .before .before .before .before .before .before .before .before .before .before .before .before .pre) (c .before .before .before .before .before .before .before .before .before .before .before .before .before .before .before .before .before .before .before .before .before .before .before .before .before .line-of .ensures) (c .before .before .before .before .before .before .before .before .before .before .before .before .before .before .before .before .before .before .before .before .before .before .before .scene-of .ensures) (c .before .before .before .before .before .before .before .before .before .before .before .before .before .before .before .before .before .before .before .before .before .before .past .ensures) (c .before .before .before .before .before .before .before .before .before .before .before .before .before .before .before .before .before .before .before .before .before .before .before .before .parse-line .ensures) _ _ _ _ _ _ (c .before .before .before .before .before .before .before .before .before .before .before .before .execute .ensures)
+
+pub line-spec : {M : Type 1} → statement M
+line-spec =
+    tie.close
+    (tie.spec
+    sub-line-of
+    part-line-of-start
+    part-line-of-end
+    line-of-requires
+    parse-line-requires
+    scene-of-requires
+    past-requires
+    execute-requires
+    same-length
+    same-length-2
+    same-length-3
+    same-length-4
+    same-length-5
+    same-length-6
+    same-length-7
+    returns)
