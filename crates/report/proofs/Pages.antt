@@ -1,0 +1,78 @@
+-- No page of a report holds more than 60 lines, and the pages that it reports are those of its events.
+use mathlib.Core.Path.{_≡_, refl, sym}
+use mathlib.Core.Bool.{Bool, true, false, cond}
+use mathlib.Core.List.{List}
+use Prim.Native.Nat.{ℕ, zero, suc, _+_, _≤_}
+use native.Mathlib.Omega.{arith}
+use borrow.Author.Tests.{ltb-true}
+use lib.Dec.{ltb}
+use lib.ListN.{length}
+use Rattle.template.specs.declared.Checked.{Checked}
+use Rattle.template.specs.declared.Checked.the-variants.{Accepted, Refused}
+use Rattle.template.specs.Order.{templateChecked}
+use Rattle.template.proofs.Accepted.{accepted-runs, Early, refused-early}
+use Rattle.cells.specs.Store.{held}
+use Rattle.history.specs.State.{isHeld}
+use Rattle.meaning.specs.Each.{Each}
+use Rattle.meaning.specs.Event.{pageFrom, laterPages, pages}
+use Rattle.meaning.specs.Tree.{done, stop, bind, run}
+use Rattle.meaning.specs.Rule.{Keeps, pageLimit}
+use Rattle.meaning.specs.Meaning.{Meaning}
+use Rattle.meaning.specs.declared.refusal.Refusal.the-variants.{TooManyLines, BadStore}
+use Rattle.meaning.proofs.Keeping.{keeps-bind, keeps-pages}
+use Rattle.meaning.proofs.Events.{page-count}
+use Rattle.values.specs.State.{answers}
+use Rattle.execution.specs.State.{State}
+use Rattle.execution.specs.Line.{lineMeaning}
+use Rattle.execution.proofs.Sounds.{On, line-keeps}
+use Rattle.report.specs.Report.{runFrom, startOf, runMeaning, Outcome, refusedWith, checkedOutcome, reportOf}
+use Rattle.report.proofs.Sounding.{start-on}
+
+-- whatever is known at a run's end
+abbrev Any : State → ℕ → Type 0
+Any s c = Unit {0}
+
+run-keeps : (n : ℕ) (t : List ℕ) (end g : ℕ) (s : State) (c : ℕ) → end ≤ length t → On t g s c → Keeps (pageLimit 60) (runFrom n t end s) c Any
+unfolding runFrom
+run-keeps zero t end g s c h i = by (ltb (s .at) end)
+  where
+    by : (b : Bool) → Keeps (pageLimit 60) (cond {A = Meaning State} b (stop TooManyLines (s .line)) (done s)) c Any
+    by true = tt
+    by false = tt
+run-keeps (suc n) t end g s c h i = by (ltb (s .at) end) refl (λ s′ c′ j. run-keeps n t end (g + 1) s′ c′ h j)
+  where
+    by : (b : Bool) → ltb (s .at) end ≡ b → ((s′ : State) (c′ : ℕ) → On t (g + 1) s′ c′ → Keeps (pageLimit 60) (runFrom n t end s′) c′ Any) → Keeps (pageLimit 60) (cond {A = Meaning State} b (bind (lineMeaning t s) (runFrom n t end)) (done s)) c Any
+    by true e k = keeps-bind (pageLimit 60) (lineMeaning t s) (runFrom n t end) c (On t (g + 1)) Any (line-keeps i (omega (arith, h, ltb-true (s .at) end e))) k
+    by false e k = tt
+
+abbrev Sixty : Outcome → Type 0
+Sixty o = Each (λ page. length page ≤ 60) (pages (o .events))
+
+-- "A page holds 60 lines.": so for any template, section, store, read list and output
+pub pages-hold-60 : (t name b : List ℕ) (n places room : ℕ) → Sixty (reportOf t name b n places room)
+unfolding reportOf checkedOutcome pages pageFrom laterPages
+pages-hold-60 t name b n places room = by (isHeld (held b n))
+  where
+    checked : (k : Checked) → templateChecked t name ≡ k → Sixty (checkedOutcome t (answers b n) places room k)
+    checked (Accepted r) e = keeps-pages 60 (answers b n) places room (runMeaning t r) Any (run-keeps 50000 t (r .end) 1 (startOf r) 0 (accepted-runs t name r e .inside) (start-on t name r e))
+    checked (Refused e l) i = (omega arith, tt)
+
+    by : (f : Bool) → Sixty (cond f (checkedOutcome t (answers b n) places room (templateChecked t name)) (refusedWith BadStore 0))
+    by true = checked (templateChecked t name) refl
+    by false = (omega arith, tt)
+
+abbrev Paged : Outcome → Type 0
+Paged o = (1 ≤ o .number → o .number ≤ 6 → ⊥) → o .pages ≡ length (pages (o .events))
+
+-- where a report doesn't end in 1–6, the pages that it reports are those of its events
+pub pages-reported : (t name b : List ℕ) (n places room : ℕ) → Paged (reportOf t name b n places room)
+unfolding reportOf checkedOutcome
+pages-reported t name b n places room = by (isHeld (held b n))
+  where
+    checked : (k : Checked) → Early k → Paged (checkedOutcome t (answers b n) places room k)
+    checked (Accepted r) e h = sym (page-count (run (answers b n) places room (runMeaning t r) .events))
+    checked (Refused e l) i h = absurd (h (omega (arith, i .0)) (i .1))
+
+    by : (f : Bool) → Paged (cond f (checkedOutcome t (answers b n) places room (templateChecked t name)) (refusedWith BadStore 0))
+    by true h = checked (templateChecked t name) (refused-early t name) h
+    by false h = absurd (h (omega arith) (omega arith))

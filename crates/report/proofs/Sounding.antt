@@ -1,0 +1,44 @@
+-- What holds between lines holds before the first line of an accepted template's run.
+use mathlib.Core.Path.{_≡_, refl}
+use mathlib.Core.List.{List, []}
+use Prim.Native.Nat.{ℕ}
+use native.Mathlib.Omega.{arith}
+use lib.IntN.{pos}
+use lib.ListN.{length-replicate}
+use Rattle.template.specs.declared.Run.{Run}
+use Rattle.template.specs.declared.Checked.the-variants.{Accepted}
+use Rattle.template.specs.Order.{templateChecked}
+use Rattle.template.proofs.Accepted.{accepted-runs}
+use Rattle.meaning.specs.Answer.{Answer}
+use Rattle.pages.specs.Heading.{noHeading}
+use Rattle.execution.specs.Sound.{Fit}
+use Rattle.execution.proofs.Places.{none-open}
+use Rattle.execution.proofs.Sounds.{On, each-same, blank-heading}
+use Rattle.report.specs.Report.{startOf}
+use Rattle.report.specs.Stretch.{Standing}
+
+-- The run of an accepted template starts so, on an empty page.
+pub start-on : (t name : List ℕ) (r : Run) → templateChecked t name ≡ Accepted r → On t 1 (startOf r) 0
+start-on t name r e =
+    let k = accepted-runs t name r e in
+    record {
+      sound = record {
+        checks = k .checks;
+        nested = λ _. record { before = k .start .number; marks = k .start .marks; opens = k .start .opens; number = k .start .line; tabled = none-open t (k .start .marks) (k .start .no-table) };
+        number = omega arith;
+        first-row = omega arith;
+        last-row = omega arith;
+        datasource = omega arith;
+        integers = length-replicate 99 (pos 0);
+        decimals = length-replicate 99 (pos 0);
+        strings = length-replicate {A = List ℕ} 99 [];
+        records = length-replicate {A = List Answer} 10 [];
+        entries = length-replicate {A = List Answer} 10 [];
+        headings = length-replicate 9 noHeading;
+        heads = each-same (Fit t) 9 noHeading (blank-heading t);
+      };
+      next = refl;
+    }
+
+pub start-standing : (t name : List ℕ) (r : Run) → templateChecked t name ≡ Accepted r → Standing t 50000 (startOf r)
+start-standing t name r h = record { most = omega arith; sound = start-on t name r h .sound }

@@ -1,0 +1,17 @@
+use Rattle.report.specs.Start.{startSaved}
+use borrow.Author.Needs.{needs}
+use Rattle.report.proofs.start.saved.Statement.{statement}
+use Rattle.report.proofs.start.saved.Tie as tie
+use Rattle.report.proofs.start.saved.Reads as reads
+use Rattle.report.proofs.start.saved.Lts as lts
+use Rattle.report.proofs.start.flow.Reads as flow-reads
+
+flow-requires : tie.Need-flow-requires
+flow-requires c κs = search needs
+
+returns : tie.Need-returns
+unfolding startSaved
+returns c = rw (c .flow .ensures)
+
+pub saved-spec : {M : Type 1} → statement M
+saved-spec = tie.close (tie.spec flow-requires returns)

@@ -1,0 +1,4 @@
+pub mod Report
+pub mod Start
+pub mod Stretch
+pub mod Rows

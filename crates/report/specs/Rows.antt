@@ -1,0 +1,124 @@
+-- The rows of document 01 that are marked *, and its sample sheet: each is the report of a whole template on an empty store, and
+-- antt computes it. Assumes nothing.
+use mathlib.Core.Path.{_≡_, refl}
+use mathlib.Core.List.{List, [], _∷_, _++_, map}
+use Prim.Native.Nat.{ℕ}
+use Prim.Native.String.{String}
+use lib.ListN.{length, replicate}
+use Rattle.scan.specs.Ascii.{ascii}
+use Rattle.scan.specs.Run.{belongs, span}
+use Rattle.scan.specs.Line.{byteAt, allAllowed}
+use Rattle.scan.specs.Words.{begins as scanBegins, standsAt, firstOf as scanFirstOf}
+use Rattle.scan.specs.Digits.{valueFrom, digitsAt, numberAt}
+use Rattle.numbers.specs.Range.{within}
+use Rattle.numbers.specs.Arithmetic.{checked, absoluteOf, inMillionths as numbersInMillionths, operands, decimalProduct, dividedBy, decimalQuotient, integerProduct, integerQuotient}
+use Rattle.numbers.specs.Rounding.{rounded}
+use Rattle.numbers.specs.Places.{roundedTo}
+use Rattle.numbers.specs.Sign.{opposed}
+use Rattle.fields.specs.Field.{leftIn, negative, placesOf as fieldsPlacesOf, minus, rightIn, fraction, unsigned as fieldsUnsigned, roundedField, shown, widthAllowed, fieldOf as fieldsFieldOf}
+use Rattle.fields.specs.Digits.{countWithin, digitCount, digits}
+use Rattle.arguments.specs.Argument.{admits, filteredAt, filters, argumentOf, argumentAt}
+use Rattle.arguments.specs.Literal.{inMillionths as argumentsInMillionths, fractionAt, unsignedAt, literalAt}
+use Rattle.arguments.specs.Operand.{numberedOf, numberedAt, wholeAt, names, namedAt, numberOr, stringAt, operandAt}
+use Rattle.texts.specs.Text.{before as textsBefore, placesAt, placesOf as textsPlacesOf, widthNext, fieldOf as textsFieldOf, fieldAt, placed, pieceAt, piecesWithin, textPieces, widthOf, totalWidth, fitsBehind, textFits}
+use Rattle.lines.specs.Simple.{bareAt, optionalAt, singleAt}
+use Rattle.lines.specs.Behind.{behindSpace}
+use Rattle.lines.specs.Compare.{compareAt}
+use Rattle.lines.specs.Set.{stringTarget, targetOf, setAt}
+use Rattle.lines.specs.Title.{nameAt, sectionAt}
+use Rattle.lines.specs.Command.{commands, parseLine}
+use Rattle.nesting.specs.Nest.{allClosed, inSection, sectionBegun, tableEnded as nestingTableEnded, tables, testEnded, testTurned, tests, behind}
+use Rattle.names.specs.Name.{nameOf}
+use Rattle.cells.specs.Store.{above, rising, ordered, before as cellsBefore, run as cellsRun, cells, held}
+use Rattle.history.specs.State.{isHeld}
+use Rattle.meaning.specs.Event.{breaks, joined}
+use Rattle.meaning.specs.Tree.{run as meaningRun}
+use Rattle.template.specs.Seek.{atMost, orSkip, past, amongTables, amongTests, atElse, roleOf, skipFrom, skipped}
+use Rattle.template.specs.Lines.{linesWithin, linesOf}
+use Rattle.template.specs.Form.{shapeWords, wordShape, hasForm, shapeIn, shapeOf, isFormed}
+use Rattle.template.specs.Verdicts.{firstFault, lineAllowed, bytesCheck}
+use Rattle.template.specs.Checks.{formCheck, nameEnd, hasName, cameBefore, nameStep, nameCheck, nestEnd, nestStep, nestCheck}
+use Rattle.template.specs.Walk.{orElse, walk}
+use Rattle.template.specs.Order.{acceptedRun, sectionChecked, unlessFault, namesChecked, nestingChecked, formsChecked, templateChecked}
+use Rattle.template.specs.Sections.{endAt, selects, sectionFrom, sectionEnd, runFrom as templateRunFrom, selected}
+use Rattle.template.specs.Rows.{lines}
+use Rattle.values.specs.Worth.{ranged, absolute, filteredNumber, filteredString, filtered, kindOf as valuesKindOf}
+use Rattle.values.specs.Letters.{upper, alike}
+use Rattle.values.specs.Meanings.{operandMeaning, argumentMeaning}
+use Rattle.values.specs.Machine.{numbered}
+use Rattle.commands.specs.Looping.{begun, beginMeaning, exceeds, counting, counted, endMeaning, loop}
+use Rattle.commands.specs.Settling.{integerFrom, integerMeaning, resultOf, millionthsOf, quantityFrom, decimalFrom, stringFrom}
+use Rattle.commands.specs.Setting.{setNumbered, decimalOutcome, newFrom, integerOutcome, stored, stringNew, setOf, setMeaning}
+use Rattle.commands.specs.Testing.{ignoring, isMissing, numbersHold, ofNumbers, ofStrings, textual, compared, testMeaning, zeroTest, zeroJudged, zeroMeaning}
+use Rattle.texts.specs.Pieces.{read, piecesOf}
+use Rattle.pages.specs.Text.{textMeaning}
+use Rattle.pages.specs.Shown.{orStars, placesIn, valueOf as pagesValueOf, fieldBytes}
+use Rattle.pages.specs.Page.{sayMeaning, highestOf as pagesHighestOf, topMeaning, breakMeaning, turnMeaning, lineStep}
+use Rattle.execution.specs.Line.{breaking, breakingFor, newPageMeaning, tableBegun, tableEnded as executionTableEnded, branched, formMeaning, lineMeaning}
+use Rattle.report.specs.Report.{runFrom as reportRunFrom, checkedOutcome, reportOf, Outcome, textIn, reportIn}
+use Rattle.report.specs.declared.Report.{Report}
+
+-- what a report hands back, and its text
+pub record Sheet : Type 0 where
+  pub report : Report
+  pub text : List ℕ
+
+-- section A with these lines, the text buffer and the read list of program `sheet`
+abbrev reported : List String → Sheet
+reported ls = let o : Outcome = reportOf (lines ("$SEC A" ∷ ls)) (ascii "A") [] 0 4096 65536 in record { report = reportIn o; text = textIn o }
+
+-- lines, and what is expected of them
+pub record Row : Type 0 where
+  pub computed : Sheet
+  pub expected : Sheet
+
+-- success, with so many pages and this text
+abbrev prints : List String → ℕ → List ℕ → Row
+prints ls pages text = record { computed = reported ls; expected = record { report = record { number = 0; line = 0; pages = pages; bytes = length text; questions = 0 }; text = text } }
+
+-- nothing is printed: a number and a line
+abbrev refuses : List String → ℕ → ℕ → Row
+refuses ls number line = record { computed = reported ls; expected = record { report = record { number = number; line = line; pages = 1; bytes = 0; questions = 0 }; text = [] } }
+
+abbrev shows : List String → List String → Row
+shows ls text = prints ls 1 (lines text)
+
+abbrev formFeed : List ℕ
+formFeed = 12 ∷ []
+
+unfoldable pub rows : List Row
+rows =
+    -- * "0.000001 × 0.5 = 0.000001"
+    shows ("$SETE FV1 0.000001" ∷ "$SETM FV1 0.5" ∷ "{FV1,8}" ∷ []) ("0.000001" ∷ [])
+    -- * "−1 ÷ 3 in FV = −0.333333"
+    ∷ shows ("$SETE FV1 -1" ∷ "$SETD FV1 3" ∷ "{FV1,9}" ∷ []) ("-0.333333" ∷ [])
+    -- * "IV −7 ÷ 2 = −3"
+    ∷ shows ("$SETE IV1 -7" ∷ "$SETD IV1 2" ∷ "{IV1,2}" ∷ []) ("-3" ∷ [])
+    -- * "2,000,000,000 × 2: 13"
+    ∷ refuses ("$SETE IV1 2000000000" ∷ "$SETM IV1 2" ∷ "{IV1,10}" ∷ []) 13 3
+    -- * "−0.4 in 3.0 is `  0`; 0.5 is `  1`"
+    ∷ shows ("{-0.4,3.0}" ∷ "{0.5,3.0}" ∷ []) ("  0" ∷ "  1" ∷ [])
+    -- * "1234 in width 3 is `***`"
+    ∷ shows ("{1234,3}" ∷ []) ("***" ∷ [])
+    -- * "" equals "Cs"
+    ∷ shows ("$IFEQSS \"\" \"Cs\"" ∷ "equal" ∷ "$ELSE" ∷ "unequal" ∷ "$ENDIF" ∷ []) ("equal" ∷ [])
+    -- * "cs-137", "CS" equal under SI, not SS
+    ∷ shows ("$IFEQSI \"cs-137\" \"CS\"" ∷ "equal" ∷ "$ELSE" ∷ "unequal" ∷ "$ENDIF" ∷ []) ("equal" ∷ [])
+    ∷ shows ("$IFEQSS \"cs-137\" \"CS\"" ∷ "equal" ∷ "$ELSE" ∷ "unequal" ∷ "$ENDIF" ∷ []) ("unequal" ∷ [])
+    -- * "$BT 5, $ET 2: three passes"
+    ∷ shows ("$BT 5" ∷ "pass {LOOP,1}" ∷ "$ET 2" ∷ "end" ∷ []) ("pass 1" ∷ "pass 3" ∷ "pass 5" ∷ "end" ∷ [])
+    -- * "$BT 0: none"
+    ∷ shows ("$BT 0" ∷ "pass {LOOP,1}" ∷ "$ET" ∷ "end" ∷ []) ("end" ∷ [])
+    -- * "LINENUM 59: `$NP 2` stays, `$NP 3` breaks"
+    ∷ shows (replicate 58 "x" ++ ("$NP 2" ∷ "{LINENUM,2}" ∷ [])) (replicate 58 "x" ++ ("59" ∷ []))
+    ∷ prints (replicate 58 "x" ++ ("$NP 3" ∷ "{LINENUM,2}" ∷ [])) 2 (lines (replicate 58 "x") ++ formFeed ++ lines (" 1" ∷ []))
+    -- * "60 lines without heading: one page; 61: two"
+    ∷ shows (replicate 60 "x") (replicate 60 "x")
+    ∷ prints (replicate 61 "x") 2 (lines (replicate 60 "x") ++ formFeed ++ lines ("x" ∷ []))
+    -- the sample: "prints `r=  0.67` and `0 0 1 9 0`"
+    ∷ shows ("$SETE FV1 2" ∷ "$SETD FV1 3" ∷ "$IF IV1" ∷ "X" ∷ "$ELSE" ∷ "r={FV1,6.2}" ∷ "$ENDIF" ∷ []) ("r=  0.67" ∷ [])
+    ∷ []
+
+pub rows-hold : map (λ (r : Row). r .computed) rows ≡ map (λ (r : Row). r .expected) rows
+unfolding rows above rising ordered cellsBefore cellsRun cells held within breaks meaningRun begun beginMeaning exceeds counting counted endMeaning loop checked absoluteOf numbersInMillionths operands decimalProduct dividedBy decimalQuotient integerProduct integerQuotient ranged absolute filteredNumber filteredString filtered valuesKindOf upper alike operandMeaning argumentMeaning numbered integerFrom integerMeaning resultOf millionthsOf quantityFrom decimalFrom stringFrom setNumbered decimalOutcome newFrom integerOutcome stored stringNew setOf setMeaning atMost orSkip past amongTables amongTests atElse roleOf skipFrom skipped belongs span linesWithin linesOf byteAt allAllowed scanBegins standsAt scanFirstOf shapeWords wordShape hasForm shapeIn shapeOf isFormed read piecesOf textMeaning textsBefore placesAt textsPlacesOf widthNext textsFieldOf fieldAt placed pieceAt piecesWithin textPieces widthOf totalWidth fitsBehind textFits admits filteredAt filters argumentOf argumentAt valueFrom digitsAt numberAt argumentsInMillionths fractionAt unsignedAt literalAt numberedOf numberedAt wholeAt names namedAt numberOr stringAt operandAt leftIn negative fieldsPlacesOf minus rightIn fraction fieldsUnsigned roundedField shown widthAllowed fieldsFieldOf countWithin digitCount digits rounded roundedTo orStars placesIn pagesValueOf fieldBytes sayMeaning pagesHighestOf topMeaning breakMeaning turnMeaning lineStep breaking breakingFor newPageMeaning tableBegun executionTableEnded branched formMeaning lineMeaning opposed ignoring isMissing numbersHold ofNumbers ofStrings textual compared testMeaning zeroTest zeroJudged zeroMeaning bareAt optionalAt singleAt behindSpace compareAt stringTarget targetOf setAt nameAt sectionAt commands parseLine reportRunFrom checkedOutcome reportOf isHeld firstFault lineAllowed bytesCheck formCheck nameEnd hasName cameBefore nameStep nameCheck nestEnd nestStep nestCheck nameOf orElse walk acceptedRun sectionChecked unlessFault namesChecked nestingChecked formsChecked templateChecked endAt selects sectionFrom sectionEnd templateRunFrom selected allClosed inSection sectionBegun nestingTableEnded tables testEnded testTurned tests behind joined lines
+rows-hold = refl
