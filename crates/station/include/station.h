@@ -6,6 +6,10 @@
 #include <stddef.h>
 #include <stdint.h>
 
+#ifdef __cplusplus
+extern "C" {
+#endif
+
 /* A byte slice is passed as a pointer and then a length. Kinds are those of a cell: 0x49 integer, 0x46 decimal
    (a count of millionths); any other kind is taken for a decimal. */
 
@@ -93,5 +97,25 @@ uint32_t station_check(const uint8_t *text, size_t text_length, const uint8_t *s
    An index is two numbers: 1 and its value, 2 and n for IVn, 3 and 0 for LOOP. */
 bool station_line(const uint8_t *line, size_t line_length, uint64_t *numbers, size_t numbers_length);
 bool station_piece(const uint8_t *line, size_t line_length, size_t at, uint64_t *numbers, size_t numbers_length);
+
+/* A question: its kind and four numbers, those that the kind doesn't use 0. */
+struct station_question {
+    uint32_t kind, datasource, parameter, record, entry;
+};
+
+/* The report of a template on the store in the first `length` bytes of a buffer. `section` is the caller's name for a
+   section, empty for all. The text and the questions asked go to the starts of `text` and `reads`; the rest of both stays as
+   it is. The number that the report ends with is returned, its line, its pages, its text bytes and its questions go to the
+   four outputs. Every number is document 01's: nothing that is handed in is a fault of the caller, but for the pointers. No
+   two of the buffers and outputs may overlap, and no output may be null; a slice of length 0 may be. It takes less than 64 KB
+   of stack. */
+uint32_t station_report(const uint8_t *template_bytes, size_t template_length, const uint8_t *section, size_t section_length,
+                        const uint8_t *buffer, size_t buffer_length, size_t length, uint8_t *text, size_t text_length,
+                        struct station_question *reads, size_t places,
+                        uint32_t *line, uint32_t *pages, size_t *text_bytes, size_t *questions);
+
+#ifdef __cplusplus
+}
+#endif
 
 #endif
