@@ -1,15 +1,14 @@
 -- A line in its form: what each call of `execute` requires, and that it does what the definition says.
 use mathlib.Core.Path.{_≡_, refl, sym, ap, _∙_, subst}
-use mathlib.Core.Bool.{Bool, true, false, cond}
+use mathlib.Core.Bool.{Bool, true, false}
 use mathlib.Core.List.{List, [], _∷_, map}
-use Prim.Native.Nat.{ℕ, zero, suc, _+_, _*_, _-_, _≤_, _<_}
+use Prim.Native.Nat.{ℕ, zero, suc, _+_, _*_, _-_, _≤_}
 use native.Mathlib.Omega.{arith}
 use lib.IntN.{ℤ, pos}
 use lib.Signed.{ltZ}
-use lib.ListN.{length, take, replicate, length-replicate}
+use lib.ListN.{length, take, replicate}
 use Rattle.arguments.specs.declared.argument.Argument.{Argument}
 use Rattle.arguments.specs.declared.index.Index.{Index}
-use Rattle.texts.specs.Text.{textFits}
 use Rattle.lines.specs.declared.command.Operation.{Operation}
 use Rattle.lines.specs.declared.command.Target.{Target}
 use Rattle.lines.specs.declared.command.Comparison.{Comparison}
@@ -18,7 +17,7 @@ use Rattle.lines.specs.declared.command.Optional.{Optional}
 use Rattle.lines.specs.declared.command.Optional.the-variants.{Given, Absent}
 use Rattle.lines.specs.declared.command.Line.{Line}
 use Rattle.lines.specs.declared.command.Line.the-variants as form
-use Rattle.template.specs.declared.seek.Sought.the-variants.{Branch, TestEnd, TableEnd}
+use Rattle.template.specs.declared.seek.Sought.the-variants.{TestEnd}
 use Rattle.meaning.specs.Answer.{Answer}
 use Rattle.meaning.specs.Each.{Each}
 use Rattle.meaning.specs.Tree.{done, bind, End, finished}
@@ -33,8 +32,7 @@ use Rattle.meaning.proofs.Doing.{then-does, then-over, does-done}
 use Rattle.values.specs.declared.scene.Scene.{Scene}
 use Rattle.values.specs.declared.fetch.Along.the-variants.{Records, Entries}
 use Rattle.values.specs.Word.{questions}
-use Rattle.values.specs.Machine.{Machine}
-use Rattle.values.specs.State.{answers, machine, texts, fetched}
+use Rattle.values.specs.State.{machine, texts, fetched}
 use Rattle.values.specs.Fetching.{Fetchable}
 use Rattle.arguments.specs.Parameter.{parameterOf}
 use Rattle.values.specs.Yielding.{Askable, Sized}
@@ -48,7 +46,7 @@ use Rattle.commands.specs.Setting.{setMeaning}
 use Rattle.commands.specs.Testing.{zeroMeaning, testMeaning}
 use Rattle.commands.specs.Contracts as C
 use Rattle.commands.specs.Contracts.{Runs, SetsVariable, TestsZero, Tests, TakesIntegerValue}
-use Rattle.commands.specs.Looping.{loop, openOf, loopingOf, AtMostOpen, parameterIn, BeginsTable, EndsTable, beginMeaning, endMeaning}
+use Rattle.commands.specs.Looping.{openOf, loopingOf, AtMostOpen, parameterIn, BeginsTable, EndsTable, beginMeaning, endMeaning}
 use Rattle.commands.specs.Fetching.{TakesRecords, TakesEntries, recordsMeaning, entriesMeaning}
 use Rattle.commands.specs.Selecting.{Selects, datasourceMeaning}
 use Rattle.commands.proofs.Clearing.{texts-cleared, fetched-cleared}
@@ -57,7 +55,6 @@ use Rattle.pages.specs.declared.heading.Heading.{Heading}
 use Rattle.pages.specs.declared.step.Paged.{Paged}
 use Rattle.pages.specs.Heading.{noHeading, headingIn, headingsOf, Small}
 use Rattle.pages.specs.Page.{headLine, headFrom, highestOf, breakMeaning, lineStep}
-use Rattle.texts.specs.Pieces.{piecesOf, fieldCount}
 use Rattle.pages.specs.Pass.{lent}
 use Rattle.pages.specs.Paging.{AllFit, headFields, TurnReady, StepReady, Steps}
 use Rattle.lines.proofs.Accepted as parsed
@@ -65,7 +62,7 @@ use Rattle.texts.proofs.FieldLaws.{fields-few}
 use Rattle.pages.proofs.Turning.{highest-most}
 use Rattle.execution.specs.declared.state.Flow.{Flow}
 use Rattle.execution.specs.declared.state.Lined.{Lined}
-use Rattle.execution.specs.State.{State, seen, withMachine, withDatasource, withHeadings, withPage, cleared, Held, stateOf}
+use Rattle.execution.specs.State.{State, seen, withMachine, withDatasource, withHeadings, withPage, cleared, Held}
 use Rattle.execution.specs.Line.{jumped, branched, tableBegun, tableEnded, breaking, breakingFor, newPageMeaning, headed, formMeaning}
 use Rattle.execution.specs.Sound.{Fit}
 use Rattle.execution.specs.Going.{sceneOf, datasourceIn, feedsIn, pageIn, jumpedIn}

@@ -1,13 +1,13 @@
 -- Where the run goes on behind a command, one law for each return of arms.rt.
 use mathlib.Core.Path.{_≡_, refl, sym, ap, _∙_}
-use mathlib.Core.Bool.{Bool, true, false, cond, false≢true}
-use mathlib.Core.List.{List, [], _∷_, map}
+use mathlib.Core.Bool.{Bool, true, false, false≢true}
+use mathlib.Core.List.{List, [], _∷_}
 use Prim.Native.Nat.{ℕ, zero, suc, _+_, _-_, _≤_, _<_}
 use native.Mathlib.Omega.{arith}
 use native.Mathlib.Nat.{add-zero}
 use lib.IntN.{ℤ, pos}
 use lib.Signed.{ltZ}
-use lib.ListN.{length, drop, take, set, replicate, drop-of-length-le, length-take}
+use lib.ListN.{length, drop, take, set, drop-of-length-le, length-take}
 use Rattle.template.specs.declared.seek.Sought.{Sought}
 use Rattle.template.specs.declared.seek.Sought.the-variants.{Branch, TableEnd}
 use Rattle.template.specs.declared.seek.Skip.{Skip}
@@ -29,9 +29,9 @@ use Rattle.pages.specs.Heading.{headingIn, headingsOf}
 use Rattle.pages.specs.Paging.{Breaks}
 use Rattle.execution.specs.declared.state.Flow.{Flow}
 use Rattle.execution.specs.declared.state.Lined.{Lined}
-use Rattle.execution.specs.Going.{sceneOf, placedAt, pageIn, tablesIn, feedsIn, jumpedIn, againIn}
+use Rattle.execution.specs.Going.{sceneOf, placedAt, pageIn, tablesIn, jumpedIn, againIn}
 use Rattle.execution.specs.Executing.{endedIn}
-use Rattle.execution.specs.Arms.{Jumpable, Follows, branchedIn, begunIn, overIn, Clears, Heads, BreaksLine, PagesLine}
+use Rattle.execution.specs.Arms.{Jumpable, Follows, branchedIn, begunIn, overIn, Heads, BreaksLine, PagesLine}
 
 -- ---- the flow
 

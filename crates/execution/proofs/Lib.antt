@@ -1,5 +1,4 @@
 pub mod Places
-pub mod Kept
 pub mod Sounds
 pub mod Following
 pub mod Commanding

@@ -1,13 +1,11 @@
 -- The line that is due: split, parsed, and executed in its form.
-use mathlib.Core.Path.{_≡_, refl, sym, ap, _∙_, subst}
-use mathlib.Core.List.{List, [], _∷_, map}
-use Prim.Native.Nat.{ℕ, suc, _+_, _-_, _≤_, _<_}
+use mathlib.Core.Path.{_≡_, refl, sym, ap, _∙_}
+use mathlib.Core.List.{List, [], _∷_}
+use Prim.Native.Nat.{ℕ, suc, _+_, _-_, _≤_}
 use native.Mathlib.Omega.{arith}
 use lib.ListN.{length, take, drop, length-map, length-drop}
 use lib.Seq.{take-all}
-use Rattle.scan.specs.declared.run.Class.the-variants.{InLine}
 use Rattle.scan.specs.Line.{lineOf, lineAt}
-use Rattle.scan.proofs.RunLaws.{length-span}
 use Rattle.nesting.specs.declared.Shape.the-variants.{Table}
 use Rattle.arguments.specs.declared.argument.Argument.{Argument}
 use Rattle.lines.specs.declared.command.Line.{Line}
@@ -17,7 +15,7 @@ use Rattle.template.specs.Form.{shapeIn, shapeOf}
 use Rattle.template.proofs.Opening.{checks-short, opens-line}
 use Rattle.values.specs.declared.scene.Scene.{Scene}
 use Rattle.values.specs.declared.fetch.Along.the-variants.{Records, Entries}
-use Rattle.values.specs.State.{rowOf, texts, fetched}
+use Rattle.values.specs.State.{texts, fetched}
 use Rattle.commands.specs.Looping.{openOf}
 use Rattle.commands.proofs.Tabling.{opened-length}
 use Rattle.pages.specs.Heading.{headingIn}

@@ -2,7 +2,7 @@
 use mathlib.Core.Path.{_≡_, refl, sym, ap, _∙_, subst}
 use mathlib.Core.List.{List, [], _∷_}
 use mathlib.Core.Logic.{_⊎_, inl, inr}
-use Prim.Native.Nat.{ℕ, zero, suc, _+_, _≤_, _<_}
+use Prim.Native.Nat.{ℕ, suc, _+_, _≤_, _<_}
 use native.Mathlib.Omega.{arith}
 use lib.ListN.{length, drop}
 use Rattle.scan.specs.Line.{lineAt}
@@ -15,7 +15,7 @@ use Rattle.template.specs.Opening.{Opens, Checks}
 use Rattle.template.proofs.Opening.{opens-few, behind-section, behind-remark, behind-plain, behind-test, behind-else, behind-end-test, behind-table, behind-end-table}
 use Rattle.template.proofs.Jumps.{failed-test, executed-else, skipped-table, failed-goes, else-goes, table-goes}
 use Rattle.commands.specs.declared.table.Table as C
-use Rattle.commands.specs.Looping.{countedTo, innermost, noTable}
+use Rattle.commands.specs.Looping.{countedTo, innermost}
 use Rattle.execution.specs.Sound.{Tabled, Nested}
 
 -- as many tables are open in the run as check 4 counts

@@ -1,21 +1,19 @@
 -- What holds between the lines of a run, whatever the store answers: shown once of the definition, used for the 60 lines of a
 -- page and for what the code needs alike.
-use mathlib.Core.Path.{_≡_, refl, sym, ap, _∙_, subst}
+use mathlib.Core.Path.{_≡_, refl, sym, ap, _∙_}
 use mathlib.Core.Bool.{Bool, true, false, cond}
 use mathlib.Core.List.{List, [], _∷_}
 use Prim.Native.Nat.{ℕ, zero, suc, _+_, _-_, _≤_, _<_}
 use native.Mathlib.Omega.{arith}
 use borrow.Author.Tests.{ne-eqb}
-use lib.Dec.{ltb, eqb}
-use lib.IntN.{ℤ, pos, natAbs}
+use lib.IntN.{pos}
 use lib.Signed.{ltZ}
-use lib.ListN.{length, take, drop, set, replicate, length-replicate}
+use lib.ListN.{length, drop, set, replicate, length-replicate}
 use Rattle.scan.specs.declared.run.Class.the-variants.{InLine}
 use Rattle.scan.specs.Line.{lineAt}
 use Rattle.scan.proofs.RunLaws.{take-span}
 use Rattle.nesting.specs.declared.Shape.{Shape}
 use Rattle.nesting.specs.declared.Shape.the-variants.{Section, Remark, Test, Else, EndTest, Table, EndTable, Plain}
-use Rattle.texts.specs.Text.{textFits}
 use Rattle.lines.specs.declared.command.Optional.{Optional}
 use Rattle.lines.specs.declared.command.Optional.the-variants.{Given, Absent}
 use Rattle.lines.specs.declared.command.Line.{Line}
@@ -23,7 +21,6 @@ use Rattle.lines.specs.declared.command.Line.the-variants as form
 use Rattle.lines.specs.Command.{parseLine}
 use Rattle.template.specs.declared.seek.Sought.the-variants.{Branch, TestEnd, TableEnd}
 use Rattle.template.specs.Form.{shapeIn, shapeOf}
-use Rattle.template.specs.Seek.{skipped}
 use Rattle.template.specs.Opening.{Checks}
 use Rattle.template.proofs.Opening.{opens-line}
 use Rattle.meaning.specs.Answer.{Answer}
@@ -31,16 +28,17 @@ use Rattle.meaning.specs.Each.{Each}
 use Rattle.meaning.specs.Tree.{done, bind}
 use Rattle.meaning.specs.Rule.{Keeps, pageLimit}
 use Rattle.meaning.specs.Meaning.{Meaning}
-use Rattle.meaning.proofs.Keeping.{keeps-bind, keeps-more}
+use Rattle.meaning.proofs.Keeping.{keeps-bind}
 use Rattle.values.specs.Machine.{Machine}
-use Rattle.values.proofs.Still.{Still}
+use Rattle.values.proofs.Giving.{Gives, Anything, gives-keeps}
 use Rattle.commands.specs.declared.table.Table as C
 use Rattle.commands.specs.Settling.{integerMeaning}
 use Rattle.commands.specs.Setting.{setNumbered, setMeaning}
 use Rattle.commands.specs.Testing.{zeroMeaning, testMeaning}
-use Rattle.commands.specs.Looping.{Looping, looping, innermost, newTable, begun, counting, countedTo, exceeds, beginMeaning, endMeaning}
+use Rattle.commands.specs.Looping.{Looping, innermost, newTable, countedTo, beginMeaning, endMeaning}
 use Rattle.commands.specs.Fetching.{recordsMeaning, entriesMeaning}
 use Rattle.commands.specs.Selecting.{datasourceMeaning}
+use Rattle.commands.proofs.Giving.{Shaped, numbered-length, set-gives, records-gives, entries-gives, integer-gives, zero-gives, test-gives, Begun, skipped, opened, Counting, ended, again, begin-gives, end-gives, Selectable, datasource-gives}
 use Rattle.pages.specs.declared.page.Page.{Page}
 use Rattle.pages.specs.declared.heading.Heading.{Heading}
 use Rattle.pages.specs.Heading.{noHeading}
@@ -48,11 +46,10 @@ use Rattle.pages.specs.Page.{headLine, headFrom, breakMeaning, lineStep}
 use Rattle.pages.proofs.Turning.{blank-fits}
 use Rattle.lines.proofs.Accepted.{heading-accepted}
 use Rattle.pages.proofs.Sixty as P
-use Rattle.execution.specs.State.{State, seen, withPlace, withMachine, withDatasource, withTables, withHeadings, withFeeds, withPage, cleared}
+use Rattle.execution.specs.State.{State, seen, withPlace, withMachine, withDatasource, withTables, withFeeds, withPage, cleared}
 use Rattle.execution.specs.Line.{past, jumped, setting, branched, testing, tableBegun, tableEnded, breaking, breakingFor, newPageMeaning, headed, formMeaning, lineMeaning}
 use Rattle.execution.specs.Sound.{Nested, Fit, Sound}
 use Rattle.execution.proofs.Places.{nested-plain, nested-remark, nested-section, nested-end-test, nested-test, nested-failed, nested-else, nested-begun, nested-skipped, nested-ended, nested-again}
-use Rattle.execution.proofs.Kept.{Quiet, Same, set-length, set-keeps, records-keep, entries-keep, zero-still, test-still, integer-still, BegunBy, CountedBy, begin-keeps, end-keeps, datasource-keeps}
 
 -- LINENUM is one more than the lines on the page
 pub record On (t : List ℕ) (g : ℕ) (s : State) (c : ℕ) : Type 0 where
@@ -97,14 +94,14 @@ module _ {t : List ℕ} {g : ℕ} {s : State} (i : Sound t g s) where
   sound-tables : (at line : ℕ) (ts : List C.Table) → (at < length t → Nested t at line ts) → Sound t g (withPlace (withTables s ts) at line)
   sound-tables at line ts h = record { checks = i .checks; nested = h; number = i .number; first-row = i .first-row; last-row = i .last-row; datasource = i .datasource; integers = i .integers; decimals = i .decimals; strings = i .strings; records = i .records; entries = i .entries; headings = i .headings; heads = i .heads }
 
-  sound-machine : (m : Machine) → Same (seen s) m → Sound t g (withMachine s m)
+  sound-machine : (m : Machine) → Shaped (seen s) m → Sound t g (withMachine s m)
   sound-machine m e = record { checks = i .checks; nested = i .nested; number = i .number; first-row = i .first-row; last-row = i .last-row; datasource = i .datasource; integers = e .integers ∙ i .integers; decimals = e .decimals ∙ i .decimals; strings = e .strings ∙ i .strings; records = e .records ∙ i .records; entries = e .entries ∙ i .entries; headings = i .headings; heads = i .heads }
 
   sound-datasource : (d : ℕ) → d ≤ 35 → Sound t g (withDatasource s d)
   sound-datasource d h = record { checks = i .checks; nested = i .nested; number = i .number; first-row = i .first-row; last-row = i .last-row; datasource = h; integers = i .integers; decimals = i .decimals; strings = i .strings; records = i .records; entries = i .entries; headings = i .headings; heads = i .heads }
 
   sound-heading : (n : ℕ) (h : Heading) → Fit t h → Sound t g (headed s n h)
-  sound-heading n h f = record { checks = i .checks; nested = i .nested; number = i .number; first-row = i .first-row; last-row = i .last-row; datasource = i .datasource; integers = i .integers; decimals = i .decimals; strings = i .strings; records = i .records; entries = i .entries; headings = set-length (s .headings) n h ∙ i .headings; heads = each-numbered (Fit t) (s .headings) n h f (i .heads) }
+  sound-heading n h f = record { checks = i .checks; nested = i .nested; number = i .number; first-row = i .first-row; last-row = i .last-row; datasource = i .datasource; integers = i .integers; decimals = i .decimals; strings = i .strings; records = i .records; entries = i .entries; headings = numbered-length (s .headings) n h ∙ i .headings; heads = each-numbered (Fit t) (s .headings) n h f (i .heads) }
 
   sound-feeds : (f : Bool) → Sound t g (withFeeds s f)
   sound-feeds f = record { checks = i .checks; nested = i .nested; number = i .number; first-row = i .first-row; last-row = i .last-row; datasource = i .datasource; integers = i .integers; decimals = i .decimals; strings = i .strings; records = i .records; entries = i .entries; headings = i .headings; heads = i .heads }
@@ -149,33 +146,27 @@ module _ {t : List ℕ} {g : ℕ} {s : State} {c : ℕ} (i : On t g s c) (h : s 
   plain e = behind (nested-plain checks here h e)
 
   -- a command that only sets
-  sets-keep : (m : Meaning Machine) → Keeps (pageLimit 60) m c (Quiet (Same (seen s₁)) c) → On t (g + 1) s₁ c → Keeps (pageLimit 60) (setting s₁ m) c (On t (g + 1))
-  sets-keep m k o = keeps-bind (pageLimit 60) m (λ x. done (withMachine s₁ x)) c (Quiet (Same (seen s₁)) c) (On t (g + 1)) k (λ x c′ q. record { sound = sound-machine (o .sound) x (q .1); next = o .next ∙ ap suc (sym (q .0)) })
+  sets-keep : (m : Meaning Machine) → Gives m (Shaped (seen s₁)) → On t (g + 1) s₁ c → Keeps (pageLimit 60) (setting s₁ m) c (On t (g + 1))
+  sets-keep m k o = keeps-bind (pageLimit 60) m (λ x. done (withMachine s₁ x)) c (λ x c′. Shaped (seen s₁) x × (c′ ≡ c)) (On t (g + 1)) (gives-keeps (pageLimit 60) m c (Shaped (seen s₁)) k) (λ x c′ q. record { sound = sound-machine (o .sound) x (q .0); next = o .next ∙ ap suc (sym (q .1)) })
 
   -- a test
-  tests-keep : (m : Meaning Bool) → Still m → shapeOf body ≡ Test → Keeps (pageLimit 60) (testing t s₁ m) c (On t (g + 1))
+  tests-keep : (m : Meaning Bool) → Gives m Anything → shapeOf body ≡ Test → Keeps (pageLimit 60) (testing t s₁ m) c (On t (g + 1))
   unfolding branched
-  tests-keep m k e = keeps-bind (pageLimit 60) m (λ holds. done (branched t s₁ holds)) c (λ _ c′. c′ ≡ c) (On t (g + 1)) (k c) (λ b c′ q. by b c′ q)
+  tests-keep m k e = keeps-bind (pageLimit 60) m (λ holds. done (branched t s₁ holds)) c (λ b c′. Anything b × (c′ ≡ c)) (On t (g + 1)) (gives-keeps (pageLimit 60) m c Anything k) (λ b c′ q. by b c′ (q .1))
     where
       by : (b : Bool) (c′ : ℕ) → c′ ≡ c → On t (g + 1) (branched t s₁ b) c′
       by true c′ q = rw q (behind (nested-test checks here h e))
       by false c′ q = rw q (record { sound = sound-at wider (jumped t s₁ Branch .at) (jumped t s₁ Branch .line) (λ k. nested-failed checks here h e k); next = i .next })
 
-  begins-keep : (x : Looping) (c′ : ℕ) → shapeOf body ≡ Table → Quiet (BegunBy (s .tables) (s₁ .at) (s₁ .line)) c x c′ → On t (g + 1) (tableBegun t s₁ x) c′
-  unfolding tableBegun begun
-  begins-keep x c′ e q = rw (q .1 .1, q .0) (by (q .1 .0) (ltZ (q .1 .0) (pos 1)))
-    where
-      by : (n : ℤ) (b : Bool) → On t (g + 1) (tableBegun t s₁ (cond b (looping (s .tables) true) (looping (newTable (natAbs n) (s₁ .at) (s₁ .line) ∷ s .tables) false))) c
-      by n true = record { sound = sound-at wider (jumped t s₁ TableEnd .at) (jumped t s₁ TableEnd .line) (λ k. nested-skipped checks here h e k); next = i .next }
-      by n false = record { sound = sound-tables wider (s₁ .at) (s₁ .line) (newTable (natAbs n) (s₁ .at) (s₁ .line) ∷ s .tables) (λ _. nested-begun checks here h e (newTable (natAbs n) (s₁ .at) (s₁ .line)) refl refl); next = i .next }
+  begins-keep : (x : Looping) → shapeOf body ≡ Table → Begun (s .tables) (s₁ .at) (s₁ .line) x → On t (g + 1) (tableBegun t s₁ x) c
+  unfolding tableBegun
+  begins-keep _ e skipped = record { sound = sound-at wider (jumped t s₁ TableEnd .at) (jumped t s₁ TableEnd .line) (λ k. nested-skipped checks here h e k); next = i .next }
+  begins-keep _ e (opened n) = record { sound = sound-tables wider (s₁ .at) (s₁ .line) (newTable n (s₁ .at) (s₁ .line) ∷ s .tables) (λ _. nested-begun checks here h e (newTable n (s₁ .at) (s₁ .line)) refl refl); next = i .next }
 
-  ends-keep : (x : Looping) (c′ : ℕ) → shapeOf body ≡ EndTable → Quiet (CountedBy (s .tables)) c x c′ → On t (g + 1) (tableEnded s₁ x) c′
-  unfolding tableEnded counting
-  ends-keep x c′ e q = rw (q .1 .1, q .0) (by (q .1 .0) (exceeds (q .1 .0) (innermost (s .tables) .last)))
-    where
-      by : (n : ℕ) (b : Bool) → On t (g + 1) (tableEnded s₁ (cond b (looping (drop 1 (s .tables)) false) (looping (countedTo (innermost (s .tables)) n ∷ drop 1 (s .tables)) true))) c
-      by n true = record { sound = sound-tables wider (s₁ .at) (s₁ .line) (drop 1 (s .tables)) (λ _. nested-ended checks here h e); next = i .next }
-      by n false = record { sound = sound-tables wider (innermost (s .tables) .start) (innermost (s .tables) .line) (countedTo (innermost (s .tables)) n ∷ drop 1 (s .tables)) (λ _. nested-again checks here h n e); next = i .next }
+  ends-keep : (x : Looping) → shapeOf body ≡ EndTable → Counting (s .tables) x → On t (g + 1) (tableEnded s₁ x) c
+  unfolding tableEnded
+  ends-keep _ e ended = record { sound = sound-tables wider (s₁ .at) (s₁ .line) (drop 1 (s .tables)) (λ _. nested-ended checks here h e); next = i .next }
+  ends-keep _ e (again n j k) = record { sound = sound-tables wider (innermost (s .tables) .start) (innermost (s .tables) .line) (countedTo (innermost (s .tables)) n ∷ drop 1 (s .tables)) (λ _. nested-again checks here h n e); next = i .next }
 
   -- a page that the line left
   paged : (m : Meaning Page) → Keeps (pageLimit 60) m c (P.On (g + 1)) → On t (g + 1) s₁ c → Keeps (pageLimit 60) (bind m (λ p. done (withPage s₁ p))) c (On t (g + 1))
@@ -188,7 +179,7 @@ module _ {t : List ℕ} {g : ℕ} {s : State} {c : ℕ} (i : On t g s c) (h : s 
   pages-keep : (n : Optional) → On t (g + 1) s₁ c → Keeps (pageLimit 60) (newPageMeaning (s .line) body s₁ n) c (On t (g + 1))
   unfolding newPageMeaning breakingFor
   pages-keep Absent o = breaks-keep o
-  pages-keep (Given a) o = keeps-bind (pageLimit 60) (integerMeaning (seen s₁) body (s .line) a) (breakingFor (s .line) s₁) c (λ _ c′. c′ ≡ c) (On t (g + 1)) (integer-still (seen s₁) body (s .line) a c) (λ z c′ q. rw q (by (ltZ (pos (61 - s .page .line)) z)))
+  pages-keep (Given a) o = keeps-bind (pageLimit 60) (integerMeaning (seen s₁) body (s .line) a) (breakingFor (s .line) s₁) c (λ z c′. Anything z × (c′ ≡ c)) (On t (g + 1)) (gives-keeps (pageLimit 60) (integerMeaning (seen s₁) body (s .line) a) c Anything (integer-gives (seen s₁) body (s .line) a)) (λ z c′ q. rw (q .1) (by (ltZ (pos (61 - s .page .line)) z)))
     where
       by : (b : Bool) → Keeps (pageLimit 60) (cond b (breaking (s .line) s₁) (done s₁)) c (On t (g + 1))
       by true = breaks-keep o
@@ -199,17 +190,17 @@ module _ {t : List ℕ} {g : ℕ} {s : State} {c : ℕ} (i : On t g s c) (h : s 
   form-keeps form.NoForm e = absurd (opens-line checks (here .opens) h .parsed e)
   form-keeps form.Text e = paged (lineStep (seen s₁) t (s .line) (s .feeds) (s .headings) body (s .page)) (P.step-keeps (seen s₁) t (s .line) (s .feeds) (s .headings) body g (s .page) c (record { next = i .next; most = omega (arith, i .next, i .sound .last-row); number = i .sound .number })) (plain (shaped Plain form.Text e refl))
   form-keeps (form.Section a b) e = let o = behind (nested-section checks here h (shaped Section (form.Section a b) e refl)) in record { sound = sound-cleared (o .sound); next = i .next }
-  form-keeps (form.Set o v a) e = sets-keep (setMeaning (seen s₁) body (s .line) o v a) (set-keeps (seen s₁) body (s .line) o v a c) (plain (shaped Plain (form.Set o v a) e refl))
-  form-keeps (form.IfZero a) e = tests-keep (zeroMeaning (seen s₁) body (s .line) true a) (zero-still (seen s₁) body (s .line) true a) (shaped Test (form.IfZero a) e refl)
-  form-keeps (form.IfNonZero a) e = tests-keep (zeroMeaning (seen s₁) body (s .line) false a) (zero-still (seen s₁) body (s .line) false a) (shaped Test (form.IfNonZero a) e refl)
-  form-keeps (form.Compare k a b) e = tests-keep (testMeaning (seen s₁) body (s .line) k a b) (test-still (seen s₁) body (s .line) k a b) (shaped Test (form.Compare k a b) e refl)
+  form-keeps (form.Set o v a) e = sets-keep (setMeaning (seen s₁) body (s .line) o v a) (set-gives (seen s₁) body (s .line) o v a) (plain (shaped Plain (form.Set o v a) e refl))
+  form-keeps (form.IfZero a) e = tests-keep (zeroMeaning (seen s₁) body (s .line) true a) (zero-gives (seen s₁) body (s .line) true a) (shaped Test (form.IfZero a) e refl)
+  form-keeps (form.IfNonZero a) e = tests-keep (zeroMeaning (seen s₁) body (s .line) false a) (zero-gives (seen s₁) body (s .line) false a) (shaped Test (form.IfNonZero a) e refl)
+  form-keeps (form.Compare k a b) e = tests-keep (testMeaning (seen s₁) body (s .line) k a b) (test-gives (seen s₁) body (s .line) k a b) (shaped Test (form.Compare k a b) e refl)
   form-keeps form.Else e = record { sound = sound-at wider (jumped t s₁ TestEnd .at) (jumped t s₁ TestEnd .line) (λ k. nested-else checks here h (shaped Else form.Else e refl) k); next = i .next }
   form-keeps form.EndIf e = behind (nested-end-test checks here h (shaped EndTest form.EndIf e refl))
-  form-keeps (form.BeginTable a) e = keeps-bind (pageLimit 60) (beginMeaning (seen s₁) body (s .line) (s .tables) (s₁ .at) (s₁ .line) a) (λ x. done (tableBegun t s₁ x)) c (Quiet (BegunBy (s .tables) (s₁ .at) (s₁ .line)) c) (On t (g + 1)) (begin-keeps (seen s₁) body (s .line) (s .tables) (s₁ .at) (s₁ .line) a c) (λ x c′ q. begins-keep x c′ (shaped Table (form.BeginTable a) e refl) q)
-  form-keeps (form.EndTable k) e = keeps-bind (pageLimit 60) (endMeaning (seen s₁) body (s .line) (s .tables) k) (λ x. done (tableEnded s₁ x)) c (Quiet (CountedBy (s .tables)) c) (On t (g + 1)) (end-keeps (seen s₁) body (s .line) (s .tables) k c) (λ x c′ q. ends-keep x c′ (shaped EndTable (form.EndTable k) e refl) q)
-  form-keeps (form.Records f) e = sets-keep (recordsMeaning (seen s₁) (s .line) f) (records-keep (seen s₁) (s .line) f c) (plain (shaped Plain (form.Records f) e refl))
-  form-keeps (form.Entries f) e = sets-keep (entriesMeaning (seen s₁) (s .line) f) (entries-keep (seen s₁) (s .line) f c) (plain (shaped Plain (form.Entries f) e refl))
-  form-keeps (form.Datasource x) e = let o = plain (shaped Plain (form.Datasource x) e refl) in keeps-bind (pageLimit 60) (datasourceMeaning (seen s₁) (s .line) x) (λ d. done (withDatasource s₁ d)) c (Quiet (λ d. d ≤ 35) c) (On t (g + 1)) (datasource-keeps (seen s₁) (s .line) x c) (λ d c′ q. record { sound = sound-datasource (o .sound) d (q .1); next = i .next ∙ ap suc (sym (q .0)) })
+  form-keeps (form.BeginTable a) e = keeps-bind (pageLimit 60) (beginMeaning (seen s₁) body (s .line) (s .tables) (s₁ .at) (s₁ .line) a) (λ x. done (tableBegun t s₁ x)) c (λ x c′. Begun (s .tables) (s₁ .at) (s₁ .line) x × (c′ ≡ c)) (On t (g + 1)) (gives-keeps (pageLimit 60) (beginMeaning (seen s₁) body (s .line) (s .tables) (s₁ .at) (s₁ .line) a) c (Begun (s .tables) (s₁ .at) (s₁ .line)) (begin-gives (seen s₁) body (s .line) (s .tables) (s₁ .at) (s₁ .line) a)) (λ x c′ q. rw (q .1) (begins-keep x (shaped Table (form.BeginTable a) e refl) (q .0)))
+  form-keeps (form.EndTable k) e = keeps-bind (pageLimit 60) (endMeaning (seen s₁) body (s .line) (s .tables) k) (λ x. done (tableEnded s₁ x)) c (λ x c′. Counting (s .tables) x × (c′ ≡ c)) (On t (g + 1)) (gives-keeps (pageLimit 60) (endMeaning (seen s₁) body (s .line) (s .tables) k) c (Counting (s .tables)) (end-gives (seen s₁) body (s .line) (s .tables) k)) (λ x c′ q. rw (q .1) (ends-keep x (shaped EndTable (form.EndTable k) e refl) (q .0)))
+  form-keeps (form.Records f) e = sets-keep (recordsMeaning (seen s₁) (s .line) f) (records-gives (seen s₁) (s .line) f) (plain (shaped Plain (form.Records f) e refl))
+  form-keeps (form.Entries f) e = sets-keep (entriesMeaning (seen s₁) (s .line) f) (entries-gives (seen s₁) (s .line) f) (plain (shaped Plain (form.Entries f) e refl))
+  form-keeps (form.Datasource x) e = let o = plain (shaped Plain (form.Datasource x) e refl) in keeps-bind (pageLimit 60) (datasourceMeaning (seen s₁) (s .line) x) (λ d. done (withDatasource s₁ d)) c (λ d c′. Selectable d × (c′ ≡ c)) (On t (g + 1)) (gives-keeps (pageLimit 60) (datasourceMeaning (seen s₁) (s .line) x) c Selectable (datasource-gives (seen s₁) (s .line) x)) (λ d c′ q. record { sound = sound-datasource (o .sound) d (q .0 .high); next = i .next ∙ ap suc (sym (q .1)) })
   form-keeps form.NoFormFeed e = record { sound = sound-feeds (plain (shaped Plain form.NoFormFeed e refl) .sound) false; next = i .next }
   form-keeps (form.NewPage n) e = pages-keep n (plain (shaped Plain (form.NewPage n) e refl))
   form-keeps (form.Heading n from) e = record { sound = sound-heading (plain (shaped Plain (form.Heading n from) e refl) .sound) n (record { start = s .at; length = length body; from = from; number = s .line }) (line-heading t (s .at) n (s .line) from (omega (arith, here .number)) e (opens-line checks (here .opens) h .short)); next = i .next }

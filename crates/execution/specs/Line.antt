@@ -6,12 +6,6 @@ use lib.IntN.{ℤ, pos}
 use lib.Signed.{ltZ}
 use lib.ListN.{length, drop}
 use Rattle.scan.specs.Line.{lineAt}
-use Rattle.arguments.specs.declared.argument.Argument.{Argument}
-use Rattle.arguments.specs.declared.index.Index.{Index}
-use Rattle.lines.specs.declared.command.Operation.{Operation}
-use Rattle.lines.specs.declared.command.Target.{Target}
-use Rattle.lines.specs.declared.command.Comparison.{Comparison}
-use Rattle.lines.specs.declared.command.Fetch.{Fetch}
 use Rattle.lines.specs.declared.command.Optional.{Optional}
 use Rattle.lines.specs.declared.command.Optional.the-variants.{Given, Absent}
 use Rattle.lines.specs.declared.command.Line.{Line}
@@ -29,7 +23,6 @@ use Rattle.commands.specs.Testing.{zeroMeaning, testMeaning}
 use Rattle.commands.specs.Looping.{Looping, innermost, beginMeaning, endMeaning}
 use Rattle.commands.specs.Fetching.{recordsMeaning, entriesMeaning}
 use Rattle.commands.specs.Selecting.{datasourceMeaning}
-use Rattle.pages.specs.declared.page.Page.{Page}
 use Rattle.pages.specs.declared.heading.Heading.{Heading}
 use Rattle.pages.specs.Heading.{noHeading}
 use Rattle.pages.specs.Page.{breakMeaning, lineStep}

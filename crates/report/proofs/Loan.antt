@@ -20,7 +20,6 @@ use types.Hole.{Holey, fillsL, settle}
 use denote.RattleType.{RattleType}
 use denote.Shadow.{pureL, pureI}
 use denote.Memory.{mem}
-use denote.Ref.{RefT}
 use denote.Slice.{sliceVal, MutSlice, Holeys, heres, Room, finally, at-slice, codedHoleys}
 
 module _ (R : RattleType) (n b o : ℕ) where

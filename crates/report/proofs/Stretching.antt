@@ -1,16 +1,15 @@
 -- A stretch of lines, line by line.
 use mathlib.Core.Path.{_≡_, refl, sym, ap, _∙_, subst}
-use mathlib.Core.Bool.{Bool, true, false, cond, false≢true}
+use mathlib.Core.Bool.{true, false, false≢true}
 use mathlib.Core.List.{List, [], _∷_}
 use Prim.Native.Nat.{ℕ, zero, suc, _+_, _-_, _≤_, _<_}
 use native.Mathlib.Omega.{arith}
 use native.Mathlib.Nat.{sub-zero}
 use borrow.Author.Tests.{lt-ltb, le-ltb}
-use lib.Dec.{ltb}
 use lib.ListN.{length, take, replicate, length-map}
 use lib.Seq.{length-take-le}
 use Rattle.meaning.specs.Answer.{Answer}
-use Rattle.meaning.specs.Tree.{Tree, done, stop, bind, End, finished}
+use Rattle.meaning.specs.Tree.{done, stop, bind, End, finished}
 use Rattle.meaning.specs.Place.{Place, at, Does, placesLeft, roomLeft, from}
 use Rattle.meaning.specs.Rule.{after, Keeps, AtEnd, pageLimit}
 use Rattle.meaning.specs.Number.{endOf}
@@ -33,13 +32,13 @@ use Rattle.execution.specs.declared.state.Flow.{Flow}
 use Rattle.execution.specs.declared.state.Lined.{Lined}
 use Rattle.execution.specs.State.{State, Held, stateOf}
 use Rattle.execution.specs.Line.{lineMeaning}
-use Rattle.execution.specs.Executing.{sourceOf, stateAt, Kept, LineReady, Executes}
+use Rattle.execution.specs.Executing.{sourceOf, stateAt, LineReady, Executes}
 use Rattle.execution.proofs.Sounds.{On, sound-more, line-keeps}
 use Rattle.report.specs.declared.state.Saved.{Saved}
 use Rattle.report.specs.declared.state.Stretch.{Stretch}
 use Rattle.report.specs.Report.{runFrom}
 use Rattle.report.specs.Start.{overAt, fullAt}
-use Rattle.report.specs.Stretch.{stretch, heldIn, storeOf, stateIn, Standing, RunReady, fresh, Over, Ran}
+use Rattle.report.specs.Stretch.{stretch, heldIn, storeOf, stateIn, Standing, RunReady, fresh, Ran}
 use Rattle.report.proofs.Splitting.{run-split}
 
 module _ (t : List ℕ) (end : ℕ) where

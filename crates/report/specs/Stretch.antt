@@ -1,6 +1,6 @@
 -- What `begin`, `run` and `report` ask for and hand back: a run goes stretch by stretch, as many lines as the log has places for.
 use mathlib.Core.Path.{_≡_}
-use mathlib.Core.Bool.{Bool, true, false, cond}
+use mathlib.Core.Bool.{true, false, cond}
 use mathlib.Core.List.{List, []}
 use Prim.Native.Nat.{ℕ, zero, suc, _+_, _-_, _≤_, _<_}
 use lib.Dec.{ltb}
@@ -17,7 +17,6 @@ use Rattle.meaning.specs.Meaning.{Meaning}
 use Rattle.meaning.specs.declared.question.Question.{Question}
 use Rattle.meaning.specs.declared.end.Ended.{Ended}
 use Rattle.values.specs.Word.{questions}
-use Rattle.execution.specs.declared.state.Flow.{Flow}
 use Rattle.report.specs.declared.state.Saved.{Saved}
 use Rattle.report.specs.declared.state.Log.{Log}
 use Rattle.report.specs.declared.state.Stretch.{Stretch}
