@@ -1,16 +1,10 @@
 //! Calculations, comparison and rounding.
 
+use station::testing;
+pub use station::testing::{compare, whole};
+
 pub const INTEGER: u8 = 0x49;
 pub const DECIMAL: u8 = 0x46;
-
-extern "C" {
-    fn station_integers(operation: u32, a: i64, b: i64, result: &mut i64) -> u32;
-    fn station_decimals(operation: u32, a: i64, b: i64, result: &mut i64) -> u32;
-    fn station_one(operation: u32, a: i64, result: &mut i64) -> u32;
-    fn station_whole(kind: u8, n: i64) -> i64;
-    fn station_compare(test: u32, kind: u8, a: i64, other: u8, b: i64) -> bool;
-    fn station_rounded(kind: u8, n: i64, places: usize, units: &mut u64) -> bool;
-}
 
 /// What stands in `result` before a call: a refusal leaves it.
 const BEFORE: i64 = 0x5a5a_5a5a;
@@ -27,28 +21,20 @@ fn told(call: impl FnOnce(&mut i64) -> u32) -> Result<i64, u32> {
 }
 
 pub fn integers(operation: u32, a: i64, b: i64) -> Result<i64, u32> {
-    told(|result| unsafe { station_integers(operation, a, b, result) })
+    told(|result| testing::integers(operation, a, b, result))
 }
 
 pub fn decimals(operation: u32, a: i64, b: i64) -> Result<i64, u32> {
-    told(|result| unsafe { station_decimals(operation, a, b, result) })
+    told(|result| testing::decimals(operation, a, b, result))
 }
 
 pub fn one(operation: u32, a: i64) -> Result<i64, u32> {
-    told(|result| unsafe { station_one(operation, a, result) })
-}
-
-pub fn whole(kind: u8, n: i64) -> i64 {
-    unsafe { station_whole(kind, n) }
-}
-
-pub fn compare(test: u32, a: (u8, i64), b: (u8, i64)) -> bool {
-    unsafe { station_compare(test, a.0, a.1, b.0, b.1) }
+    told(|result| testing::one(operation, a, result))
 }
 
 pub fn rounded(kind: u8, n: i64, places: usize) -> Option<u64> {
     let mut units = BEFORE as u64;
-    let there = unsafe { station_rounded(kind, n, places, &mut units) };
+    let there = testing::rounded(kind, n, places, &mut units);
     assert!(
         there || units == BEFORE as u64,
         "units changed though there are none"

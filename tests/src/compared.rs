@@ -3,7 +3,7 @@
 pub use second::{arguments, fields, lines, numbers, store, template, values};
 pub use second::{Answer, Asked, Edited, Question, Report, Value};
 
-use crate::report::Asked as Row;
+use crate::report::{asked as row, Asked as Row};
 
 pub fn report(
     template: &[u8],
@@ -14,7 +14,7 @@ pub fn report(
     reads: &mut [Question],
 ) -> Report {
     let mut other_text = text.to_vec();
-    let mut other_reads: Vec<Row> = reads.iter().map(|&q| q.into()).collect();
+    let mut other_reads: Vec<Row> = reads.iter().map(|&q| row(q)).collect();
     let end = second::report(template, section, store, len, text, reads);
     let other = crate::report::report(
         template,
@@ -26,10 +26,7 @@ pub fn report(
     );
     assert_eq!(other, end, "{}", String::from_utf8_lossy(template));
     assert_eq!(other_text, text);
-    assert!(other_reads
-        .iter()
-        .zip(reads)
-        .all(|(a, b)| *a == (*b).into()));
+    assert!(other_reads.iter().zip(reads).all(|(a, b)| *a == row(*b)));
     end
 }
 

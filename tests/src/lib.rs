@@ -1,4 +1,4 @@
-//! The calls of libstation.a, as crates/station/include/station.h declares them, and what the tests share.
+//! The calls of libstation.a, by `station::testing`, in the second interpreter's terms, and what the tests share.
 
 pub mod arithmetic;
 pub mod compared;

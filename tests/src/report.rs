@@ -1,60 +1,31 @@
 //! The report, and one call of it beside the second interpreter's: numbers, both buffers whole, and what lies behind them.
 
 use second::{Question, Report};
+use station::testing;
 
 /// A question as C has it.
-#[repr(C)]
-#[derive(Clone, Copy, Debug, Default, PartialEq, Eq)]
-pub struct Asked {
-    pub kind: u32,
-    pub datasource: u32,
-    pub parameter: u32,
-    pub record: u32,
-    pub entry: u32,
-}
+pub use station::testing::Asking as Asked;
 
-impl From<Question> for Asked {
-    fn from(q: Question) -> Self {
-        Asked {
-            kind: q.kind,
-            datasource: q.datasource,
-            parameter: q.parameter,
-            record: q.record,
-            entry: q.entry,
-        }
+/// The second interpreter's question as C has it.
+pub fn asked(q: Question) -> Asked {
+    Asked {
+        kind: q.kind,
+        datasource: q.datasource,
+        parameter: q.parameter,
+        record: q.record,
+        entry: q.entry,
     }
 }
 
-impl From<Asked> for Question {
-    fn from(q: Asked) -> Self {
-        Question {
-            kind: q.kind,
-            datasource: q.datasource,
-            parameter: q.parameter,
-            record: q.record,
-            entry: q.entry,
-        }
+/// And the other way round.
+pub fn question(q: Asked) -> Question {
+    Question {
+        kind: q.kind,
+        datasource: q.datasource,
+        parameter: q.parameter,
+        record: q.record,
+        entry: q.entry,
     }
-}
-
-extern "C" {
-    fn station_report(
-        template_bytes: *const u8,
-        template_length: usize,
-        section: *const u8,
-        section_length: usize,
-        buffer: *const u8,
-        buffer_length: usize,
-        length: usize,
-        text: *mut u8,
-        text_length: usize,
-        reads: *mut Asked,
-        places: usize,
-        line: &mut u32,
-        pages: &mut u32,
-        text_bytes: &mut usize,
-        questions: &mut usize,
-    ) -> u32;
 }
 
 pub fn report(
@@ -65,33 +36,13 @@ pub fn report(
     text: &mut [u8],
     reads: &mut [Asked],
 ) -> Report {
-    let (mut line, mut pages) = (u32::MAX, u32::MAX);
-    let (mut text_bytes, mut questions) = (usize::MAX, usize::MAX);
-    let number = unsafe {
-        station_report(
-            template.as_ptr(),
-            template.len(),
-            section.as_ptr(),
-            section.len(),
-            buffer.as_ptr(),
-            buffer.len(),
-            length,
-            text.as_mut_ptr(),
-            text.len(),
-            reads.as_mut_ptr(),
-            reads.len(),
-            &mut line,
-            &mut pages,
-            &mut text_bytes,
-            &mut questions,
-        )
-    };
+    let end = testing::report(template, section, buffer, length, text, reads);
     Report {
-        number,
-        line,
-        pages,
-        text_bytes,
-        questions,
+        number: end.number,
+        line: end.line,
+        pages: end.pages,
+        text_bytes: end.text_bytes,
+        questions: end.questions,
     }
 }
 
@@ -131,7 +82,7 @@ impl Pair {
             text: vec![BYTE; room + BEHIND],
             other_text: vec![BYTE; room + BEHIND],
             reads: vec![NO_QUESTION; places + BEHIND],
-            other_reads: vec![NO_QUESTION.into(); places + BEHIND],
+            other_reads: vec![question(NO_QUESTION); places + BEHIND],
         }
     }
 
@@ -166,7 +117,7 @@ impl Pair {
             && self.reads[..places + behind]
                 .iter()
                 .zip(&self.other_reads)
-                .all(|(a, b)| *a == (*b).into());
+                .all(|(a, b)| *a == asked(*b));
         (same, ours)
     }
 

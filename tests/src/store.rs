@@ -1,191 +1,56 @@
 //! The store: questions, puts, removes and the index.
 
+use crate::report::asked;
 use second::{Answer, Asked, Edited, Question, Value};
+use station::testing;
+pub use station::testing::Handed;
+pub use station::STORE_CELLS as MOST_CELLS;
 
-/// The most cells that a store holds: integers, the shortest, have 12 bytes.
-pub const MOST_CELLS: usize = 5_461;
-
-extern "C" {
-    fn station_ask(
-        buffer: *const u8,
-        buffer_length: usize,
-        length: usize,
-        kind: u32,
-        datasource: u32,
-        parameter: u32,
-        record: u32,
-        entry: u32,
-        answered: &mut u8,
-        value: &mut i64,
-        place: &mut usize,
-        count: &mut usize,
-    ) -> u32;
-    fn station_index(
-        buffer: *const u8,
-        buffer_length: usize,
-        length: usize,
-        places: *mut u16,
-        places_length: usize,
-        count: &mut usize,
-    ) -> u32;
-    fn station_look_up(
-        buffer: *const u8,
-        buffer_length: usize,
-        places: *const u16,
-        places_length: usize,
-        known: usize,
-        kind: u32,
-        datasource: u32,
-        parameter: u32,
-        record: u32,
-        entry: u32,
-        answered: &mut u8,
-        value: &mut i64,
-        place: &mut usize,
-        count: &mut usize,
-    );
-    fn station_put(
-        buffer: *mut u8,
-        buffer_length: usize,
-        length: usize,
-        cell: *const u8,
-        cell_length: usize,
-        left: &mut usize,
-    ) -> u32;
-    fn station_remove(
-        buffer: *mut u8,
-        buffer_length: usize,
-        length: usize,
-        key: *const u8,
-        key_length: usize,
-        left: &mut usize,
-    ) -> u32;
-}
-
-/// An answer as it is handed back: a kind, and what that kind needs.
-#[derive(Clone, Copy, Default)]
-pub struct Handed {
-    kind: u8,
-    value: i64,
-    place: usize,
-    count: usize,
-}
-
-impl Handed {
-    /// The answer in the second interpreter's terms: a string is a part of the store.
-    fn answer(self, buffer: &[u8]) -> Answer {
-        match self.kind {
-            0 => Answer::Cell(Value::Missing),
-            0x49 => Answer::Cell(Value::Integer(self.value)),
-            0x46 => Answer::Cell(Value::Decimal(self.value)),
-            0x53 => Answer::Cell(Value::String(buffer[self.place..][..self.count].to_vec())),
-            _ => Answer::Number(self.count as u32),
-        }
+/// The answer in the second interpreter's terms: a string is a part of the store.
+fn answer(h: Handed, buffer: &[u8]) -> Answer {
+    match h.kind {
+        0 => Answer::Cell(Value::Missing),
+        0x49 => Answer::Cell(Value::Integer(h.value)),
+        0x46 => Answer::Cell(Value::Decimal(h.value)),
+        0x53 => Answer::Cell(Value::String(buffer[h.place..][..h.count].to_vec())),
+        _ => Answer::Number(h.count as u32),
     }
 }
 
 pub fn ask(buffer: &[u8], length: usize, q: Question) -> Asked {
-    let mut h = Handed::default();
-    let number = unsafe {
-        station_ask(
-            buffer.as_ptr(),
-            buffer.len(),
-            length,
-            q.kind,
-            q.datasource,
-            q.parameter,
-            q.record,
-            q.entry,
-            &mut h.kind,
-            &mut h.value,
-            &mut h.place,
-            &mut h.count,
-        )
-    };
+    let (number, handed) = testing::ask(buffer, length, asked(q));
     Asked {
         number,
-        answer: h.answer(buffer),
+        answer: answer(handed, buffer),
     }
 }
 
 /// The number of cells, with their places written down; none where the store is out of form.
 pub fn index(buffer: &[u8], length: usize, places: &mut [u16]) -> Option<usize> {
     let mut count = 0;
-    let number = unsafe {
-        station_index(
-            buffer.as_ptr(),
-            buffer.len(),
-            length,
-            places.as_mut_ptr(),
-            places.len(),
-            &mut count,
-        )
-    };
+    let number = testing::index(buffer, length, places, &mut count);
     (number == 0).then_some(count)
 }
 
 /// A question over the places of a store's cells.
 pub fn look_up(buffer: &[u8], places: &[u16], known: usize, q: Question, h: &mut Handed) {
-    unsafe {
-        station_look_up(
-            buffer.as_ptr(),
-            buffer.len(),
-            places.as_ptr(),
-            places.len(),
-            known,
-            q.kind,
-            q.datasource,
-            q.parameter,
-            q.record,
-            q.entry,
-            &mut h.kind,
-            &mut h.value,
-            &mut h.place,
-            &mut h.count,
-        )
-    };
+    testing::look_up(buffer, places, known, asked(q), h);
 }
 
 pub fn looked_up(buffer: &[u8], places: &[u16], known: usize, q: Question) -> Answer {
     let mut h = Handed::default();
     look_up(buffer, places, known, q, &mut h);
-    h.answer(buffer)
+    answer(h, buffer)
 }
 
 pub fn put(buffer: &mut [u8], length: usize, cell: &[u8]) -> Edited {
-    let mut left = usize::MAX;
-    let number = unsafe {
-        station_put(
-            buffer.as_mut_ptr(),
-            buffer.len(),
-            length,
-            cell.as_ptr(),
-            cell.len(),
-            &mut left,
-        )
-    };
-    Edited {
-        number,
-        length: left,
-    }
+    let (number, length) = testing::put(buffer, length, cell);
+    Edited { number, length }
 }
 
 pub fn remove(buffer: &mut [u8], length: usize, key: &[u8]) -> Edited {
-    let mut left = usize::MAX;
-    let number = unsafe {
-        station_remove(
-            buffer.as_mut_ptr(),
-            buffer.len(),
-            length,
-            key.as_ptr(),
-            key.len(),
-            &mut left,
-        )
-    };
-    Edited {
-        number,
-        length: left,
-    }
+    let (number, length) = testing::remove(buffer, length, key);
+    Edited { number, length }
 }
 
 /// A cell's bytes, from its key's four numbers and its value.

@@ -4,7 +4,7 @@ use second::{Question, Value};
 use station_tests::compared::{ask, put, remove};
 use station_tests::generated::{case, store, template, Case, MOST_PLACES, MOST_ROOM};
 use station_tests::random::Random;
-use station_tests::report::{report, Asked, Call, Pair};
+use station_tests::report::{question, report, Asked, Call, Pair};
 use station_tests::sheets::{sheets, small_store, Sheet, PAPER, STORE, TEMPLATE};
 use station_tests::store::{cell, key};
 
@@ -162,52 +162,9 @@ fn every_room_and_every_number_of_places_of_a_dozen_sheets() {
 
 #[test]
 fn empty_slices_may_be_null() {
-    #[allow(clippy::type_complexity)]
-    extern "C" {
-        fn station_report(
-            template_bytes: *const u8,
-            template_length: usize,
-            section: *const u8,
-            section_length: usize,
-            buffer: *const u8,
-            buffer_length: usize,
-            length: usize,
-            text: *mut u8,
-            text_length: usize,
-            reads: *mut Asked,
-            places: usize,
-            line: &mut u32,
-            pages: &mut u32,
-            text_bytes: &mut usize,
-            questions: &mut usize,
-        ) -> u32;
-    }
-    let (mut line, mut pages, mut bytes, mut questions) = (9, 9, 9, 9);
-    let mut ends = |template: &[u8]| {
-        let number = unsafe {
-            station_report(
-                if template.is_empty() {
-                    std::ptr::null()
-                } else {
-                    template.as_ptr()
-                },
-                template.len(),
-                std::ptr::null(),
-                0,
-                std::ptr::null(),
-                0,
-                0,
-                std::ptr::null_mut(),
-                0,
-                std::ptr::null_mut(),
-                0,
-                &mut line,
-                &mut pages,
-                &mut bytes,
-                &mut questions,
-            )
-        };
-        (number, line, pages, bytes, questions)
+    let ends = |template| {
+        let e = station::testing::report_of_nulls(template);
+        (e.number, e.line, e.pages, e.text_bytes, e.questions)
     };
     assert_eq!(ends(b""), (6, 0, 0, 0, 0));
     assert_eq!(ends(b"$SEC A\n"), (0, 0, 1, 0, 0));
@@ -294,7 +251,7 @@ fn a_reprint_is_the_first_sheet_where_every_question_answers_as_before() {
         let end = pair.report(first, 6_000, 500);
         let text = pair.text(&end).to_vec();
         let reads = pair.reads(&end).to_vec();
-        let questions: Vec<Question> = reads.iter().map(|&q| q.into()).collect();
+        let questions: Vec<Question> = reads.iter().map(|&q| question(q)).collect();
         let before: Vec<_> = questions.iter().map(|&q| ask(&buffer, length, q)).collect();
         for _ in 0..random.below(6) {
             let place = some_key(&mut random, &reads);

@@ -1,0 +1,451 @@
+//! The declarations of libstation.a and every `unsafe` of this crate.
+//!
+//! Each call is wrapped once, with slices for pointers and lengths. What the headers ask of a caller then holds by the types:
+//! slices and outputs that Rust lends don't overlap and aren't null, and nothing is kept after a call.
+
+/// A question as C has it: `struct station_question`.
+#[repr(C)]
+#[derive(Clone, Copy, Debug, Default, PartialEq, Eq)]
+pub struct Asking {
+    /// 1 for a cell, 2 for a highest record, 3 for a highest entry.
+    pub kind: u32,
+    pub datasource: u32,
+    pub parameter: u32,
+    pub record: u32,
+    pub entry: u32,
+}
+
+/// An answer as C hands it back: a kind, and what that kind needs.
+#[derive(Clone, Copy, Debug, Default)]
+pub struct Handed {
+    /// 0 for missing, the kind of a cell, or 1 for a highest number.
+    pub kind: u8,
+    pub value: i64,
+    pub place: usize,
+    pub count: usize,
+}
+
+/// What a report hands back beside its buffers.
+#[derive(Clone, Copy, Debug, PartialEq, Eq)]
+pub struct Ending {
+    pub number: u32,
+    pub line: u32,
+    pub pages: u32,
+    pub text_bytes: usize,
+    pub questions: usize,
+}
+
+// station.h
+extern "C" {
+    fn station_ask(
+        buffer: *const u8,
+        buffer_length: usize,
+        length: usize,
+        kind: u32,
+        datasource: u32,
+        parameter: u32,
+        record: u32,
+        entry: u32,
+        answered: &mut u8,
+        value: &mut i64,
+        place: &mut usize,
+        count: &mut usize,
+    ) -> u32;
+    fn station_put(
+        buffer: *mut u8,
+        buffer_length: usize,
+        length: usize,
+        cell: *const u8,
+        cell_length: usize,
+        left: &mut usize,
+    ) -> u32;
+    fn station_remove(
+        buffer: *mut u8,
+        buffer_length: usize,
+        length: usize,
+        key: *const u8,
+        key_length: usize,
+        left: &mut usize,
+    ) -> u32;
+    fn station_check(
+        text: *const u8,
+        text_length: usize,
+        section: *const u8,
+        section_length: usize,
+        line: &mut u32,
+    ) -> u32;
+    fn station_report(
+        template_bytes: *const u8,
+        template_length: usize,
+        section: *const u8,
+        section_length: usize,
+        buffer: *const u8,
+        buffer_length: usize,
+        length: usize,
+        text: *mut u8,
+        text_length: usize,
+        reads: *mut Asking,
+        places: usize,
+        line: &mut u32,
+        pages: &mut u32,
+        text_bytes: &mut usize,
+        questions: &mut usize,
+    ) -> u32;
+}
+
+// station_testing.h
+extern "C" {
+    fn station_integers(operation: u32, a: i64, b: i64, result: &mut i64) -> u32;
+    fn station_decimals(operation: u32, a: i64, b: i64, result: &mut i64) -> u32;
+    fn station_one(operation: u32, a: i64, result: &mut i64) -> u32;
+    fn station_whole(kind: u8, n: i64) -> i64;
+    fn station_compare(test: u32, kind: u8, a: i64, other: u8, b: i64) -> bool;
+    fn station_rounded(kind: u8, n: i64, places: usize, units: &mut u64) -> bool;
+    fn station_number_field(
+        buffer: *mut u8,
+        length: usize,
+        at: usize,
+        width: usize,
+        said: bool,
+        places: usize,
+        kind: u8,
+        n: i64,
+    ) -> bool;
+    fn station_string_field(
+        buffer: *mut u8,
+        length: usize,
+        at: usize,
+        width: usize,
+        bytes: *const u8,
+        bytes_length: usize,
+    ) -> bool;
+    fn station_missing_field(buffer: *mut u8, length: usize, at: usize, width: usize) -> bool;
+    fn station_index(
+        buffer: *const u8,
+        buffer_length: usize,
+        length: usize,
+        places: *mut u16,
+        places_length: usize,
+        count: &mut usize,
+    ) -> u32;
+    fn station_look_up(
+        buffer: *const u8,
+        buffer_length: usize,
+        places: *const u16,
+        places_length: usize,
+        known: usize,
+        kind: u32,
+        datasource: u32,
+        parameter: u32,
+        record: u32,
+        entry: u32,
+        answered: &mut u8,
+        value: &mut i64,
+        place: &mut usize,
+        count: &mut usize,
+    );
+    fn station_line(
+        line: *const u8,
+        line_length: usize,
+        numbers: *mut u64,
+        numbers_length: usize,
+    ) -> bool;
+    fn station_piece(
+        line: *const u8,
+        line_length: usize,
+        at: usize,
+        numbers: *mut u64,
+        numbers_length: usize,
+    ) -> bool;
+}
+
+/// The number, and the answer handed back.
+#[inline]
+pub fn ask(buffer: &[u8], length: usize, q: Asking) -> (u32, Handed) {
+    let mut h = Handed::default();
+    let number = unsafe {
+        station_ask(
+            buffer.as_ptr(),
+            buffer.len(),
+            length,
+            q.kind,
+            q.datasource,
+            q.parameter,
+            q.record,
+            q.entry,
+            &mut h.kind,
+            &mut h.value,
+            &mut h.place,
+            &mut h.count,
+        )
+    };
+    (number, h)
+}
+
+/// The number, and the store's length afterwards.
+#[inline]
+pub fn put(buffer: &mut [u8], length: usize, cell: &[u8]) -> (u32, usize) {
+    let mut left = usize::MAX;
+    let number = unsafe {
+        station_put(
+            buffer.as_mut_ptr(),
+            buffer.len(),
+            length,
+            cell.as_ptr(),
+            cell.len(),
+            &mut left,
+        )
+    };
+    (number, left)
+}
+
+/// The number, and the store's length afterwards.
+#[inline]
+pub fn remove(buffer: &mut [u8], length: usize, key: &[u8]) -> (u32, usize) {
+    let mut left = usize::MAX;
+    let number = unsafe {
+        station_remove(
+            buffer.as_mut_ptr(),
+            buffer.len(),
+            length,
+            key.as_ptr(),
+            key.len(),
+            &mut left,
+        )
+    };
+    (number, left)
+}
+
+/// The number and the line of checks 2 to 6.
+#[inline]
+pub fn check(template: &[u8], section: &[u8]) -> (u32, u32) {
+    let mut line = u32::MAX;
+    let number = unsafe {
+        station_check(
+            template.as_ptr(),
+            template.len(),
+            section.as_ptr(),
+            section.len(),
+            &mut line,
+        )
+    };
+    (number, line)
+}
+
+/// A report in lent buffers.
+#[inline]
+pub fn report(
+    template: &[u8],
+    section: &[u8],
+    buffer: &[u8],
+    length: usize,
+    text: &mut [u8],
+    reads: &mut [Asking],
+) -> Ending {
+    let (mut line, mut pages) = (u32::MAX, u32::MAX);
+    let (mut text_bytes, mut questions) = (usize::MAX, usize::MAX);
+    let number = unsafe {
+        station_report(
+            template.as_ptr(),
+            template.len(),
+            section.as_ptr(),
+            section.len(),
+            buffer.as_ptr(),
+            buffer.len(),
+            length,
+            text.as_mut_ptr(),
+            text.len(),
+            reads.as_mut_ptr(),
+            reads.len(),
+            &mut line,
+            &mut pages,
+            &mut text_bytes,
+            &mut questions,
+        )
+    };
+    Ending {
+        number,
+        line,
+        pages,
+        text_bytes,
+        questions,
+    }
+}
+
+/// A report without a name, store, text or read list: null pointers, as C may hand them in with length 0. An empty template is
+/// null too.
+pub fn report_of_nulls(template: &[u8]) -> Ending {
+    let (null, mut end) = (
+        std::ptr::null(),
+        Ending {
+            number: u32::MAX,
+            line: u32::MAX,
+            pages: u32::MAX,
+            text_bytes: usize::MAX,
+            questions: usize::MAX,
+        },
+    );
+    let start = if template.is_empty() {
+        null
+    } else {
+        template.as_ptr()
+    };
+    end.number = unsafe {
+        station_report(
+            start,
+            template.len(),
+            null,
+            0,
+            null,
+            0,
+            0,
+            std::ptr::null_mut(),
+            0,
+            std::ptr::null_mut(),
+            0,
+            &mut end.line,
+            &mut end.pages,
+            &mut end.text_bytes,
+            &mut end.questions,
+        )
+    };
+    end
+}
+
+#[inline]
+pub fn integers(operation: u32, a: i64, b: i64, result: &mut i64) -> u32 {
+    unsafe { station_integers(operation, a, b, result) }
+}
+
+#[inline]
+pub fn decimals(operation: u32, a: i64, b: i64, result: &mut i64) -> u32 {
+    unsafe { station_decimals(operation, a, b, result) }
+}
+
+#[inline]
+pub fn one(operation: u32, a: i64, result: &mut i64) -> u32 {
+    unsafe { station_one(operation, a, result) }
+}
+
+#[inline]
+pub fn whole(kind: u8, n: i64) -> i64 {
+    unsafe { station_whole(kind, n) }
+}
+
+#[inline]
+pub fn compare(test: u32, a: (u8, i64), b: (u8, i64)) -> bool {
+    unsafe { station_compare(test, a.0, a.1, b.0, b.1) }
+}
+
+#[inline]
+pub fn rounded(kind: u8, n: i64, places: usize, units: &mut u64) -> bool {
+    unsafe { station_rounded(kind, n, places, units) }
+}
+
+#[inline]
+pub fn number_field(
+    buffer: &mut [u8],
+    at: usize,
+    width: usize,
+    places: Option<usize>,
+    kind: u8,
+    n: i64,
+) -> bool {
+    let (said, d) = (places.is_some(), places.unwrap_or(0));
+    unsafe {
+        station_number_field(
+            buffer.as_mut_ptr(),
+            buffer.len(),
+            at,
+            width,
+            said,
+            d,
+            kind,
+            n,
+        )
+    }
+}
+
+#[inline]
+pub fn string_field(buffer: &mut [u8], at: usize, width: usize, bytes: &[u8]) -> bool {
+    unsafe {
+        station_string_field(
+            buffer.as_mut_ptr(),
+            buffer.len(),
+            at,
+            width,
+            bytes.as_ptr(),
+            bytes.len(),
+        )
+    }
+}
+
+#[inline]
+pub fn missing_field(buffer: &mut [u8], at: usize, width: usize) -> bool {
+    unsafe { station_missing_field(buffer.as_mut_ptr(), buffer.len(), at, width) }
+}
+
+/// The number; the places of the cells go to `places`, their count to `count`.
+#[inline]
+pub fn index(buffer: &[u8], length: usize, places: &mut [u16], count: &mut usize) -> u32 {
+    unsafe {
+        station_index(
+            buffer.as_ptr(),
+            buffer.len(),
+            length,
+            places.as_mut_ptr(),
+            places.len(),
+            count,
+        )
+    }
+}
+
+/// A question over the first `known` places of a store's cells.
+#[inline]
+pub fn look_up(buffer: &[u8], places: &[u16], known: usize, q: Asking, h: &mut Handed) {
+    unsafe {
+        station_look_up(
+            buffer.as_ptr(),
+            buffer.len(),
+            places.as_ptr(),
+            places.len(),
+            known,
+            q.kind,
+            q.datasource,
+            q.parameter,
+            q.record,
+            q.entry,
+            &mut h.kind,
+            &mut h.value,
+            &mut h.place,
+            &mut h.count,
+        )
+    };
+}
+
+/// Whether there was room for the row of a line.
+#[inline]
+pub fn line(line: &[u8], numbers: &mut [u64]) -> bool {
+    unsafe {
+        station_line(
+            line.as_ptr(),
+            line.len(),
+            numbers.as_mut_ptr(),
+            numbers.len(),
+        )
+    }
+}
+
+/// Whether there was room for the row of a piece.
+#[inline]
+pub fn piece(line: &[u8], at: usize, numbers: &mut [u64]) -> bool {
+    unsafe {
+        station_piece(
+            line.as_ptr(),
+            line.len(),
+            at,
+            numbers.as_mut_ptr(),
+            numbers.len(),
+        )
+    }
+}
