@@ -1,8 +1,20 @@
-/* The calls of libstation.a. Nothing checks these declarations against the Rattle source: keep them beside it. */
+/* The calls of libstation.a for those who link it. A test compares the names with the Rattle source, nothing the
+   parameters: keep them beside it. The calls that only tests need are in station_testing.h.
+
+   What every call here gives is document 01's ("Counting-station report interpreter"): a result or one numbered refusal, for
+   any bytes and any lengths. Only the pointers are the caller's care:
+
+   - A slice is a pointer and then a length. The pointer may be null where the length is 0, and only there.
+   - No output pointer is null. `struct station_question`, numbers and sizes are aligned as C aligns them.
+   - A buffer or output that a call writes to overlaps with nothing else that the call is handed. What it only reads may
+     overlap: template, section and store of a report.
+   - A `length` longer than its buffer is no fault: it is refused with 1.
+   - Nothing is kept after a call, and no call has a state of its own: calls may run at the same time on any threads, as long
+     as none writes what another reads or writes.
+   - A call takes less than 64 KB of stack (STATION_STACK_BYTES), no heap, and calls nothing but memcpy and memset. */
 #ifndef STATION_H
 #define STATION_H
 
-#include <stdbool.h>
 #include <stddef.h>
 #include <stdint.h>
 
@@ -10,50 +22,44 @@
 extern "C" {
 #endif
 
-/* A byte slice is passed as a pointer and then a length. Kinds are those of a cell: 0x49 integer, 0x46 decimal
-   (a count of millionths); any other kind is taken for a decimal. */
+/* The most bytes of a store, and the most cells that they can hold: integers, the shortest, have 12 bytes. */
+#define STATION_STORE_BYTES 65536
+#define STATION_STORE_CELLS 5461
 
-/* operation: 0 add, 1 subtract, 2 multiply, any other divide. 0 and the value in *result, or 12 or 13. */
-uint32_t station_integers(uint32_t operation, int64_t a, int64_t b, int64_t *result);
-uint32_t station_decimals(uint32_t operation, int64_t a, int64_t b, int64_t *result);
+/* The most bytes of a template. */
+#define STATION_TEMPLATE_BYTES 32768
 
-/* operation: 0 magnitude of an integer, 1 of a decimal, any other an integer as a decimal. */
-uint32_t station_one(uint32_t operation, int64_t a, int64_t *result);
+/* The text and the read list that the program `sheet` lends; a caller may lend more or less. */
+#define STATION_TEXT_BYTES 65536
+#define STATION_READ_PLACES 4096
 
-/* The integer next to a number, toward zero. */
-int64_t station_whole(uint8_t kind, int64_t n);
+/* Stack that is enough for any call. */
+#define STATION_STACK_BYTES 65536
 
-/* test: 0 a < b, 1 a <= b, any other a = b; by value, whatever the kinds. */
-bool station_compare(uint32_t test, uint8_t kind, int64_t a, uint8_t other, int64_t b);
+/* What an answer is: no cell, a highest number, or the kind of a cell. */
+#define STATION_MISSING 0x00
+#define STATION_HIGHEST 0x01
+#define STATION_INTEGER 0x49
+#define STATION_DECIMAL 0x46
+#define STATION_STRING 0x53
 
-/* The magnitude of a number, rounded, in units of the last of 0 to 6 places, in *units; false where there is none. */
-bool station_rounded(uint8_t kind, int64_t n, size_t places, uint64_t *units);
+/* A question: its kind (1 a cell, 2 a parameter's highest record, 3 a record's highest entry) and four numbers, those that the
+   kind doesn't use 0. */
+struct station_question {
+    uint32_t kind, datasource, parameter, record, entry;
+};
 
-/* A value in the `width` bytes of a field at `at`; places count only where said. False, and nothing written, where
-   width, places or number is out of its limits or the buffer has no room. */
-bool station_number_field(uint8_t *buffer, size_t length, size_t at, size_t width, bool said, size_t places,
-                          uint8_t kind, int64_t n);
-bool station_string_field(uint8_t *buffer, size_t length, size_t at, size_t width, const uint8_t *bytes,
-                          size_t bytes_length);
-bool station_missing_field(uint8_t *buffer, size_t length, size_t at, size_t width);
-
-/* Questions and edits of a store: a buffer, and the store's length in it. `answered` is 0 for missing, the kind of a
-   cell (0x49 and 0x46 with *value; 0x53 with *place and *count, a part of the buffer), or 1 for the highest number of
-   kinds 2 and 3, in *count. The number that document 01 gives is returned. */
+/* Ask: a question to the store in the first `length` bytes of a buffer. The number that document 01 gives is returned: 0, 1 or
+   15. *answered says what the answer is, STATION_MISSING also where the question is refused. An integer and a decimal (a count
+   of millionths) are in *value; of a string, *place and *count say where it lies in the buffer and how long it is; a highest
+   number is in *count. Outputs that an answer doesn't need may hold anything afterwards. */
 uint32_t station_ask(const uint8_t *buffer, size_t buffer_length, size_t length, uint32_t kind, uint32_t datasource,
                      uint32_t parameter, uint32_t record, uint32_t entry, uint8_t *answered, int64_t *value,
                      size_t *place, size_t *count);
 
-/* The places of the store's cells, at most 5,461 of them, and their count; 1 where the store is out of form. */
-uint32_t station_index(const uint8_t *buffer, size_t buffer_length, size_t length, uint16_t *places,
-                       size_t places_length, size_t *count);
-
-/* A question over the first `known` places, which station_index wrote for this store. */
-void station_look_up(const uint8_t *buffer, size_t buffer_length, const uint16_t *places, size_t places_length,
-                     size_t known, uint32_t kind, uint32_t datasource, uint32_t parameter, uint32_t record,
-                     uint32_t entry, uint8_t *answered, int64_t *value, size_t *place, size_t *count);
-
-/* A cell as the store holds it, or a key's seven bytes. *left is the store's length afterwards. */
+/* Put: a cell as the store holds it, a byte of kind, a key's seven bytes, a value of 4, 8 or 17 bytes. Remove: a key's seven
+   bytes. The number is returned: 0, 1, 15, and 16 for a put, 17 for a remove. *left is the store's length afterwards, the old
+   one where the edit is refused. */
 uint32_t station_put(uint8_t *buffer, size_t buffer_length, size_t length, const uint8_t *cell, size_t cell_length,
                      size_t *left);
 uint32_t station_remove(uint8_t *buffer, size_t buffer_length, size_t length, const uint8_t *key, size_t key_length,
@@ -63,52 +69,10 @@ uint32_t station_remove(uint8_t *buffer, size_t buffer_length, size_t length, co
 uint32_t station_check(const uint8_t *text, size_t text_length, const uint8_t *section, size_t section_length,
                        uint32_t *line);
 
-/* The parsed form of a line without its line end, and of the piece of its text at `at`, as 16 numbers: a form, a
-   number, seven numbers each of a first and a second argument. What is not there is 0. False, and nothing written, where
-   there are fewer than 16 places.
-
-   line                            form  number                  first                            second
-   without a form                    0
-   text                              1
-   $SEC                              2                           the name's start and end
-   $SETE $SETA $SETS $SETM $SETD     3   1 to 5                  the variable                     the argument
-   $IFNOT                            4                           the argument
-   $IF                               5                           the argument
-   $IFEQSS $IFEQSI $IFEQ $IFNE       6   1 to 4                  the argument                     the argument
-   $IFLT $IFLE $IFGT $IFGE           6   5 to 8                  the argument                     the argument
-   $ELSE, $ENDIF                   7, 8
-   $BT, $ET                       9, 10                          the argument
-   $REC, $TBL                    11, 12  n                       the parameter, three indexes
-   $SETDS                           13                           the index
-   $NOFF                            14
-   $NP                              15                           the argument
-   $PHn with a text                 16   n                       the text's start
-   $PHn alone                       17   n
-   $REM                             18
-
-   piece
-   none, also behind the end         0
-   a byte                            1   the place behind it     the byte
-   a field                           2   the place behind it     the argument                     w, 1 with .d, d
-
-   An argument is a kind, five numbers and a filter: 0 for none, 1 to 6 for ABS INT UPPER LEN RECCNT ENTCNT.
-   1 an integer, 2 a decimal in millionths: 1 below zero, the magnitude. 3 a string: its start and end in the line.
-   4 IVn, 5 FVn, 6 SVn, 10 Rn, 11 Tn: n. 7 PAGENUM, 8 LINENUM, 9 LOOP. 12 Pn, 13 Pn.r, 14 Pn.r.e: n, the indexes.
-   An index is two numbers: 1 and its value, 2 and n for IVn, 3 and 0 for LOOP. */
-bool station_line(const uint8_t *line, size_t line_length, uint64_t *numbers, size_t numbers_length);
-bool station_piece(const uint8_t *line, size_t line_length, size_t at, uint64_t *numbers, size_t numbers_length);
-
-/* A question: its kind and four numbers, those that the kind doesn't use 0. */
-struct station_question {
-    uint32_t kind, datasource, parameter, record, entry;
-};
-
 /* The report of a template on the store in the first `length` bytes of a buffer. `section` is the caller's name for a
    section, empty for all. The text and the questions asked go to the starts of `text` and `reads`; the rest of both stays as
-   it is. The number that the report ends with is returned, its line, its pages, its text bytes and its questions go to the
-   four outputs. Every number is document 01's: nothing that is handed in is a fault of the caller, but for the pointers. No
-   two of the buffers and outputs may overlap, and no output may be null; a slice of length 0 may be. It takes less than 64 KB
-   of stack. */
+   it is. The number that the report ends with, 0 to 14, is returned; its line, its pages, its text bytes and its questions go
+   to the four outputs. */
 uint32_t station_report(const uint8_t *template_bytes, size_t template_length, const uint8_t *section, size_t section_length,
                         const uint8_t *buffer, size_t buffer_length, size_t length, uint8_t *text, size_t text_length,
                         struct station_question *reads, size_t places,
