@@ -27,6 +27,7 @@
 #![deny(unsafe_code, missing_docs)]
 
 mod decimal;
+mod explain;
 #[allow(unsafe_code, missing_docs)]
 mod ffi;
 mod question;
@@ -37,10 +38,13 @@ mod template;
 #[doc(hidden)]
 #[allow(missing_docs)]
 pub mod testing;
+mod text;
 
 pub use decimal::{Decimal, NotADecimal};
+pub use explain::Explanation;
 pub use question::{Answer, Cell, Key, Question, Value};
 pub use refusal::Refusal;
 pub use report::{report, report_within, Report, READ_PLACES, TEXT_BYTES};
 pub use store::{Cells, Store, STORE_BYTES, STORE_CELLS};
 pub use template::{Refused, Template, TEMPLATE_BYTES};
+pub use text::{NotACell, NotText};
