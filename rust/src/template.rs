@@ -59,18 +59,6 @@ impl Template {
             .filter_map(|line| line.strip_prefix("$SEC "))
     }
 
-    /// A line, counted from 1, without its line end.
-    ///
-    /// ```
-    /// let template = station::Template::check("$SEC A\nx")?;
-    /// assert_eq!(template.line(2), Some("x"));
-    /// # Ok::<(), station::Refused>(())
-    /// ```
-    pub fn line(&self, number: u32) -> Option<&str> {
-        let before = (number as usize).checked_sub(1)?;
-        self.text.lines().nth(before)
-    }
-
     /// The bytes of the template.
     ///
     /// ```

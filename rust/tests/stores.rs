@@ -257,6 +257,29 @@ fn a_link_to_a_store_stays_a_link() {
 }
 
 #[test]
+fn only_a_file_that_may_be_written_is_replaced() {
+    let folder = folder("replaced", &[("text", b""), ("s", b"")]);
+    fs::create_dir(folder.join("folder")).unwrap();
+    let mut permissions = fs::metadata(folder.join("s")).unwrap().permissions();
+    permissions.set_readonly(true);
+    fs::set_permissions(folder.join("s"), permissions).unwrap();
+    let make = |target| station(&folder, &["store", "make", "text", target]);
+    let put = station(
+        &folder,
+        &["store", "put", "s", "1", "1", "0", "0", "I", "1"],
+    );
+    let denied = "station: s: permission denied\n";
+    assert_eq!(put, said(2, "", denied));
+    assert_eq!(make("s"), said(2, "", denied));
+    assert_eq!(
+        make("folder"),
+        said(2, "", "station: folder: not a file that can be replaced\n")
+    );
+    assert_eq!(names(&folder), ["folder", "s", "text"]);
+    assert_eq!(bytes(&folder, "s"), b"");
+}
+
+#[test]
 fn a_folder_that_is_not_there_is_a_message() {
     let folder = folder("nowhere", &[("text", b"")]);
     let (status, out, err) = station(&folder, &["store", "make", "text", "no/store"]);

@@ -3,7 +3,7 @@
 use crate::end::{wrong, End};
 use station::{Store, STORE_BYTES, TEMPLATE_BYTES};
 use std::ffi::OsStr;
-use std::fs::{self, File, OpenOptions};
+use std::fs::{self, File, Metadata, OpenOptions};
 use std::io::{self, Read, Write};
 use std::path::{Path, PathBuf};
 
@@ -73,16 +73,28 @@ pub fn write(path: &OsStr, bytes: &[u8]) -> End {
 }
 
 fn replace(target: &Path, new: &Path, bytes: &[u8]) -> io::Result<()> {
-    if target.is_dir() {
-        return Err(io::Error::from(io::ErrorKind::IsADirectory));
+    let old = fs::metadata(target).ok();
+    if let Some(old) = &old {
+        replaceable(old)?;
     }
     let mut file = OpenOptions::new().write(true).create_new(true).open(new)?;
     file.write_all(bytes)?;
-    if let Ok(old) = fs::metadata(target) {
+    if let Some(old) = old {
         file.set_permissions(old.permissions())?;
     }
     file.sync_all()?;
     fs::rename(new, target)
+}
+
+/// A renaming would replace a device too, and a file that may not be written.
+fn replaceable(old: &Metadata) -> io::Result<()> {
+    if !old.is_file() {
+        return Err(io::Error::other("not a file that can be replaced"));
+    }
+    match old.permissions().readonly() {
+        true => Err(io::ErrorKind::PermissionDenied.into()),
+        false => Ok(()),
+    }
 }
 
 /// Standard output.

@@ -11,6 +11,7 @@ mod stores;
 use end::{wrong, End};
 use std::env;
 use std::ffi::OsString;
+use std::io::{self, Write};
 use std::process::ExitCode;
 
 /// A call: its words, what it takes, what it does, and with how many arguments.
@@ -151,7 +152,8 @@ fn main() -> ExitCode {
     let status = match run(&arguments) {
         Ok(()) => 0,
         Err(fault) => {
-            eprintln!("{}", fault.message);
+            // Where nobody listens, the status still says it.
+            let _ = writeln!(io::stderr(), "{}", fault.message);
             fault.status
         }
     };
