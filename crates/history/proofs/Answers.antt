@@ -28,7 +28,7 @@ answered m cs q h a = rw (h, a)
 
 -- ---- edits of other keys
 
-changed-other : (k : Key) (e : Change) (cs : List Cell) → isKey k (keyNamed e) ≡ false → lookup (number k) (changed e cs) ≡ lookup (number k) cs
+pub changed-other : (k : Key) (e : Change) (cs : List Cell) → isKey k (keyNamed e) ≡ false → lookup (number k) (changed e cs) ≡ lookup (number k) cs
 unfolding keyNamed keyOfCell isKey changed withPut withoutRemoved
 changed-other k (put s) cs = go (wholeCell s)
   where

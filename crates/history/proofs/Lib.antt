@@ -5,6 +5,7 @@ pub mod Form
 pub mod Lists
 pub mod ByCells
 pub mod Answers
+pub mod Outside
 pub mod Found
 pub mod Same
 pub mod Keys

@@ -2,6 +2,7 @@
 use mathlib.Core.Path.{_≡_, sym}
 use mathlib.Core.List.{List, [], _∷_}
 use Prim.Native.Nat.{ℕ}
+use Rattle.meaning.specs.Answer.{Answer}
 use Rattle.meaning.specs.Tree.{run}
 use Rattle.meaning.specs.Meaning.{Meaning}
 use Rattle.meaning.specs.Compare.{Agree}
@@ -26,9 +27,16 @@ before-agree m m′ (q ∷ qs) h = (sym (h .0), before-agree m m′ qs (h .1))
 pub same-answers : (es : List Change) (m : State) (qs : List Question) → AsBefore m (after es m) qs → SameAnswers m (after es m) qs
 same-answers es m qs h = record { form = sym (same-form es m); agree = before-agree m (after es m) qs h }
 
+-- The same through any view of a store, such as a list of rights, if each question that the first run asked is answered by it as
+-- before.
+pub same-view : {A : Type 0} (view : State → Question → Answer) (es : List Change) (m : State) (places room : ℕ) (t : Meaning A)
+    → Agree (view m) (view (after es m)) (run (view m) places room t .asked)
+    → run (view m) places room t ≡ run (view (after es m)) places room t
+same-view view es m places room t h = same (view m) (view (after es m)) places room t h
+
 -- any tree has the same run on both, if each question that the first run asked is answered as before
 pub same-run : {A : Type 0} (es : List Change) (m : State) (places room : ℕ) (t : Meaning A)
     → AsBefore m (after es m) (run (answerIn m) places room t .asked)
     → run (answerIn m) places room t ≡ run (answerIn (after es m)) places room t
 same-run es m places room t h =
-    same (answerIn m) (answerIn (after es m)) places room t (same-answers es m (run (answerIn m) places room t .asked) h .agree)
+    same-view answerIn es m places room t (same-answers es m (run (answerIn m) places room t .asked) h .agree)

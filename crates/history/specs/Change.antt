@@ -56,6 +56,15 @@ isKey k (some l) = eqb (number l) (number k)
 unfoldable pub touches : Key → Change → State → Bool
 touches k e m = accepted e m && isKey k (keyNamed e)
 
+-- the key is one of the parameter in the datasource that k names
+unfoldable pub ofItsParameter : Key → Option Key → Bool
+ofItsParameter k none = false
+ofItsParameter k (some l) = eqb (l .datasource) (k .datasource) && eqb (l .parameter) (k .parameter)
+
+-- an accepted put or remove of a cell of that parameter
+unfoldable pub touchesParameter : Key → Change → State → Bool
+touchesParameter k e m = accepted e m && ofItsParameter k (keyNamed e)
+
 -- the cells with the one put, or without the one removed
 unfoldable pub withPut : Option Cell → List Cell → List Cell
 withPut none cs = cs

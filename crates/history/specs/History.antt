@@ -5,7 +5,7 @@ use mathlib.Core.Option.{Option, none, some}
 use Rattle.meaning.specs.declared.end.Ended.{Ended}
 use Rattle.cells.specs.Cell.{Key, Cell}
 use Rattle.history.specs.State.{State}
-use Rattle.history.specs.Change.{Change, next, endOf, touches, changed, left}
+use Rattle.history.specs.Change.{Change, next, endOf, touches, touchesParameter, changed, left}
 
 -- the store after the edits, one after the other
 unfoldable pub after : List Change → State → State
@@ -21,6 +21,11 @@ ends (e ∷ es) m = endOf e m ∷ ends es (next e m)
 unfoldable pub untouched : Key → List Change → State → Bool
 untouched k [] m = true
 untouched k (e ∷ es) m = not (touches k e m) && untouched k es (next e m)
+
+-- none of them is an accepted put or remove of a cell of the parameter that k names
+unfoldable pub outside : Key → List Change → State → Bool
+outside k [] m = true
+outside k (e ∷ es) m = not (touchesParameter k e m) && outside k es (next e m)
 
 -- the same edits on a list of cells, by how each ended
 unfoldable pub cellsAfter : List Change → List Ended → List Cell → List Cell

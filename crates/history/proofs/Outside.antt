@@ -1,0 +1,152 @@
+-- Edits of other parameters: every question about a parameter is answered as before, the highest numbers too.
+use mathlib.Core.Path.{_≡_, refl, sym, ap, _∙_}
+use mathlib.Core.Bool.{Bool, true, false, cond, _&&_, true≢false, false≢true}
+use mathlib.Core.List.{List, [], _∷_, _++_}
+use mathlib.Core.Option.{Option, none, some}
+use Prim.Native.Nat.{ℕ, max}
+use native.Mathlib.Omega.{arith}
+use borrow.Author.Tests.{eqb-true, eq-eqb, ltb-true, ltb-false, not-true}
+use lib.Dec.{eqb, ltb}
+use Rattle.meaning.specs.Each.{Each}
+use Rattle.meaning.specs.Answer.{highest}
+use Rattle.meaning.specs.declared.question.Question.{Question}
+use Rattle.meaning.specs.declared.end.Ended.{Ended}
+use Rattle.meaning.specs.declared.end.Ended.the-variants.{Finished, Halted}
+use Rattle.cells.specs.Cell.{Key, Cell, number, numberOf, keyAllowed, cellAllowed, wholeCell, wholeKey}
+use Rattle.cells.specs.Store.{allowed}
+use Rattle.cells.specs.Asking.{asked, questionAllowed, highestOf, ofParameter, ofRecord, unusedZero, found, answer, replied, askOf}
+use Rattle.cells.proofs.BigEndian.{and-true}
+use Rattle.cells.proofs.CellForm.{same-key, key-allowed as cell-key-allowed}
+use Rattle.cells.proofs.Locating.{held-some}
+use Rattle.store.specs.Edit.{lower, higher, with, without}
+use Rattle.history.specs.State.{State, heldBy, askIn}
+use Rattle.history.specs.Change.{Change, put, remove, next, endOf, succeeded, keyOfCell, keyNamed, isKey, ofItsParameter, touchesParameter, withPut, withoutRemoved, changed, left}
+use Rattle.history.specs.History.{after, outside}
+use Rattle.history.proofs.Form.{cell-allowed, key-allowed, form-kept, refused-keeps, out-of-form-once}
+use Rattle.history.proofs.Answers.{changed-other}
+
+-- ---- the highest number over the cells whose keys pass a test
+
+module _ (p : Key → Bool) (f : Cell → ℕ) where
+  abbrev top : List Cell → ℕ
+  top cs = highestOf (λ c. p (c .key)) f cs
+
+  top-append : (xs ys : List Cell) → top (xs ++ ys) ≡ max (top xs) (top ys)
+  unfolding highestOf
+  top-append [] ys = omega arith
+  top-append (x ∷ xs) ys = omega (arith, top-append xs ys)
+
+  -- where no cell with the number n passes, those below and those above it have the highest
+  top-around : (n : ℕ) (cs : List Cell) → Each (λ c. numberOf c ≡ n → p (c .key) ≡ false) cs → max (top (lower n cs)) (top (higher n cs)) ≡ top cs
+  unfolding highestOf lower higher
+  top-around n [] h = omega arith
+  top-around n (c ∷ cs) h = go (ltb (numberOf c) n) refl (ltb n (numberOf c)) refl (top-around n cs (h .1))
+    where
+      go : (s : Bool) → ltb (numberOf c) n ≡ s → (t : Bool) → ltb n (numberOf c) ≡ t → max (top (lower n cs)) (top (higher n cs)) ≡ top cs → max (top (cond s (c ∷ lower n cs) (lower n cs))) (top (cond t (c ∷ higher n cs) (higher n cs))) ≡ max (cond (p (c .key)) (f c) 0) (top cs)
+      go true e true u r = absurd (omega (arith, ltb-true (numberOf c) n e, ltb-true n (numberOf c) u))
+      go true e false u r = omega (arith, r)
+      go false e true u r = omega (arith, r)
+      go false e false u r = rw (h .0 (omega (arith, ltb-false (numberOf c) n e, ltb-false n (numberOf c) u))) (omega (arith, r))
+
+  -- cells with the number of a key within the limits have that key
+  none-of : (l : Key) → keyAllowed l ≡ true → p l ≡ false → (cs : List Cell) → allowed cs ≡ true → Each (λ c. numberOf c ≡ number l → p (c .key) ≡ false) cs
+  unfolding allowed
+  none-of l a n [] h = tt
+  none-of l a n (c ∷ cs) h =
+      let t = and-true (cellAllowed c) (allowed cs) h in
+      (λ e. ap p (same-key (c .key) l (cell-key-allowed c (t .0)) a e) ∙ n, none-of l a n cs (t .1))
+
+  top-with : (c : Cell) → keyAllowed (c .key) ≡ true → p (c .key) ≡ false → (cs : List Cell) → allowed cs ≡ true → top (with c cs) ≡ top cs
+  unfolding with highestOf
+  top-with c a n cs h =
+      let e : top (c ∷ higher (numberOf c) cs) ≡ top (higher (numberOf c) cs) = rw n (omega arith) in
+      omega (arith, top-append (lower (numberOf c) cs) (c ∷ higher (numberOf c) cs), e, top-around (numberOf c) cs (none-of (c .key) a n cs h))
+
+  top-without : (l : Key) → keyAllowed l ≡ true → p l ≡ false → (cs : List Cell) → allowed cs ≡ true → top (without (number l) cs) ≡ top cs
+  unfolding without
+  top-without l a n cs h =
+      omega (arith, top-append (lower (number l) cs) (higher (number l) cs), top-around (number l) cs (none-of l a n cs h))
+
+  -- an edit of a key that doesn't pass
+  top-changed : (e : Change) → ((l : Key) → keyNamed e ≡ some l → p l ≡ false) → (cs : List Cell) → allowed cs ≡ true → top (changed e cs) ≡ top cs
+  unfolding keyNamed keyOfCell changed withPut withoutRemoved
+  top-changed (put s) n cs h = go (wholeCell s) refl n
+    where
+      go : (o : Option Cell) → wholeCell s ≡ o → ((l : Key) → keyOfCell o ≡ some l → p l ≡ false) → top (withPut o cs) ≡ top cs
+      go none e n = refl
+      go (some c) e n = top-with c (cell-key-allowed c (cell-allowed s c e)) (n (c .key) refl) cs h
+  top-changed (remove s) n cs h = go (wholeKey s) refl n
+    where
+      go : (o : Option Key) → wholeKey s ≡ o → ((l : Key) → o ≡ some l → p l ≡ false) → top (withoutRemoved o cs) ≡ top cs
+      go none e n = refl
+      go (some k) e n = top-without k (key-allowed s k e) (n k refl) cs h
+
+-- ---- one edit
+
+named-allowed : (e : Change) (l : Key) → keyNamed e ≡ some l → keyAllowed l ≡ true
+unfolding keyNamed keyOfCell
+named-allowed (put s) l h = go (wholeCell s) refl h
+  where
+    go : (o : Option Cell) → wholeCell s ≡ o → keyOfCell o ≡ some l → keyAllowed l ≡ true
+    go none e h = let z : _≡_ {A = ℕ} 0 1 = cc in absurd (omega arith)
+    go (some c) e h = let q : c .key ≡ l = cc in rw (← q) (cell-key-allowed c (cell-allowed s c e))
+named-allowed (remove s) l h = key-allowed s l h
+
+module _ (q : Question) (e : Change) (n : ofItsParameter (asked q) (keyNamed e) ≡ false) where
+  -- a key that the edit names is not of the parameter
+  other : (l : Key) → keyNamed e ≡ some l → eqb (l .datasource) (q .datasource) && eqb (l .parameter) (q .parameter) ≡ false
+  unfolding ofItsParameter
+  other l h = sym (ap (ofItsParameter (asked q)) h) ∙ n
+
+  -- so it is not the key asked for
+  not-asked : keyAllowed (asked q) ≡ true → isKey (asked q) (keyNamed e) ≡ false
+  unfolding isKey
+  not-asked a = go (keyNamed e) refl
+    where
+      go : (o : Option Key) → keyNamed e ≡ o → isKey (asked q) o ≡ false
+      go none h = refl
+      go (some l) h = by (eqb (number l) (number (asked q))) refl
+        where
+          by : (t : Bool) → eqb (number l) (number (asked q)) ≡ t → t ≡ false
+          by true u =
+              let k : l ≡ asked q = same-key l (asked q) (named-allowed e l h) a (eqb-true _ _ u) in
+              absurd (true≢false (sym (rw (eq-eqb (q .datasource) (q .datasource) refl, eq-eqb (q .parameter) (q .parameter) refl)) ∙ sym (ap (λ (x : Key). eqb (x .datasource) (q .datasource) && eqb (x .parameter) (q .parameter)) k) ∙ other l h))
+          by false u = refl
+
+  same-reply : (cs : List Cell) → allowed cs ≡ true → replied q (some (changed e cs)) ≡ replied q (some cs)
+  unfolding replied questionAllowed answer ofParameter ofRecord
+  same-reply cs h = go (keyAllowed (asked q)) refl
+    where
+      in-parameter : (l : Key) → keyNamed e ≡ some l → eqb (l .datasource) (q .datasource) && eqb (l .parameter) (q .parameter) ≡ false
+      in-parameter = other
+
+      in-record : (l : Key) → keyNamed e ≡ some l → (eqb (l .datasource) (q .datasource) && eqb (l .parameter) (q .parameter)) && eqb (l .recordNumber) (q .«record») ≡ false
+      in-record l k = ap (λ (t : Bool). t && eqb (l .recordNumber) (q .«record»)) (other l k)
+
+      go : (t : Bool) → keyAllowed (asked q) ≡ t → replied q (some (changed e cs)) ≡ replied q (some cs)
+      go true a = rw (changed-other (asked q) e cs (not-asked a), top-changed (λ l. eqb (l .datasource) (q .datasource) && eqb (l .parameter) (q .parameter)) (λ c. c .key .recordNumber) e in-parameter cs h, top-changed (λ l. (eqb (l .datasource) (q .datasource) && eqb (l .parameter) (q .parameter)) && eqb (l .recordNumber) (q .«record»)) (λ c. c .key .entryNumber) e in-record cs h)
+      go false a = rw a
+
+other-once : (q : Question) (e : Change) (m : State) → touchesParameter (asked q) e m ≡ false → askIn (next e m) q ≡ askIn m q
+unfolding touchesParameter askOf left succeeded
+other-once q e m n = by (endOf e m) refl
+  where
+    by : (x : Ended) → endOf e m ≡ x → askIn (next e m) q ≡ askIn m q
+    by (Halted h l) u = ap (λ (s : State). askIn s q) (refused-keeps e m (ap succeeded u))
+    by Finished u = go (heldBy m) refl
+      where
+        go : (o : Option (List Cell)) → heldBy m ≡ o → askIn (next e m) q ≡ askIn m q
+        go none h = absurd (true≢false (sym (ap succeeded u) ∙ ap (λ r. succeeded (r .end)) (out-of-form-once e m h)))
+        go (some cs) h =
+            ap (replied q) (form-kept e m cs h .held ∙ ap (λ x. some (left x (changed e cs) cs)) u)
+            ∙ same-reply q e (rw (ap succeeded u) at n) cs (held-some (m .buffer) (m .length) cs h .holds .valid .allowed)
+            ∙ ap (replied q) (sym h)
+
+-- Edits outside a parameter change no answer about it, of any kind: for any list of edits, from any bytes, none of them an
+-- accepted put or remove of a cell of that parameter in that datasource.
+pub other-parameter : (q : Question) (es : List Change) (m : State) → outside (asked q) es m ≡ true → askIn (after es m) q ≡ askIn m q
+unfolding after outside
+other-parameter q [] m u = refl
+other-parameter q (e ∷ es) m u =
+    let t = and-true _ _ u in
+    other-parameter q es (next e m) (t .1) ∙ other-once q e m (not-true _ (t .0))
