@@ -13,14 +13,14 @@ use lib.ListN.{length, getD, drop, length-append, List·getD-append}
 use Rattle.meaning.specs.Each.{Each}
 use Rattle.meaning.specs.Answer.{missing}
 use Rattle.cells.specs.declared.Answered.{Answered}
-use Rattle.cells.specs.declared.Answered.the-variants.{Missing}
+use Rattle.cells.specs.declared.Answered.the-variants.{Missing, Integer, Decimal, Text, Highest}
 use Rattle.cells.specs.Bytes.{pair, pairAt}
 use Rattle.cells.specs.Cell.{Cell, keyBytes, number, numberOf, keyAt, cellAllowed, cellBytes}
 use Rattle.cells.specs.Store.{allowed}
-use Rattle.cells.specs.Asking.{lookup, found, highestOf, meant}
+use Rattle.cells.specs.Asking.{lookup, found, highestOf, meant, InStore}
 use Rattle.cells.specs.Index as I
 use Rattle.cells.specs.Index.{Ready, Position, ValueAt, CellAnswer, LastOf, nothing, last}
-use Rattle.cells.proofs.Locating.{held-some, pair-at, keys, key-here, keys-rise, allowed-in, Located, locate, sorted, lower-keys, higher-keys}
+use Rattle.cells.proofs.Locating.{held-some, pair-at, keys, key-here, keys-rise, allowed-in, Located, locate, cell-inside, sorted, lower-keys, higher-keys}
 
 head-length : (c : Cell) → 8 ≤ length (cellBytes c)
 unfolding cellBytes keyBytes pair
@@ -58,11 +58,20 @@ pub lookup-here : (k : ℕ) (cs xs : List Cell) (c : Cell) (ys : List Cell) → 
 lookup-here k cs xs c ys s h e =
     ap (lookup k) s ∙ lookup-at k xs c ys (λ i l q. h i l (ap (λ (z : List Cell). getD (keys z) i 0) s ∙ q)) e
 
+-- what lies in fewer bytes lies in more
+in-more : (b : List ℕ) (v : Answered) {m n : ℕ} → m ≤ n → n ≤ length b → InStore b m v → InStore b n v
+unfolding InStore
+in-more b Missing h l i = tt
+in-more b (Integer z) h l i = tt
+in-more b (Decimal z) h l i = tt
+in-more b (Text a k) h l i = (omega (arith, i .0), l)
+in-more b (Highest x) h l i = tt
+
 -- the answers of `cell_answer`
 module _ (b index : List ℕ) (count k p : ℕ) (q : Position b index count k p) where
   pub cell-past : count ≤ p → CellAnswer b index count k Missing
-  unfolding meant found
-  cell-past h = record { found = go }
+  unfolding meant found InStore
+  cell-past h = record { found = go; inside = λ n cs r. tt }
     where
       go : (n : ℕ) (cs : List Cell) → Ready b n index count cs → missing ≡ found (lookup k cs)
       go n cs r =
@@ -78,8 +87,13 @@ module _ (b index : List ℕ) (count k p : ℕ) (q : Position b index count k p)
 
     pub cell-found : t ≡ true → (r : Answered) → ValueAt b at r → CellAnswer b index count k r
     unfolding found
-    cell-found e v w = record { found = go }
+    cell-found e v w = record { found = go; inside = held-in }
       where
+        held-in : (n : ℕ) (cs : List Cell) → Ready b n index count cs → InStore b n v
+        held-in n cs r =
+            let l = locate b n index count cs r p h in
+            in-more b v (omega (arith, cell-inside b n index count cs r p h, pl)) (held-some b n cs (r .holds) .inside) (w .inside (l .picked .cell) (l .rest) (l .allowed) (ap (λ (y : ℕ). drop y b) pl ∙ l .bytes))
+
         go : (n : ℕ) (cs : List Cell) → Ready b n index count cs → meant b v ≡ found (lookup k cs)
         go n cs r =
             let f = q .first (sorted b n index count cs r) in
@@ -92,8 +106,8 @@ module _ (b index : List ℕ) (count k p : ℕ) (q : Position b index count k p)
             w .value c (l .rest) (l .allowed) (ap (λ (y : ℕ). drop y b) pl ∙ l .bytes) ∙ ap found (sym x)
 
     pub cell-other : t ≡ false → CellAnswer b index count k Missing
-    unfolding meant found
-    cell-other e = record { found = go }
+    unfolding meant found InStore
+    cell-other e = record { found = go; inside = λ n cs r. tt }
       where
         go : (n : ℕ) (cs : List Cell) → Ready b n index count cs → missing ≡ found (lookup k cs)
         go n cs r =

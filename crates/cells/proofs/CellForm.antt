@@ -135,6 +135,13 @@ cell-size k (string s) e =
     let h : length s ≤ 16 = leb-true _ _ (and-true _ _ e .0) in
     simp (length-append, length-replicate) (omega arith)
 
+-- a string's length stands behind the key
+pub string-short : (k : Key) (v : Value) (r : List ℕ) → valueAllowed v ≡ true → (kindOf v ≡ integerKind → ⊥) → (kindOf v ≡ decimalKind → ⊥) → getD (cellBytes (record { key = k; value = v }) ++ r) 8 0 ≤ 16
+unfolding cellBytes keyBytes valueBytes pair kindOf valueAllowed
+string-short k (integer z) r e j h = absurd (j refl)
+string-short k (decimal z) r e j h = absurd (h refl)
+string-short k (string s) r e j h = leb-true _ _ (and-true _ _ e .0)
+
 -- ---- the tests that the code makes
 
 pub record Formed (s : List ℕ) : Type 0 where

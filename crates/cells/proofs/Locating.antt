@@ -8,7 +8,7 @@ use native.Mathlib.Omega.{arith}
 use borrow.Author.Tests.{ltb-true, leb-true}
 use lib.Dec.{ltb, leb}
 use lib.ListN.{length, getD, take, drop, length-append, length-drop, take-append-drop}
-use lib.Seq.{getD-drop, drop-append-seam, getD-at}
+use lib.Seq.{getD-drop, drop-append-seam, getD-at, length-take-le}
 use Rattle.cells.specs.Bytes.{pairAt, quadAt, octetAt}
 use Rattle.cells.specs.Cell.{Cell, number, numberOf, keyAt, cellAllowed, cellBytes, kindOf}
 use Rattle.cells.specs.Store.{encode, allowed, above, rising, cells, held}
@@ -188,6 +188,17 @@ module _ (b : List ℕ) (n : ℕ) (index : List ℕ) (count : ℕ) (cs : List Ce
         key = ap number (sym (key-at b (getD index i 0))) ∙ ap (λ (l : List ℕ). number (keyAt l 1)) d ∙ ap number (cell-key c (encode y ++ drop n b)) ∙ sym k;
         number = k;
       }
+
+  -- it ends in the store
+  pub cell-inside : (i : ℕ) (h : i < count) → getD index i 0 + length (cellBytes (locate i h .picked .cell)) ≤ n
+  unfolding encode
+  cell-inside i h =
+      let l = locate i h in
+      let x = l .picked .left in
+      let c = l .picked .cell in
+      let y = l .picked .right in
+      let u = held-some b n cs (r .holds) in
+      omega (arith, l .place, ap (λ (z : List Cell). length (encode z)) (l .picked .split), ap length (encode-append x (c ∷ y)), length-append (encode x) (cellBytes c ++ encode y), length-append (cellBytes c) (encode y), ap length (u .holds .bytes), length-take-le n b (u .inside))
 
   pub sorted : Sorted b index count
   sorted =

@@ -12,7 +12,7 @@ use Rattle.cells.specs.declared.Answered.{Answered}
 use Rattle.cells.specs.declared.Answered.the-variants.{Missing, Highest}
 use Rattle.cells.specs.Bytes.{pair, pairAt}
 use Rattle.cells.specs.Cell.{Key, Cell, between, keyAllowed, keyBytes, number, cellBytes}
-use Rattle.cells.specs.Asking.{asked, unusedZero, questionAllowed, ofParameter, ofRecord, answer, meant}
+use Rattle.cells.specs.Asking.{asked, unusedZero, questionAllowed, ofParameter, ofRecord, answer, meant, InStore}
 use Rattle.cells.specs.Index as I
 use Rattle.cells.specs.Index.{Ready, CellAnswer, Answers, reachOf, offsetOf}
 use Rattle.cells.proofs.BigEndian.{and-true, both, pair-reads}
@@ -113,8 +113,8 @@ module _ (q : Question) (t : Bool) (k : t ≡ keyAllowed (asked q)) where
 
 module _ (b index : List ℕ) (count : ℕ) (q : Question) (t : Bool) (k : t ≡ questionAllowed q) where
   pub answers-refused : not t ≡ true → Answers b index count q Missing
-  unfolding meant
-  answers-refused n = record { answer = λ m cs r. rw (sym k ∙ not-true t n) }
+  unfolding meant InStore
+  answers-refused n = record { answer = λ m cs r. rw (sym k ∙ not-true t n); inside = λ m cs r. tt }
 
   module _ (n : not t ≡ false) where
     whole : questionAllowed q ≡ true
@@ -131,12 +131,12 @@ module _ (b index : List ℕ) (count : ℕ) (q : Question) (t : Bool) (k : t ≡
     module _ (key : ℕ) (e : key ≡ number (asked q)) where
       pub answers-cell : q .kind ≡ 1 → (r : Answered) → CellAnswer b index count key r → Answers b index count q r
       unfolding answer
-      answers-cell o r c = record { answer = λ m cs d. rw (whole, eq-eqb _ _ o, ← e) (c .found m cs d) }
+      answers-cell o r c = record { answer = λ m cs d. rw (whole, eq-eqb _ _ o, ← e) (c .found m cs d); inside = c .inside }
 
       module _ (o : q .kind ≡ 1 → ⊥) (r : ℕ) where
         answers-records : q .kind ≡ 2 → I.Highest b index count key (key + 4294967296) 4 r → Answers b index count q (Highest r)
-        unfolding answer meant unusedZero
-        answers-records w h = record { answer = go }
+        unfolding answer meant unusedZero InStore
+        answers-records w h = record { answer = go; inside = λ m cs d. tt }
           where
             zeros : (q .«record» ≡ 0) × (q .entry ≡ 0)
             zeros =
@@ -153,8 +153,8 @@ module _ (b index : List ℕ) (count : ℕ) (q : Question) (t : Bool) (k : t ≡
                 (ap highest (highest-in (ofParameter (asked q)) (λ c. c .key .recordNumber) key (key + 4294967296) 4 range record-at cs (held-some b m cs (d .holds) .holds .valid .allowed) r (h .last m cs d)))
 
         answers-entries : (q .kind ≡ 2 → ⊥) → I.Highest b index count key (key + 65536) 6 r → Answers b index count q (Highest r)
-        unfolding answer meant unusedZero
-        answers-entries w h = record { answer = go }
+        unfolding answer meant unusedZero InStore
+        answers-entries w h = record { answer = go; inside = λ m cs d. tt }
           where
             third : (x : Bool) → cond x (eqb (q .entry) 0) false ≡ true → q .entry ≡ 0
             third true y = eqb-true _ _ y

@@ -19,7 +19,7 @@ use Rattle.cells.specs.declared.index.Indexed.the-variants.{Count, BadSt
 use Rattle.cells.specs.Cell.{Cell, cellAllowed, cellBytes}
 use Rattle.cells.specs.Store.{encode, allowed, held}
 use Rattle.cells.specs.Index.{offsets, counted, Filled, Indexes, Ready, Answers}
-use Rattle.cells.specs.Asking.{questionAllowed, refusedWith, replied, askOf, meant, reply}
+use Rattle.cells.specs.Asking.{questionAllowed, refusedWith, replied, askOf, meant, InStore, reply}
 use Rattle.cells.proofs.BigEndian.{and-true}
 use Rattle.cells.proofs.Locating.{held-some, cell-least}
 use Rattle.cells.proofs.Walking.{length-offsets}
@@ -80,21 +80,21 @@ module _ (b : List ℕ) (n : ℕ) (p p′ : List ℕ) (r : Indexed) (i : Indexes
 
   -- ---- the answers of `ask`
 
-  pub ask-bad-store : (q : Question) → r ≡ BadStore → reply b (record { end = refusedWith R.BadStore; answer = Missing }) ≡ askOf b n q
-  unfolding reply meant askOf replied
-  ask-bad-store q e = rw (not-held e)
+  pub ask-bad-store : (q : Question) → r ≡ BadStore → (reply b (record { end = refusedWith R.BadStore; answer = Missing }) ≡ askOf b n q) × InStore b n Missing
+  unfolding reply meant askOf replied InStore
+  ask-bad-store q e = (rw (not-held e), tt)
 
   module _ (q : Question) (count : ℕ) (e : r ≡ Count count) (t : Bool) (a : t ≡ questionAllowed q) where
-    pub ask-bad-request : not t ≡ true → reply b (record { end = refusedWith R.BadRequest; answer = Missing }) ≡ askOf b n q
-    unfolding reply meant askOf replied
-    ask-bad-request u = rw (built count e .held, sym a ∙ not-true t u)
+    pub ask-bad-request : not t ≡ true → (reply b (record { end = refusedWith R.BadRequest; answer = Missing }) ≡ askOf b n q) × InStore b n Missing
+    unfolding reply meant askOf replied InStore
+    ask-bad-request u = (rw (built count e .held, sym a ∙ not-true t u), tt)
 
-    pub ask-answered : not t ≡ false → 5461 ≤ length p → (x : Answered) → Answers b p′ count q x → reply b (record { end = Finished; answer = x }) ≡ askOf b n q
+    pub ask-answered : not t ≡ false → 5461 ≤ length p → (x : Answered) → Answers b p′ count q x → (reply b (record { end = Finished; answer = x }) ≡ askOf b n q) × InStore b n x
     unfolding reply askOf replied
     ask-answered u l x w =
         let g = index-ready count e l in
         let v : questionAllowed q ≡ true = sym a ∙ not-false t u in
-        rw (g .1 .holds, w .answer n (g .0) (g .1), v)
+        (rw (g .1 .holds, w .answer n (g .0) (g .1), v), w .inside n (g .0) (g .1))
 
 -- ---- the answers of `text`
 

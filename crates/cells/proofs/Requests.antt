@@ -105,6 +105,13 @@ key-some s k e = go (keyAllowed (keyAt s 0) && same (keyBytes (keyAt s 0)) s) re
         subst (WholeKey s) (some-inj q) (record { allowed = h .0; bytes = same-says _ _ (h .1) })
     go false t q = absurd (none-some q)
 
+-- reading is the inverse of writing: a key's bytes are that key's, and no other's (`key-some`)
+pub whole-key : (k : Key) → keyAllowed k ≡ true → wholeKey (keyBytes k) ≡ some k
+unfolding wholeKey
+whole-key k e =
+    ap (λ (x : Key). cond (keyAllowed x && same (keyBytes x) (keyBytes k)) (some x) none) (ap (λ (s : List ℕ). keyAt s 0) (sym (append-nil (keyBytes k))) ∙ key-reads k [])
+    ∙ rw (e, same-self (keyBytes k))
+
 no-key : (s : List ℕ) → ((k : Key) → WholeKey s k → ⊥) → KeyAsked (wholeKey s) R.Bad
 unfolding requestedKey
 no-key s n = go (wholeKey s) refl

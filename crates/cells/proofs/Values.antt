@@ -18,9 +18,9 @@ use Rattle.cells.specs.declared.Answered.the-variants.{Missing, Integer,
 use Rattle.cells.specs.Bytes.{quadAt, octetAt, signed, word, long}
 use Rattle.cells.specs.Cell.{Cell, cellAllowed, cellBytes, kindOf, integerKind, decimalKind, valueOf}
 use Rattle.cells.specs.Tests.{sizeOf}
-use Rattle.cells.specs.Asking.{meant}
+use Rattle.cells.specs.Asking.{meant, InStore}
 use Rattle.cells.specs.Index.{ValueAt, SizeAt}
-use Rattle.cells.proofs.CellForm.{first-byte, value-reads, value-allowed, cell-size, known-kind, size-string}
+use Rattle.cells.proofs.CellForm.{first-byte, value-reads, value-allowed, cell-size, known-kind, size-string, string-short}
 use Rattle.cells.proofs.Locating.{quad-at, octet-at, cell-least}
 
 -- ---- two's complement
@@ -88,36 +88,49 @@ module _ (b : List ℕ) (at : ℕ) where
   kind-at = getD-drop at b 0 0 ∙ ap (λ (i : ℕ). getD b i 0) (add-zero at)
 
   pub value-past : length b ≤ at → ValueAt b at Missing
-  value-past h = record { value = λ c r a e. absurd (omega (arith, has-room c r a e, known c r a e)) }
+  unfolding InStore
+  value-past h = record { value = λ c r a e. absurd (omega (arith, has-room c r a e, known c r a e)); inside = λ c r a e. tt }
 
   pub value-short : (room size : ℕ) → room ≡ length b - at → size ≡ sizeOf (getD b at 0) → room < size → ValueAt b at Missing
-  value-short room size r s h = record { value = λ c q a e. absurd (omega (arith, has-room c q a e)) }
+  unfolding InStore
+  value-short room size r s h = record { value = λ c q a e. absurd (omega (arith, has-room c q a e)); inside = λ c q a e. tt }
 
   pub value-integer : getD b at 0 ≡ integerKind → (n : ℕ) → n ≡ quadAt b (at + 8) → (z : ℤ) → z ≡ signed word n → ValueAt b at (Integer z)
-  unfolding meant valueOf
+  unfolding meant valueOf InStore
   value-integer k n q z s =
       record {
         value = λ c r a e. ap (λ (x : ℤ). cell (integer x)) (s ∙ ap (signed word) (q ∙ sym (quad-at b at 8))) ∙ ap cell (sym (rw (kind-at, eq-eqb _ _ k)) ∙ value-is c r a e);
+        inside = λ c r a e. tt;
       }
 
   pub value-decimal : (getD b at 0 ≡ integerKind → ⊥) → getD b at 0 ≡ decimalKind → (n : ℕ) → n ≡ octetAt b (at + 8) → (z : ℤ) → z ≡ signed long n → ValueAt b at (Decimal z)
-  unfolding meant valueOf
+  unfolding meant valueOf InStore
   value-decimal j k n q z s =
       record {
         value = λ c r a e. ap (λ (x : ℤ). cell (decimal x)) (s ∙ ap (signed long) (q ∙ sym (octet-at b at 8))) ∙ ap cell (sym (rw (kind-at, ne-eqb _ _ j, eq-eqb _ _ k)) ∙ value-is c r a e);
+        inside = λ c r a e. tt;
       }
 
   module _ (j : getD b at 0 ≡ integerKind → ⊥) (k : getD b at 0 ≡ decimalKind → ⊥) where
     pub text-short : (room : ℕ) → room ≡ length b - at → room < 25 → ValueAt b at Missing
-    text-short room r h = record { value = λ c q a e. absurd (omega (arith, has-room c q a e, size-string _ j k (known c q a e))) }
+    unfolding InStore
+    text-short room r h =
+        record {
+          value = λ c q a e. absurd (omega (arith, has-room c q a e, size-string _ j k (known c q a e)));
+          inside = λ c q a e. tt;
+        }
 
     pub value-text : (n : ℕ) → n ≡ getD b (at + 8) 0 → ValueAt b at (Text (at + 9) n)
-    unfolding meant valueOf
+    unfolding meant valueOf InStore
     value-text n q =
         record {
           value = λ c r a e.
               ap₂ (λ (x : ℕ) (l : List ℕ). cell (string (take x l))) (q ∙ sym (getD-drop at b 8 0)) (sym (drop-drop 9 at b))
               ∙ ap cell (sym (rw (kind-at, ne-eqb _ _ j, ne-eqb _ _ k)) ∙ value-is c r a e);
+          inside = λ c r a e.
+              let s : getD (cellBytes c ++ r) 8 0 ≤ 16 = string-short (c .key) (c .value) r (value-allowed c a) (λ z. j (kind-is c r a e ∙ z)) (λ z. k (kind-is c r a e ∙ z)) in
+              let z : length (cellBytes c) ≡ 25 = cell-size (c .key) (c .value) (value-allowed c a) ∙ ap sizeOf (sym (kind-is c r a e)) ∙ size-string _ j k (known c r a e) in
+              (omega (arith, s, q, getD-drop at b 8 0, ap (λ (l : List ℕ). getD l 8 0) e, z), omega (arith, has-room c r a e, z, size-string _ j k (known c r a e)));
         }
 
   -- ---- the answers of `size_at`

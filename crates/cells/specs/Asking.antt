@@ -2,9 +2,9 @@
 use mathlib.Core.Bool.{Bool, true, false, cond, _&&_}
 use mathlib.Core.List.{List, [], _∷_}
 use mathlib.Core.Option.{Option, none, some}
-use Prim.Native.Nat.{ℕ, max}
+use Prim.Native.Nat.{ℕ, _+_, _≤_, max}
 use lib.Dec.{eqb}
-use lib.ListN.{take, drop}
+use lib.ListN.{length, take, drop}
 use Rattle.meaning.specs.Answer.{integer, decimal, string, Answer, missing, cell, highest}
 use Rattle.meaning.specs.declared.question.Question.{Question}
 use Rattle.meaning.specs.declared.refusal.Refusal.{Refusal}
@@ -103,6 +103,14 @@ meant b (Integer z) = cell (integer z)
 meant b (Decimal z) = cell (decimal z)
 meant b (Text i n) = cell (string (take n (drop i b)))
 meant b (Highest n) = highest n
+
+-- a string that is answered lies in the store, the first n bytes of b
+unfoldable pub InStore : List ℕ → ℕ → Answered → Type 0
+InStore b n Missing = Unit {0}
+InStore b n (Integer z) = Unit {0}
+InStore b n (Decimal z) = Unit {0}
+InStore b n (Text i k) = (i + k ≤ n) × (n ≤ length b)
+InStore b n (Highest m) = Unit {0}
 
 unfoldable pub reply : List ℕ → Asked → Reply
 reply b r = record { end = r .end; answer = meant b (r .answer) }

@@ -15,7 +15,7 @@ use Rattle.cells.specs.declared.index.Indexed.the-variants.{Count, BadSt
 use Rattle.cells.specs.Bytes.{pairAt}
 use Rattle.cells.specs.Cell.{Cell, number, numberOf, keyAt, cellAllowed, cellBytes}
 use Rattle.cells.specs.Store.{held}
-use Rattle.cells.specs.Asking.{questionAllowed, lookup, found, answer, meant}
+use Rattle.cells.specs.Asking.{questionAllowed, lookup, found, answer, meant, InStore}
 
 -- the places of the cells of a run that begins at a place
 unfoldable pub offsets : ℕ → List Cell → List ℕ
@@ -66,10 +66,12 @@ pub record Position (b places : List ℕ) (count k r : ℕ) : Type 0 where
 -- r is the value of the cell at a place of b
 pub record ValueAt (b : List ℕ) (at : ℕ) (r : Answered) : Type 0 where
   pub value : (c : Cell) (rest : List ℕ) → cellAllowed c ≡ true → drop at b ≡ cellBytes c ++ rest → meant b r ≡ cell (c .value)
+  pub inside : (c : Cell) (rest : List ℕ) → cellAllowed c ≡ true → drop at b ≡ cellBytes c ++ rest → InStore b (at + length (cellBytes c)) r
 
 -- r answers kind 1 for the key k
 pub record CellAnswer (b places : List ℕ) (count k : ℕ) (r : Answered) : Type 0 where
   pub found : (n : ℕ) (cs : List Cell) → Ready b n places count cs → meant b r ≡ found (lookup k cs)
+  pub inside : (n : ℕ) (cs : List Cell) → Ready b n places count cs → InStore b n r
 
 -- r is the number that a cell has at an offset: the last of cs whose key lies from low up to end, or 0 if none does
 pub data LastOf (cs : List Cell) (low end offset : ℕ) : ℕ → Type 0 where
@@ -90,6 +92,7 @@ offsetOf kind = cond (eqb kind 2) 4 6
 -- r answers a question
 pub record Answers (b places : List ℕ) (count : ℕ) (q : Question) (r : Answered) : Type 0 where
   pub answer : (n : ℕ) (cs : List Cell) → Ready b n places count cs → meant b r ≡ cond (questionAllowed q) (answer q cs) missing
+  pub inside : (n : ℕ) (cs : List Cell) → Ready b n places count cs → InStore b n r
 
 -- r is the size of the cell at a place of b
 pub record SizeAt (b : List ℕ) (at r : ℕ) : Type 0 where

@@ -21,7 +21,7 @@ use meaning::question::Question;
 use meaning::refusal::Refusal;
 ghost use mathlib.Core.Path.{_≡_};
 ghost use lib.ListN.{take, drop};
-ghost use Rattle.cells.specs.Asking.{askOf, reply};
+ghost use Rattle.cells.specs.Asking.{askOf, reply, InStore};
 
 // The answer to a question. A text is a part of the store: its place and its length.
 pub enum Answered {
@@ -37,9 +37,9 @@ pub struct Asked {
     pub answer: Answered,
 }
 
-// "Ask answers one question." 1 and 15 are refused, and answer missing.
+// "Ask answers one question." 1 and 15 are refused, and answer missing. A text that is answered lies in the store.
 pub fn ask(store: &[u8], len: usize, question: Question) -> Asked
-    ensures { λ r. ⌜ reply (now (store .entry)) r ≡ askOf (now (store .entry)) len question ⌝ }
+    ensures { λ r. ⌜ (reply (now (store .entry)) r ≡ askOf (now (store .entry)) len question) × InStore (now (store .entry)) len (r .answer) ⌝ }
 {
     let mut places = [0u16; 5461];
     let Indexed::Count(count) = index::build(store, len, &mut places) else {

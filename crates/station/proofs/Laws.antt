@@ -1,24 +1,28 @@
 -- What a call for C hands back, from what the call below it hands back.
-use mathlib.Core.Path.{_≡_, refl, ap, _∙_}
+use mathlib.Core.Path.{_≡_, refl, sym, ap, ap₂, _∙_, subst}
 use mathlib.Core.Bool.{true, false}
 use mathlib.Core.List.{List}
 use mathlib.Core.Option.{Option, none, some}
-use Prim.Native.Nat.{ℕ}
+use Prim.Native.Nat.{ℕ, _≤_}
 use native.Mathlib.Omega.{arith}
-use lib.IntN.{ℤ}
+use lib.IntN.{ℤ, pos}
+use lib.ListN.{length, take, drop, length-drop}
+use lib.Seq.{length-take-le}
 use Rattle.numbers.specs.declared.Number.{Number}
 use Rattle.numbers.specs.declared.Number.the-variants.{Value}
 use Rattle.numbers.specs.Outcome.{Outcome, outcome}
 use Rattle.numbers.specs.declared.Rounded.{Rounded}
 use Rattle.numbers.specs.declared.Rounded.the-variants.{Units, OutOfRange}
 use Rattle.meaning.specs.declared.question.Question.{Question}
+use Rattle.meaning.specs.Answer.{Answer}
 use Rattle.meaning.specs.Number.{numberOf, endOf, refusalNumber}
 use Rattle.cells.specs.declared.Answered.{Answered}
+use Rattle.cells.specs.declared.Answered.the-variants.{Missing, Integer, Decimal, Text, Highest}
 use Rattle.cells.specs.declared.Asked.{Asked}
 use Rattle.cells.specs.declared.index.Indexed.{Indexed}
 use Rattle.cells.specs.declared.index.Indexed.the-variants.{Count, BadStore}
-use Rattle.cells.specs.Cell.{Cell}
-use Rattle.cells.specs.Asking.{Reply, reply, meant}
+use Rattle.cells.specs.Cell.{Cell, integerKind, decimalKind, stringKind}
+use Rattle.cells.specs.Asking.{Reply, reply, meant, InStore}
 use Rattle.cells.specs.Index.{Indexes, Answers, counted}
 use Rattle.meaning.specs.declared.refusal.Refusal.{Refusal}
 use Rattle.template.specs.declared.Run.{Run}
@@ -28,7 +32,7 @@ use Rattle.station.specs.Checks.{ToldCheck}
 use Rattle.station.specs.Codes.{Told, ToldUnits}
 use Rattle.store.specs.declared.Edited.{Edited}
 use Rattle.store.specs.Edit.{Edit, edit}
-use Rattle.station.specs.Answers.{answerFrom, ToldAnswer, ToldLookUp, ToldIndex, ToldEdit}
+use Rattle.station.specs.Answers.{kindTold, valueTold, countTold, PlaceTold, ToldParts, kindHanded, valueHanded, placeHanded, countHanded, Hands, ToldAnswer, ToldLookUp, ToldIndex, ToldEdit}
 
 pub told-of : {o o′ : Outcome} {v v′ : ℤ} {r : ℕ} → o ≡ o′ → Told o v v′ r → Told o′ v v′ r
 told-of e t = rw e at t
@@ -44,15 +48,55 @@ units-some e = record { told = rw e; units = rw e }
 
 -- ---- questions
 
-pub told-answer : {b : List ℕ} {x : Reply} (s : Asked) (k : ℕ) {v : ℤ} {i n r : ℕ} → reply b s ≡ x → answerFrom k v i n ≡ s .answer → r ≡ numberOf (endOf (tt {0}) (s .end)) → ToldAnswer b x k v i n r
+module _ {a : Answered} where
+  pub hands-missing : a ≡ Missing → Hands a 0 (pos 0) 0 0
+  unfolding kindHanded valueHanded placeHanded countHanded
+  hands-missing e = rw e (record { is-kind = refl; is-value = refl; is-place = refl; is-count = refl })
+
+  pub hands-integer : {z v : ℤ} → a ≡ Integer z → v ≡ z → Hands a integerKind v 0 0
+  unfolding kindHanded valueHanded placeHanded countHanded
+  hands-integer e h = rw e (record { is-kind = refl; is-value = h; is-place = refl; is-count = refl })
+
+  pub hands-decimal : {z v : ℤ} → a ≡ Decimal z → v ≡ z → Hands a decimalKind v 0 0
+  unfolding kindHanded valueHanded placeHanded countHanded
+  hands-decimal e h = rw e (record { is-kind = refl; is-value = h; is-place = refl; is-count = refl })
+
+  pub hands-text : {i n : ℕ} → a ≡ Text i n → Hands a stringKind (pos 0) i n
+  unfolding kindHanded valueHanded placeHanded countHanded
+  hands-text e = rw e (record { is-kind = refl; is-value = refl; is-place = refl; is-count = refl })
+
+  pub hands-highest : {n : ℕ} → a ≡ Highest n → Hands a 1 (pos 0) 0 n
+  unfolding kindHanded valueHanded placeHanded countHanded
+  hands-highest e = rw e (record { is-kind = refl; is-value = refl; is-place = refl; is-count = refl })
+
+-- the parts of an answer of the code are those of the answer that it means
+told-parts : (b : List ℕ) (len : ℕ) (a : Answered) {x : Answer} {k : ℕ} {v : ℤ} {i n : ℕ} → meant b a ≡ x → InStore b len a → Hands a k v i n → ToldParts b len x k v i n
+unfolding meant InStore kindTold valueTold countTold PlaceTold kindHanded valueHanded placeHanded countHanded
+told-parts b len a {k = k} {v = v} {i = i} {n = n} e s h = subst (λ (y : Answer). ToldParts b len y k v i n) e (go a s h)
+  where
+    go : (c : Answered) → InStore b len c → Hands c k v i n → ToldParts b len (meant b c) k v i n
+    go Missing s h = record { is-kind = h .is-kind; is-value = h .is-value; is-place = h .is-place; is-count = h .is-count }
+    go (Integer z) s h = record { is-kind = h .is-kind; is-value = h .is-value; is-place = h .is-place; is-count = h .is-count }
+    go (Decimal z) s h = record { is-kind = h .is-kind; is-value = h .is-value; is-place = h .is-place; is-count = h .is-count }
+    go (Text at m) s h =
+        let l : length (take m (drop at b)) ≡ m = length-take-le m (drop at b) (omega (arith, s .0, s .1, length-drop at b)) in
+        record {
+          is-kind = h .is-kind;
+          is-value = h .is-value;
+          is-place = (ap₂ (λ (x y : ℕ). take x (drop y b)) l (h .is-place), omega (arith, s .0, l, h .is-place));
+          is-count = h .is-count ∙ sym l;
+        }
+    go (Highest m) s h = record { is-kind = h .is-kind; is-value = h .is-value; is-place = h .is-place; is-count = h .is-count }
+
+pub told-answer : {b : List ℕ} {len : ℕ} {x : Reply} (s : Asked) {k : ℕ} {v : ℤ} {i n r : ℕ} → (reply b s ≡ x) × InStore b len (s .answer) → Hands (s .answer) k v i n → r ≡ numberOf (endOf (tt {0}) (s .end)) → ToldAnswer b len x k v i n r
 unfolding reply
-told-answer {b = b} s k e h q = record {
-  number = q ∙ ap (λ (y : Reply). numberOf (endOf (tt {0}) (y .end))) e;
-  answer = ap (meant b) h ∙ ap (λ (y : Reply). y .answer) e;
+told-answer {b = b} {len = len} s e h q = record {
+  number = q ∙ ap (λ (y : Reply). numberOf (endOf (tt {0}) (y .end))) (e .0);
+  answer = told-parts b len (s .answer) (ap (λ (y : Reply). y .answer) (e .0)) (e .1) h;
 }
 
-pub told-look-up : {b places : List ℕ} {count : ℕ} {q : Question} (a : Answered) (k : ℕ) {v : ℤ} {i n : ℕ} → Answers b places count q a → answerFrom k v i n ≡ a → ToldLookUp b places count q k v i n
-told-look-up {b = b} a k s h = record { answer = λ len cs ready. ap (meant b) h ∙ s .answer len cs ready }
+pub told-look-up : {b places : List ℕ} {count : ℕ} {q : Question} (a : Answered) {k : ℕ} {v : ℤ} {i n : ℕ} → Answers b places count q a → Hands a k v i n → ToldLookUp b places count q k v i n
+told-look-up {b = b} a s h = record { answer = λ len cs ready. told-parts b len a (s .answer len cs ready) (s .inside len cs ready) h }
 
 pub index-none : {i j : List ℕ} (store : Option (List Cell)) {m : Indexed} (n : ℕ) → Indexes i store j m → m ≡ BadStore → ToldIndex i store j n n 1
 unfolding counted

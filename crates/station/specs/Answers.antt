@@ -3,17 +3,16 @@ use mathlib.Core.Path.{_≡_}
 use mathlib.Core.Bool.{cond}
 use mathlib.Core.List.{List}
 use mathlib.Core.Option.{Option, none, some}
-use Prim.Native.Nat.{ℕ}
-use lib.Dec.{eqb}
-use lib.IntN.{ℤ}
-use lib.ListN.{length}
-use Rattle.meaning.specs.Answer.{missing}
+use Prim.Native.Nat.{ℕ, _+_, _≤_}
+use lib.IntN.{ℤ, pos}
+use lib.ListN.{length, take, drop}
+use Rattle.meaning.specs.Answer.{integer, decimal, string, Answer, missing, cell, highest}
 use Rattle.meaning.specs.declared.question.Question.{Question}
 use Rattle.meaning.specs.Number.{numberOf, endOf}
 use Rattle.cells.specs.declared.Answered.{Answered}
 use Rattle.cells.specs.declared.Answered.the-variants.{Missing, Integer, Decimal, Text, Highest}
-use Rattle.cells.specs.Cell.{Cell}
-use Rattle.cells.specs.Asking.{Reply, meant, questionAllowed, answer}
+use Rattle.cells.specs.Cell.{Cell, integerKind, decimalKind, stringKind}
+use Rattle.cells.specs.Asking.{Reply, questionAllowed, answer}
 use Rattle.cells.specs.Index.{Ready, Filled}
 use Rattle.store.specs.Edit.{Edit}
 
@@ -21,23 +20,88 @@ use Rattle.store.specs.Edit.{Edit}
 abbrev pub questionOf : ℕ → ℕ → ℕ → ℕ → ℕ → Question
 questionOf k d p r e = record { kind = k; datasource = d; parameter = p; «record» = r; entry = e }
 
--- the answer of a kind: 0 is missing, then a cell's kinds, any other a highest number
-unfoldable pub answerFrom : ℕ → ℤ → ℕ → ℕ → Answered
-answerFrom k v i n =
-    cond (eqb k 0) Missing
-    (cond (eqb k 73) (Integer v)
-    (cond (eqb k 70) (Decimal v)
-    (cond (eqb k 83) (Text i n)
-    (Highest n))))
+-- the kinds of station.h: 0 is missing, then a cell's kinds, 1 a highest number
+unfoldable pub kindTold : Answer → ℕ
+kindTold missing = 0
+kindTold (cell (integer z)) = integerKind
+kindTold (cell (decimal z)) = decimalKind
+kindTold (cell (string s)) = stringKind
+kindTold (highest n) = 1
 
--- r is the number that ask ends with; what is handed back stands for the answer, a string being a part of the store b
-pub record ToldAnswer (b : List ℕ) (x : Reply) (k : ℕ) (v : ℤ) (i n r : ℕ) : Type 0 where
+-- a number, else 0
+unfoldable pub valueTold : Answer → ℤ
+valueTold missing = pos 0
+valueTold (cell (integer z)) = z
+valueTold (cell (decimal z)) = z
+valueTold (cell (string s)) = pos 0
+valueTold (highest n) = pos 0
+
+-- a string's length or a highest number, else 0
+unfoldable pub countTold : Answer → ℕ
+countTold missing = 0
+countTold (cell (integer z)) = 0
+countTold (cell (decimal z)) = 0
+countTold (cell (string s)) = length s
+countTold (highest n) = n
+
+-- where a string's bytes lie in the store, the first n bytes of b; else 0
+unfoldable pub PlaceTold : List ℕ → ℕ → Answer → ℕ → Type 0
+PlaceTold b n missing i = i ≡ 0
+PlaceTold b n (cell (integer z)) i = i ≡ 0
+PlaceTold b n (cell (decimal z)) i = i ≡ 0
+PlaceTold b n (cell (string s)) i = (take (length s) (drop i b) ≡ s) × (i + length s ≤ n)
+PlaceTold b n (highest m) i = i ≡ 0
+
+-- what is handed back of an answer x, over a store of n bytes in b: a kind, a value, a place and a count
+pub record ToldParts (b : List ℕ) (n : ℕ) (x : Answer) (kind : ℕ) (value : ℤ) (place count : ℕ) : Type 0 where
+  pub is-kind : kind ≡ kindTold x
+  pub is-value : value ≡ valueTold x
+  pub is-place : PlaceTold b n x place
+  pub is-count : count ≡ countTold x
+
+-- r is the number that ask ends with, with the parts of its answer
+pub record ToldAnswer (b : List ℕ) (len : ℕ) (x : Reply) (k : ℕ) (v : ℤ) (i n r : ℕ) : Type 0 where
   pub number : r ≡ numberOf (endOf (tt {0}) (x .end))
-  pub answer : meant b (answerFrom k v i n) ≡ x .answer
+  pub answer : ToldParts b len (x .answer) k v i n
+
+-- the same of an answer of the code
+unfoldable pub kindHanded : Answered → ℕ
+kindHanded Missing = 0
+kindHanded (Integer z) = integerKind
+kindHanded (Decimal z) = decimalKind
+kindHanded (Text i n) = stringKind
+kindHanded (Highest n) = 1
+
+unfoldable pub valueHanded : Answered → ℤ
+valueHanded Missing = pos 0
+valueHanded (Integer z) = z
+valueHanded (Decimal z) = z
+valueHanded (Text i n) = pos 0
+valueHanded (Highest n) = pos 0
+
+unfoldable pub placeHanded : Answered → ℕ
+placeHanded Missing = 0
+placeHanded (Integer z) = 0
+placeHanded (Decimal z) = 0
+placeHanded (Text i n) = i
+placeHanded (Highest n) = 0
+
+unfoldable pub countHanded : Answered → ℕ
+countHanded Missing = 0
+countHanded (Integer z) = 0
+countHanded (Decimal z) = 0
+countHanded (Text i n) = n
+countHanded (Highest n) = n
+
+pub record Hands (a : Answered) (kind : ℕ) (value : ℤ) (place count : ℕ) : Type 0 where
+  pub is-kind : kind ≡ kindHanded a
+  pub is-value : value ≡ valueHanded a
+  pub is-place : place ≡ placeHanded a
+  pub is-count : count ≡ countHanded a
 
 -- over the index of a store in form, the answer of its cells
 pub record ToldLookUp (b places : List ℕ) (count : ℕ) (q : Question) (k : ℕ) (v : ℤ) (i n : ℕ) : Type 0 where
-  pub answer : (len : ℕ) (cs : List Cell) → Ready b len places count cs → meant b (answerFrom k v i n) ≡ cond (questionAllowed q) (answer q cs) missing
+  pub answer : (len : ℕ) (cs : List Cell) → Ready b len places count cs → ToldParts b len (cond (questionAllowed q) (answer q cs) missing) k v i n
 
 -- 0 with the count of the cells, or 1 with the count left
 abbrev pub indexNumber : Option (List Cell) → ℕ

@@ -6,9 +6,9 @@ use meaning::question::Question;
 ghost use mathlib.Core.Path.{_≡_};
 ghost use Rattle.cells.specs.Store.{held};
 ghost use Rattle.cells.specs.Asking.{askOf};
-ghost use Rattle.station.specs.Answers.{answerFrom, questionOf, ToldAnswer, ToldLookUp, ToldIndex};
+ghost use Rattle.station.specs.Answers.{questionOf, Hands, ToldAnswer, ToldLookUp, ToldIndex};
 
-// An answer as a kind, with what that kind needs: a value, or the place and the length of a string.
+// An answer as a kind, with what that kind needs: a value, or the place and the length of a string. The rest is 0.
 fn hand_answer(
     answer: Answered,
     kind: &mut u8,
@@ -16,8 +16,11 @@ fn hand_answer(
     place: &mut usize,
     count: &mut usize,
 )
-    ensures { λ _. ⌜ answerFrom (now (kind .exit)) (now (value .exit)) (now (place .exit)) (now (count .exit)) ≡ answer ⌝ }
+    ensures { λ _. ⌜ Hands answer (now (kind .exit)) (now (value .exit)) (now (place .exit)) (now (count .exit)) ⌝ }
 {
+    *value = 0;
+    *place = 0;
+    *count = 0;
     match answer {
         Answered::Missing => {
             *kind = 0;
@@ -37,7 +40,6 @@ fn hand_answer(
         }
         Answered::Highest(n) => {
             *kind = 1;
-            *place = 0;
             *count = n as usize;
         }
     }
@@ -57,7 +59,7 @@ pub extern "C" fn station_ask(
     place: &mut usize,
     count: &mut usize,
 ) -> u32
-    ensures { λ r. ⌜ ToldAnswer (now (buffer .entry)) (askOf (now (buffer .entry)) length (questionOf kind datasource parameter item entry)) (now (answered .exit)) (now (value .exit)) (now (place .exit)) (now (count .exit)) r ⌝ }
+    ensures { λ r. ⌜ ToldAnswer (now (buffer .entry)) length (askOf (now (buffer .entry)) length (questionOf kind datasource parameter item entry)) (now (answered .exit)) (now (value .exit)) (now (place .exit)) (now (count .exit)) r ⌝ }
 {
     let question = Question {
         kind: kind,

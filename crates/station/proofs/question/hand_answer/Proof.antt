@@ -1,10 +1,8 @@
 -- By the kinds of an answer.
-use mathlib.Core.Path.{sym, ap, _∙_}
 use mir.Syntax.{w64}
 use mir.Val.{SFits}
 use mir.ValLaws.{toZ-ofZ}
-use Rattle.cells.specs.declared.Answered.the-variants.{Integer, Decimal}
-use Rattle.station.specs.Answers.{answerFrom}
+use Rattle.station.proofs.Laws.{hands-missing, hands-integer, hands-decimal, hands-text, hands-highest}
 use borrow.Author.Needs.{needs}
 use Rattle.station.proofs.question.hand_answer.Statement.{statement}
 use Rattle.station.proofs.question.hand_answer.Tie as tie
@@ -28,30 +26,25 @@ cast-count : tie.Need-cast-count
 cast-count c = search needs
 
 returns : tie.Need-returns
-unfolding answerFrom
-returns c = sym (c .enum-told .given .1)
+returns c = hands-missing (c .enum-told .given .1)
 
 returns-2 : tie.Need-returns-2
-unfolding answerFrom
 returns-2 c =
     let v = c .before .answer .given in
     let f : SFits w64 (v .0 .0) = search needs in
-    ap Integer (toZ-ofZ w64 _ f) ∙ sym (v .1)
+    hands-integer (v .1) (toZ-ofZ w64 _ f)
 
 returns-3 : tie.Need-returns-3
-unfolding answerFrom
 returns-3 c =
     let v = c .before .answer2 .given in
     let f : SFits w64 (v .0 .0) = search needs in
-    ap Decimal (toZ-ofZ w64 _ f) ∙ sym (v .1)
+    hands-decimal (v .1) (toZ-ofZ w64 _ f)
 
 returns-4 : tie.Need-returns-4
-unfolding answerFrom
-returns-4 c = sym (c .before .answer3 .given .1)
+returns-4 c = hands-text (c .before .answer3 .given .1)
 
 returns-5 : tie.Need-returns-5
-unfolding answerFrom
-returns-5 c = sym (c .before .answer4 .given .1)
+returns-5 c = hands-highest (c .before .answer4 .given .1)
 
 pub hand-answer-spec : {M : Type 1} → statement M
 hand-answer-spec =

@@ -14,7 +14,7 @@ number-of-requires : tie.Need-number-of-requires
 number-of-requires c κs = search needs
 
 returns : tie.Need-returns
-returns c = told-answer _ _ (c .before .before .before .before .before .before .ask .ensures) (c .before .hand-answer .ensures) (c .number-of .ensures)
+returns c = told-answer _ (c .before .before .before .before .before .before .ask .ensures) (c .before .hand-answer .ensures) (c .number-of .ensures)
 
 pub station-ask-spec : {M : Type 1} → statement M
 station-ask-spec =

@@ -11,7 +11,7 @@ hand-answer-requires : tie.Need-hand-answer-requires
 hand-answer-requires c κs = search needs
 
 returns : tie.Need-returns
-returns c = told-look-up _ _ (c .before .before .before .before .before .answer .ensures) (c .hand-answer .ensures)
+returns c = told-look-up _ (c .before .before .before .before .before .answer .ensures) (c .hand-answer .ensures)
 
 pub station-look-up-spec : {M : Type 1} → statement M
 station-look-up-spec = tie.close (tie.spec answer-requires hand-answer-requires returns)
