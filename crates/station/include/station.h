@@ -52,7 +52,7 @@ struct station_question {
 /* Ask: a question to the store in the first `length` bytes of a buffer. The number that document 01 gives is returned: 0, 1 or
    15. *answered says what the answer is, STATION_MISSING also where the question is refused. An integer and a decimal (a count
    of millionths) are in *value; of a string, *place and *count say where it lies in the buffer and how long it is; a highest
-   number is in *count. Outputs that an answer doesn't need may hold anything afterwards. */
+   number is in *count. Outputs that an answer doesn't need are 0. */
 uint32_t station_ask(const uint8_t *buffer, size_t buffer_length, size_t length, uint32_t kind, uint32_t datasource,
                      uint32_t parameter, uint32_t record, uint32_t entry, uint8_t *answered, int64_t *value,
                      size_t *place, size_t *count);
