@@ -1,0 +1,4 @@
+pub mod Number
+pub mod Argument
+pub mod Text
+pub mod Line
