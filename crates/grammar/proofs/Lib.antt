@@ -6,3 +6,4 @@ pub mod Arguments
 pub mod Texts
 pub mod Commands
 pub mod Lines
+pub mod There

@@ -1,0 +1,107 @@
+-- The search by depth finds the match: where checks 2 to 4 accept, behind a test, an $ELSE or a $BT.
+use mathlib.Core.Path.{_≡_, refl, sym, ap, _∙_, subst}
+use mathlib.Core.Bool.{false}
+use mathlib.Core.List.{List, _∷_}
+use mathlib.Core.Option.{some}
+use Prim.Native.Nat.{ℕ, zero, suc, _+_, _≤_, _<_}
+use native.Mathlib.Omega.{arith}
+use lib.ListN.{length, drop}
+use Rattle.scan.specs.Line.{lineAt, nextLine}
+use Rattle.nesting.specs.Nest.{Mark, test, other}
+use Rattle.template.specs.declared.seek.Sought.{Sought}
+use Rattle.template.specs.declared.seek.Sought.the-variants.{Branch, TestEnd, TableEnd}
+use Rattle.template.specs.declared.seek.Way.{Way}
+use Rattle.template.specs.declared.seek.Skip.{Skip}
+use Rattle.template.specs.Lines.{linesOf}
+use Rattle.template.specs.Checks.{nestStep}
+use Rattle.template.specs.Seek.{orSkip, skipFrom}
+use Rattle.template.specs.Opening.{Opens, Checks}
+use Rattle.template.proofs.LineLaws.{lines-more}
+use Rattle.template.proofs.Opening.{opens-line, opens-next, open-inside, line-turn}
+use Rattle.template.proofs.WordForm.{shape-by-word}
+use Rattle.template.proofs.Matching.{Over, here, a-test, an-other, a-table, topOf, depthOf, Lands, behind-end, behind-else, Went, on, landed, over-open, search-step}
+use Rattle.structure.specs.Matching.{Around, closed, turned, MatchedBy, this, later}
+
+-- ---- while something is open inside, the match is not met
+
+over-longer : {top : Mark} {M W : List Mark} {a d : ℕ} → Over top M a d W → length M < length W
+over-longer here = omega arith
+over-longer (a-test o) = omega (arith, over-longer o)
+over-longer (an-other o) = omega (arith, over-longer o)
+over-longer (a-table o) = omega (arith, over-longer o)
+
+over-other : {M W : List Mark} {a d : ℕ} → Over test M a d (other ∷ W) → length M < length W
+over-other (an-other o) = over-longer o
+
+not-around : (q : Sought) {M W : List Mark} {a d : ℕ} → Over (topOf q) M a d W → Around M q W → ⊥
+not-around q o (closed q′) = omega (arith, over-longer o)
+not-around q o turned = omega (arith, over-other o)
+
+lands-around : {q : Sought} {M X : List Mark} → Lands M q X → Around M q X
+lands-around {q} behind-end = closed q
+lands-around behind-else = turned
+
+-- ---- the search
+
+-- from some bytes and lines on, the search passes what the match says
+record Meets (q : Sought) (M W : List Mark) (ls : List (List ℕ)) (b m : ℕ) (k : Skip) : Type 0 where
+  bytes : ℕ
+  lines : ℕ
+  matched : MatchedBy q M W ls bytes lines
+  bytes-are : k .bytes ≡ b + bytes
+  lines-are : k .lines ≡ m + lines
+
+module _ (q : Sought) {M : List Mark} where
+  behind-line : {w : Way} {W X : List Mark} (l : List ℕ) (ls : List (List ℕ)) (b m : ℕ) → Went q M w X → nestStep W l ≡ some X → ((a d : ℕ) → Over (topOf q) M a d X → Meets q M X ls (b + length l + 1) (suc m) (skipFrom q (depthOf q a d) (b + length l + 1) (suc m) ls)) → Meets q M W (l ∷ ls) b m (orSkip w (λ k. skipFrom q k (b + length l + 1) (suc m) ls) (record { bytes = b + length l + 1; lines = suc m }))
+  unfolding orSkip
+  behind-line {W = W} {X = X} l ls b m (on {a} {b = d} v) e more =
+      let i = more a d v in
+      record {
+        bytes = length l + 1 + i .bytes;
+        lines = 1 + i .lines;
+        matched = later W X l ls (i .bytes) (i .lines) e (not-around q v) (i .matched);
+        bytes-are = omega (arith, i .bytes-are);
+        lines-are = omega (arith, i .lines-are);
+      }
+  behind-line {W = W} {X = X} l ls b m (landed x) e more =
+      record { bytes = length l + 1; lines = 1; matched = this W X l ls e (lands-around x); bytes-are = omega arith; lines-are = omega arith }
+
+  module _ {t : List ℕ} (c : Checks t) where
+    search-meets : (f b m : ℕ) {p j a d : ℕ} {W : List Mark} → length t ≤ p + f → Opens t p j W → Over (topOf q) M a d W → Meets q M W (linesOf (drop p t)) b m (skipFrom q (depthOf q a d) b m (linesOf (drop p t)))
+    unfolding skipFrom
+    search-meets zero b m h o v = absurd (omega (arith, open-inside c o (over-open q v .1)))
+    search-meets (suc f) b m {p} h o v =
+        let k = open-inside c o (over-open q v .1) in
+        let i = opens-line c o k in
+        rw (lines-more t p k, shape-by-word (lineAt t p) (i .formed))
+        (behind-line (lineAt t p) (linesOf (drop (nextLine t p) t)) b m (search-step q (line-turn (lineAt t p) (i .steps)) v) (i .steps)
+        (λ a d u. search-meets f (b + length (lineAt t p) + 1) (suc m) (omega arith) (opens-next c o k) u))
+
+depth-none : (q : Sought) → depthOf q 0 0 ≡ 0
+unfolding depthOf
+depth-none Branch = refl
+depth-none TestEnd = refl
+depth-none TableEnd = refl
+
+-- Where checks 2 to 4 accept, behind a test (or its $ELSE, or a $BT) in M, the search passes what lies up to the match.
+pub search-is-match : {t : List ℕ} {M : List Mark} {at n : ℕ} → Checks t → (q : Sought) → Opens t at n (topOf q ∷ M) → MatchedBy q M (topOf q ∷ M) (linesOf (drop at t)) (skipFrom q 0 0 0 (linesOf (drop at t)) .bytes) (skipFrom q 0 0 0 (linesOf (drop at t)) .lines)
+search-is-match {t} {M} {at} c q o =
+    let k : Skip = skipFrom q 0 0 0 (linesOf (drop at t)) in
+    let j = search-meets q c (length t) 0 0 (omega arith) o here in
+    let i : Meets q M (topOf q ∷ M) (linesOf (drop at t)) 0 0 k = subst (λ (d : ℕ). Meets q M (topOf q ∷ M) (linesOf (drop at t)) 0 0 (skipFrom q d 0 0 (linesOf (drop at t)))) (depth-none q) j in
+    let b : i .bytes ≡ k .bytes = omega (arith, i .bytes-are) in
+    let m : i .lines ≡ k .lines = omega (arith, i .lines-are) in
+    subst (λ (x : ℕ). MatchedBy q M (topOf q ∷ M) (linesOf (drop at t)) x (k .lines)) b
+    (subst (λ (x : ℕ). MatchedBy q M (topOf q ∷ M) (linesOf (drop at t)) (i .bytes) x) m (i .matched))
+
+some-inj : {A : Type 0} {x y : A} → some x ≡ some y → x ≡ y
+some-inj e = cc
+
+-- There is one match at most.
+pub matched-one : {q : Sought} {M W : List Mark} {ls : List (List ℕ)} {b k b′ k′ : ℕ} → MatchedBy q M W ls b k → MatchedBy q M W ls b′ k′ → (b ≡ b′) × (k ≡ k′)
+matched-one (this W X l ls e a) (this W′ X′ l′ ls′ e′ a′) = (refl, refl)
+matched-one {q} {M} (this W X l ls e a) (later W′ X′ l′ ls′ b k e′ n m) = absurd (n (subst (Around M q) (some-inj (sym e ∙ e′)) a))
+matched-one {q} {M} (later W X l ls b k e n m) (this W′ X′ l′ ls′ e′ a′) = absurd (n (subst (Around M q) (some-inj (sym e′ ∙ e)) a′))
+matched-one {q} {M} (later W X l ls b k e n m) (later W′ X′ l′ ls′ b′ k′ e′ n′ m′) =
+    let i = matched-one m (subst (λ (Y : List Mark). MatchedBy q M Y ls b′ k′) (some-inj (sym e′ ∙ e)) m′) in
+    (ap (λ (x : ℕ). length l + 1 + x) (i .0), ap (λ (x : ℕ). 1 + x) (i .1))
