@@ -1,6 +1,7 @@
 -- Each shape has a function of its own; a $REM changes nothing.
 use Rattle.nesting.specs.Nest.{behind}
-use Rattle.nesting.specs.Open.{Follows}
+use mathlib.Core.Path.{refl}
+use Rattle.nesting.specs.Open.{Follows, stepIn}
 use borrow.Author.Needs.{needs}
 use Rattle.nesting.proofs.after_line.Statement.{statement}
 use Rattle.nesting.proofs.after_line.Tie as tie
@@ -60,8 +61,8 @@ returns : tie.Need-returns
 returns c = rw (c .before .enum-told .given .1) (c .section-begun .ensures)
 
 returns-2 : tie.Need-returns-2
-unfolding Follows behind
-returns-2 c = rw (c .enum-told2 .given .1) (record { follows = λ s h. h })
+unfolding Follows behind stepIn
+returns-2 c = rw (c .enum-told2 .given .1) (record { told = refl; follows = λ s h. h })
 
 returns-3 : tie.Need-returns-3
 returns-3 c = rw (c .before .enum-told3 .given .1) (c .test-begun .ensures)
@@ -82,8 +83,8 @@ returns-8 : tie.Need-returns-8
 returns-8 c = rw (c .before .enum-told8 .given .1) (c .passed .ensures)
 
 returns-9 : tie.Need-returns-9
-unfolding behind
-returns-9 c = rw (c .before .enum-told9 .given .1) (record { follows = λ s h. c .passed2 .ensures .follows s h })
+unfolding behind stepIn
+returns-9 c = rw (c .before .enum-told9 .given .1) (record { told = c .passed2 .ensures .told; follows = λ s h. c .passed2 .ensures .follows s h })
 
 pub after-line-spec : {M : Type 1} → statement M
 after-line-spec =
