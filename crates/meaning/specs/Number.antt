@@ -41,7 +41,8 @@ abbrev pub numberOf : {L A : Type 0} → End Refusal L A → ℕ
 numberOf (finished a) = 0
 numberOf (halted c l) = causeNumber c
 
--- "Lines count from 1; 0, 1, 6 and every end of ask, put and remove give line 0."
+-- The line that an end names; "0 .. give line 0". That 1 and 6 do, and every end of ask, put and remove, is said where these are
+-- made: report/specs/Report:reportOf, template/specs/Order:acceptedRun, cells/specs/Asking:refusedWith.
 abbrev pub lineOf : {A : Type 0} → End Refusal ℕ A → ℕ
 lineOf (finished a) = 0
 lineOf (halted c l) = l
