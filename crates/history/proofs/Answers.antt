@@ -1,19 +1,22 @@
 -- Answers before and after a list of edits.
-use mathlib.Core.Path.{_≡_, refl, ap, _∙_}
-use mathlib.Core.Bool.{true, false, _&&_}
+use mathlib.Core.Path.{_≡_, refl, sym, ap, _∙_}
+use mathlib.Core.Bool.{Bool, true, false, cond, _&&_}
 use mathlib.Core.List.{List, [], _∷_}
 use mathlib.Core.Option.{Option, none, some}
+use Prim.Native.Nat.{ℕ}
+use lib.ListN.{length}
 use borrow.Author.Tests.{eqb-false, eq-eqb, not-true}
 use Rattle.meaning.specs.declared.question.Question.{Question}
-use Rattle.meaning.specs.declared.end.Ended.{Ended}
-use Rattle.meaning.specs.declared.end.Ended.the-variants.{Finished, Halted}
+use Rattle.meaning.specs.declared.refusal.Refusal.the-variants.{StoreFull}
 use Rattle.cells.specs.Cell.{Key, Cell, number, wholeCell, wholeKey}
 use Rattle.cells.specs.Asking.{asked, lookup, questionAllowed, answer, answeredAsk, replied, askOf}
 use Rattle.cells.proofs.BigEndian.{and-true}
+use Rattle.store.specs.Edit.{with, refusedOn, doneOn, fits, putOn, takenOut, removeOn}
 use Rattle.history.specs.State.{State, heldBy, askIn}
-use Rattle.history.specs.Change.{Change, put, remove, next, endOf, succeeded, keyOfCell, keyNamed, isKey, touches, withPut, withoutRemoved, changed, left}
-use Rattle.history.specs.History.{after, ends, untouched, cellsAfter, heldAfter}
+use Rattle.history.specs.Change.{Change, put, remove, next, succeeded, accepted, keyOfCell, keyNamed, isKey, touches, edited}
+use Rattle.history.specs.History.{after, untouched, cellsAfter, heldAfter}
 use Rattle.history.proofs.Lookup.{lookup-with-other, lookup-without-other}
+use Rattle.history.proofs.Form.{form-kept, end-kept, refused-left}
 use Rattle.history.proofs.Lists.{folded}
 
 -- Stores that hold the same cells answer every question alike.
@@ -28,33 +31,44 @@ answered m cs q h a = rw (h, a)
 
 -- ---- edits of other keys
 
-pub changed-other : (k : Key) (e : Change) (cs : List Cell) → isKey k (keyNamed e) ≡ false → lookup (number k) (changed e cs) ≡ lookup (number k) cs
-unfolding keyNamed keyOfCell isKey changed withPut withoutRemoved
-changed-other k (put s) cs = go (wholeCell s)
+pub edited-other : (size : ℕ) (k : Key) (e : Change) (cs : List Cell) → isKey k (keyNamed e) ≡ false → lookup (number k) (edited size e cs .left) ≡ lookup (number k) cs
+unfolding keyNamed keyOfCell isKey edited putOn removeOn takenOut
+edited-other size k (put s) cs = go (wholeCell s)
   where
-    go : (o : Option Cell) → isKey k (keyOfCell o) ≡ false → lookup (number k) (withPut o cs) ≡ lookup (number k) cs
-    go none e = refl
-    go (some c) e = lookup-with-other (number k) c cs (eqb-false _ _ e)
-changed-other k (remove s) cs = go (wholeKey s)
-  where
-    go : (o : Option Key) → isKey k o ≡ false → lookup (number k) (withoutRemoved o cs) ≡ lookup (number k) cs
-    go none e = refl
-    go (some l) e = lookup-without-other (number k) (number l) cs (eqb-false _ _ e)
+    by : (c : Cell) (t : Bool) → isKey k (keyOfCell (some c)) ≡ false → lookup (number k) (cond t (doneOn (with c cs)) (refusedOn StoreFull cs) .left) ≡ lookup (number k) cs
+    by c true e = lookup-with-other (number k) c cs (eqb-false _ _ e)
+    by c false e = refl
 
-left-other : (k : Key) (e : Change) (m : State) (cs : List Cell) → touches k e m ≡ false → lookup (number k) (left (endOf e m) (changed e cs) cs) ≡ lookup (number k) cs
-unfolding touches succeeded left
-left-other k e m cs = go (endOf e m)
+    go : (o : Option Cell) → isKey k (keyOfCell o) ≡ false → lookup (number k) (putOn size o cs .left) ≡ lookup (number k) cs
+    go none e = refl
+    go (some c) e = by c (fits size (with c cs)) e
+edited-other size k (remove s) cs = go (wholeKey s)
   where
-    go : (x : Ended) → succeeded x && isKey k (keyNamed e) ≡ false → lookup (number k) (left x (changed e cs) cs) ≡ lookup (number k) cs
-    go Finished u = changed-other k e cs u
-    go (Halted h l) u = refl
+    by : (l : Key) (o : Option Cell) → isKey k (some l) ≡ false → lookup (number k) (takenOut (number l) cs o .left) ≡ lookup (number k) cs
+    by l none e = refl
+    by l (some c) e = lookup-without-other (number k) (number l) cs (eqb-false _ _ e)
 
-lookup-kept : (k : Key) (es : List Change) (m : State) (cs : List Cell) → untouched k es m ≡ true → lookup (number k) (cellsAfter es (ends es m) cs) ≡ lookup (number k) cs
-unfolding untouched ends cellsAfter
-lookup-kept k [] m cs u = refl
-lookup-kept k (e ∷ es) m cs u =
+    go : (o : Option Key) → isKey k o ≡ false → lookup (number k) (removeOn o cs .left) ≡ lookup (number k) cs
+    go none e = refl
+    go (some l) e = by l (lookup (number l) cs) e
+
+-- an edit that is refused, or of another key
+left-other : (k : Key) (e : Change) (m : State) (cs : List Cell) → heldBy m ≡ some cs → touches k e m ≡ false → lookup (number k) (edited (length (m .buffer)) e cs .left) ≡ lookup (number k) cs
+unfolding touches
+left-other k e m cs h u = go (accepted e m) refl
+  where
+    go : (t : Bool) → accepted e m ≡ t → lookup (number k) (edited (length (m .buffer)) e cs .left) ≡ lookup (number k) cs
+    go true a = edited-other (length (m .buffer)) k e cs (rw a at u)
+    go false a = ap (lookup (number k)) (refused-left (length (m .buffer)) e cs (ap succeeded (sym (end-kept e m cs h)) ∙ a))
+
+lookup-kept : (k : Key) (es : List Change) (m : State) (cs : List Cell) → heldBy m ≡ some cs → untouched k es m ≡ true → lookup (number k) (cellsAfter (length (m .buffer)) es cs) ≡ lookup (number k) cs
+unfolding untouched cellsAfter
+lookup-kept k [] m cs h u = refl
+lookup-kept k (e ∷ es) m cs h u =
     let t = and-true _ _ u in
-    lookup-kept k es (next e m) (left (endOf e m) (changed e cs) cs) (t .1) ∙ left-other k e m cs (not-true _ (t .0))
+    let i = form-kept e m cs h in
+    let ds : List Cell = edited (length (m .buffer)) e cs .left in
+    ap (λ (size : ℕ). lookup (number k) (cellsAfter size es ds)) (sym (i .size)) ∙ lookup-kept k es (next e m) ds (i .held) (t .1) ∙ left-other k e m cs h (not-true _ (t .0))
 
 -- "Kind 1 asks for the cell of a key": its answer is that of the cell found
 answer-cell : (q : Question) (cs ds : List Cell) → q .kind ≡ 1 → lookup (number (asked q)) cs ≡ lookup (number (asked q)) ds → replied q (some cs) ≡ replied q (some ds)
@@ -65,8 +79,8 @@ answer-cell q cs ds h e = rw (eq-eqb (q .kind) 1 h, e)
 -- of that key.
 pub other-key : (q : Question) (es : List Change) (m : State) → q .kind ≡ 1 → untouched (asked q) es m ≡ true → askIn (after es m) q ≡ askIn m q
 unfolding askOf heldAfter
-other-key q es m h u = ap (replied q) (folded es m) ∙ go (heldBy m)
+other-key q es m h u = ap (replied q) (folded es m) ∙ go (heldBy m) refl
   where
-    go : (o : Option (List Cell)) → replied q (heldAfter es (ends es m) o) ≡ replied q o
-    go none = refl
-    go (some cs) = answer-cell q (cellsAfter es (ends es m) cs) cs h (lookup-kept (asked q) es m cs u)
+    go : (o : Option (List Cell)) → heldBy m ≡ o → replied q (heldAfter (length (m .buffer)) es o) ≡ replied q o
+    go none e = refl
+    go (some cs) e = answer-cell q (cellsAfter (length (m .buffer)) es cs) cs h (lookup-kept (asked q) es m cs e u)

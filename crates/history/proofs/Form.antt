@@ -10,6 +10,8 @@ use borrow.Author.Tests.{le-leb, leb-true}
 use lib.Dec.{leb}
 use lib.ListN.{length, take, drop, replicate, length-append, length-replicate}
 use lib.Seq.{sets, sets-eq, length-sets, take-append-seam, length-take-le}
+use Rattle.meaning.specs.declared.end.Ended.{Ended}
+use Rattle.meaning.specs.declared.end.Ended.the-variants.{Finished, Halted}
 use Rattle.meaning.specs.declared.refusal.Refusal.{Refusal}
 use Rattle.meaning.specs.declared.refusal.Refusal.the-variants.{BadStore, BadRequest, StoreFull, NoCell}
 use Rattle.cells.specs.Bytes.{same}
@@ -18,9 +20,9 @@ use Rattle.cells.specs.Store.{capacity, encode, cells, held}
 use Rattle.cells.specs.Asking.{lookup}
 use Rattle.cells.proofs.BigEndian.{and-true}
 use Rattle.cells.proofs.Runs.{Valid, Holds, some-inj, none-some, cells-encode, cells-some}
-use Rattle.store.specs.Edit.{with, without, Edit, refusedEdit, written, fits, putIn, takenOut, removeFrom, checked, putOf, removeOf}
+use Rattle.store.specs.Edit.{with, without, CellEdit, refusedOn, doneOn, fits, putOn, takenOut, removeOn, Edit, refusedEdit, written, writtenBy, writtenOut, checked, putOf, removeOf}
 use Rattle.history.specs.State.{State, heldBy}
-use Rattle.history.specs.Change.{Change, put, remove, handedBack, handedOn, next, succeeded, accepted, withPut, withoutRemoved, changed, left}
+use Rattle.history.specs.Change.{Change, put, remove, handedBack, handedOn, next, endOf, succeeded, accepted, edited}
 use Rattle.history.proofs.Order.{with-valid, without-valid, without-shorter}
 
 -- ---- what is handed in
@@ -67,8 +69,8 @@ size-held b n cs f = ap length (f .run .bytes) ∙ length-take-le n b (f .inside
 
 -- ---- what an edit hands back: the cells behind it, in a buffer as long as before
 
-pub record Kept (b : List ℕ) (cs ds : List Cell) (r : Edit) : Type 0 where
-  pub held : held (r .buffer) (r .length) ≡ some (left (r .end) ds cs)
+pub record Kept (b : List ℕ) (cs : List Cell) (r : Edit) : Type 0 where
+  pub held : held (r .buffer) (r .length) ≡ some cs
   pub size : length (r .buffer) ≡ length b
 
 front-written : (b e z : List ℕ) → length (e ++ z) ≤ length b → take (length e) (sets b 0 (e ++ z)) ≡ e
@@ -76,95 +78,112 @@ front-written b e z h =
     ap (take (length e)) (sets-eq (e ++ z) b 0 (omega arith) ∙ append-assoc e z (drop (0 + length (e ++ z)) b))
     ∙ take-append-seam e (z ++ drop (0 + length (e ++ z)) b)
 
-written-kept : (b : List ℕ) (n : ℕ) (cs ds : List Cell) → n ≤ length b → Valid ds → length (encode ds) ≤ length b → length (encode ds) ≤ capacity → Kept b cs ds (written b n ds)
-unfolding written left
-written-kept b n cs ds h v k l =
+written-kept : (b : List ℕ) (n : ℕ) (ds : List Cell) → n ≤ length b → Valid ds → length (encode ds) ≤ length b → length (encode ds) ≤ capacity → Kept b ds (written b n ds)
+unfolding written
+written-kept b n ds h v k l =
     let e : List ℕ = encode ds in
     let z : List ℕ = replicate (n - length e) 0 in
     let s : length (sets b 0 (e ++ z)) ≡ length b = length-sets b 0 (e ++ z) in
     let f : take (length e) (sets b 0 (e ++ z)) ≡ e = front-written b e z (omega (arith, length-append e z, length-replicate {A = ℕ} (n - length e) 0)) in
     record { held = form-held (sets b 0 (e ++ z)) (length e) ds (omega arith) l (sym f) v; size = s }
 
-fits-says : (b : List ℕ) (cs : List Cell) → fits b cs ≡ true → (length (encode cs) ≤ length b) × (length (encode cs) ≤ capacity)
+fits-says : (size : ℕ) (cs : List Cell) → fits size cs ≡ true → (length (encode cs) ≤ size) × (length (encode cs) ≤ capacity)
 unfolding fits
-fits-says b cs e = let t = and-true _ _ e in (leb-true _ _ (t .0), leb-true _ _ (t .1))
+fits-says size cs e = let t = and-true _ _ e in (leb-true _ _ (t .0), leb-true _ _ (t .1))
 
 module _ (b : List ℕ) (n : ℕ) (cs : List Cell) (h : held b n ≡ some cs) where
-  refused-kept : (ds : List Cell) (e : Refusal) → Kept b cs ds (refusedEdit b n e)
-  unfolding left
-  refused-kept ds e = record { held = h; size = refl }
+  -- the cells that an edit leaves are held by what it hands back
+  abbrev Keeps : CellEdit → Type 0
+  Keeps x = Kept b (x .left) (writtenOut b n x)
 
-  put-kept : (s : List ℕ) (o : Option Cell) → wholeCell s ≡ o → Kept b cs (withPut o cs) (putIn b n o cs)
-  unfolding putIn withPut
-  put-kept s none e = refused-kept cs BadRequest
-  put-kept s (some c) e = go (fits b (with c cs)) refl
+  refused-kept : (e : Refusal) → Keeps (refusedOn e cs)
+  unfolding writtenBy
+  refused-kept e = record { held = h; size = refl }
+
+  put-kept : (s : List ℕ) (o : Option Cell) → wholeCell s ≡ o → Keeps (putOn (length b) o cs)
+  unfolding putOn writtenBy
+  put-kept s none e = refused-kept BadRequest
+  put-kept s (some c) e = go (fits (length b) (with c cs)) refl
     where
-      go : (t : Bool) → fits b (with c cs) ≡ t → Kept b cs (with c cs) (cond t (written b n (with c cs)) (refusedEdit b n StoreFull))
+      go : (t : Bool) → fits (length b) (with c cs) ≡ t → Keeps (cond t (doneOn (with c cs)) (refusedOn StoreFull cs))
       go true f =
           let i = held-form b n cs h in
-          let t = fits-says b (with c cs) f in
-          written-kept b n cs (with c cs) (i .inside) (with-valid c cs (cell-allowed s c e) (i .run .valid)) (t .0) (t .1)
-      go false f = refused-kept (with c cs) StoreFull
+          let t = fits-says (length b) (with c cs) f in
+          written-kept b n (with c cs) (i .inside) (with-valid c cs (cell-allowed s c e) (i .run .valid)) (t .0) (t .1)
+      go false f = refused-kept StoreFull
 
-  taken-kept : (k : ℕ) (o : Option Cell) → Kept b cs (without k cs) (takenOut b n k cs o)
-  unfolding takenOut
-  taken-kept k none = refused-kept (without k cs) NoCell
+  taken-kept : (k : ℕ) (o : Option Cell) → Keeps (takenOut k cs o)
+  unfolding takenOut writtenBy
+  taken-kept k none = refused-kept NoCell
   taken-kept k (some c) =
       let i = held-form b n cs h in
       let t : length (encode (without k cs)) ≤ n = subst (λ (x : ℕ). length (encode (without k cs)) ≤ x) (size-held b n cs i) (without-shorter k cs) in
-      written-kept b n cs (without k cs) (i .inside) (without-valid k cs (i .run .valid)) (le-trans t (i .inside)) (le-trans t (i .limit))
+      written-kept b n (without k cs) (i .inside) (without-valid k cs (i .run .valid)) (le-trans t (i .inside)) (le-trans t (i .limit))
 
-  remove-kept : (o : Option Key) → Kept b cs (withoutRemoved o cs) (removeFrom b n o cs)
-  unfolding removeFrom withoutRemoved
-  remove-kept none = refused-kept cs BadRequest
+  remove-kept : (o : Option Key) → Keeps (removeOn o cs)
+  unfolding removeOn
+  remove-kept none = refused-kept BadRequest
   remove-kept (some k) = taken-kept (number k) (lookup (number k) cs)
 
 -- From a store in form every edit leaves one in form, with the cells that its definition gives: "Put adds or replaces the cell
 -- of a key", "Remove takes it out", and a refused edit changes nothing. The buffer stays as long as it was.
-pub form-kept : (e : Change) (m : State) (cs : List Cell) → heldBy m ≡ some cs → Kept (m .buffer) cs (changed e cs) (handedBack e m)
-unfolding handedBack changed putOf removeOf checked
+pub form-kept : (e : Change) (m : State) (cs : List Cell) → heldBy m ≡ some cs → Kept (m .buffer) (edited (length (m .buffer)) e cs .left) (handedBack e m)
+unfolding handedBack edited putOf removeOf checked
 form-kept (put s) m cs h = rw h (put-kept (m .buffer) (m .length) cs h s (wholeCell s) refl)
 form-kept (remove s) m cs h = rw h (remove-kept (m .buffer) (m .length) cs h (wholeKey s))
 
+written-end : (b : List ℕ) (n : ℕ) (cs : List Cell) (x : Ended) → writtenBy b n cs x .end ≡ x
+unfolding writtenBy written
+written-end b n cs Finished = refl
+written-end b n cs (Halted h l) = refl
+
+-- and it ends as it does on the cells
+pub end-kept : (e : Change) (m : State) (cs : List Cell) → heldBy m ≡ some cs → endOf e m ≡ edited (length (m .buffer)) e cs .end
+unfolding handedBack edited putOf removeOf checked
+end-kept (put s) m cs h =
+    ap (λ (o : Option (List Cell)). checked (m .buffer) (m .length) (putOn (length (m .buffer)) (wholeCell s)) o .end) h ∙ written-end (m .buffer) (m .length) _ _
+end-kept (remove s) m cs h =
+    ap (λ (o : Option (List Cell)). checked (m .buffer) (m .length) (removeOn (wholeKey s)) o .end) h ∙ written-end (m .buffer) (m .length) _ _
+
 -- ---- "Refused edits change nothing and hand back the old length"
 
-module _ (b : List ℕ) (n : ℕ) where
-  abbrev Stays : Edit → Type 0
-  Stays r = succeeded (r .end) ≡ false → handedOn r ≡ record { buffer = b; length = n }
+-- a refused edit leaves the cells
+pub refused-left : (size : ℕ) (e : Change) (cs : List Cell) → succeeded (edited size e cs .end) ≡ false → edited size e cs .left ≡ cs
+unfolding edited putOn removeOn takenOut succeeded
+refused-left size (put s) cs = go (wholeCell s)
+  where
+    by : (c : Cell) (t : Bool) → succeeded (cond t (doneOn (with c cs)) (refusedOn StoreFull cs) .end) ≡ false → cond t (doneOn (with c cs)) (refusedOn StoreFull cs) .left ≡ cs
+    by c true e = absurd (true≢false e)
+    by c false e = refl
 
-  written-not : (cs : List Cell) → Stays (written b n cs)
-  unfolding written succeeded
-  written-not cs e = absurd (true≢false e)
+    go : (o : Option Cell) → succeeded (putOn size o cs .end) ≡ false → putOn size o cs .left ≡ cs
+    go none e = refl
+    go (some c) e = by c (fits size (with c cs)) e
+refused-left size (remove s) cs = go (wholeKey s)
+  where
+    by : (k : ℕ) (o : Option Cell) → succeeded (takenOut k cs o .end) ≡ false → takenOut k cs o .left ≡ cs
+    by k none e = refl
+    by k (some c) e = absurd (true≢false e)
 
-  put-stays : (o : Option Cell) (cs : List Cell) → Stays (putIn b n o cs)
-  unfolding putIn
-  put-stays none cs = λ e. refl
-  put-stays (some c) cs = go (fits b (with c cs))
-    where
-      go : (t : Bool) → Stays (cond t (written b n (with c cs)) (refusedEdit b n StoreFull))
-      go true = written-not (with c cs)
-      go false = λ e. refl
+    go : (o : Option Key) → succeeded (removeOn o cs .end) ≡ false → removeOn o cs .left ≡ cs
+    go none e = refl
+    go (some k) e = by (number k) (lookup (number k) cs) e
 
-  taken-stays : (k : ℕ) (cs : List Cell) (o : Option Cell) → Stays (takenOut b n k cs o)
-  unfolding takenOut
-  taken-stays k cs none = λ e. refl
-  taken-stays k cs (some c) = written-not (without k cs)
+written-stays : (b : List ℕ) (n : ℕ) (cs : List Cell) (x : Ended) → succeeded (writtenBy b n cs x .end) ≡ false → handedOn (writtenBy b n cs x) ≡ record { buffer = b; length = n }
+unfolding writtenBy written succeeded
+written-stays b n cs Finished e = absurd (true≢false e)
+written-stays b n cs (Halted h l) e = refl
 
-  remove-stays : (o : Option Key) (cs : List Cell) → Stays (removeFrom b n o cs)
-  unfolding removeFrom
-  remove-stays none cs = λ e. refl
-  remove-stays (some k) cs = taken-stays (number k) cs (lookup (number k) cs)
-
-  checked-stays : (f : List Cell → Edit) → ((cs : List Cell) → Stays (f cs)) → (o : Option (List Cell)) → Stays (checked b n f o)
-  unfolding checked
-  checked-stays f h none = λ e. refl
-  checked-stays f h (some cs) = h cs
+checked-stays : (b : List ℕ) (n : ℕ) (f : List Cell → CellEdit) (o : Option (List Cell)) → succeeded (checked b n f o .end) ≡ false → handedOn (checked b n f o) ≡ record { buffer = b; length = n }
+unfolding checked
+checked-stays b n f none = λ e. refl
+checked-stays b n f (some cs) = written-stays b n (f cs .left) (f cs .end)
 
 -- A refused edit keeps every byte and the length.
 pub refused-keeps : (e : Change) (m : State) → accepted e m ≡ false → next e m ≡ m
 unfolding handedBack putOf removeOf
-refused-keeps (put s) m = checked-stays (m .buffer) (m .length) _ (put-stays (m .buffer) (m .length) (wholeCell s)) (heldBy m)
-refused-keeps (remove s) m = checked-stays (m .buffer) (m .length) _ (remove-stays (m .buffer) (m .length) (wholeKey s)) (heldBy m)
+refused-keeps (put s) m = checked-stays (m .buffer) (m .length) (putOn (length (m .buffer)) (wholeCell s)) (heldBy m)
+refused-keeps (remove s) m = checked-stays (m .buffer) (m .length) (removeOn (wholeKey s)) (heldBy m)
 
 -- 1: "The store breaks its form": every edit is refused with it
 pub out-of-form-once : (e : Change) (m : State) → heldBy m ≡ none → handedBack e m ≡ refusedEdit (m .buffer) (m .length) BadStore

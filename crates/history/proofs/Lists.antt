@@ -2,6 +2,7 @@
 use mathlib.Core.Path.{_≡_, refl, ap, ap₂, _∙_}
 use mathlib.Core.List.{List, [], _∷_}
 use mathlib.Core.Option.{Option, none, some}
+use Prim.Native.Nat.{ℕ}
 use lib.ListN.{length, replicate}
 use Rattle.meaning.specs.declared.refusal.Refusal.the-variants.{BadStore}
 use Rattle.meaning.specs.declared.end.Ended.{Ended}
@@ -9,16 +10,26 @@ use Rattle.cells.specs.Cell.{Cell}
 use Rattle.cells.specs.Asking.{refusedWith}
 use Rattle.store.specs.Edit.{Edit, refusedEdit}
 use Rattle.history.specs.State.{State, heldBy, isHeld, inForm}
-use Rattle.history.specs.Change.{Change, handedBack, handedOn, next, endOf, changed, left}
-use Rattle.history.specs.History.{after, ends, cellsAfter, heldAfter}
-use Rattle.history.proofs.Form.{form-kept, out-of-form-once}
+use Rattle.history.specs.Change.{Change, handedBack, handedOn, next, edited}
+use Rattle.history.specs.History.{after, ends, cellsAfter, endsOn, heldAfter, endsAfter}
+use Rattle.history.proofs.Form.{form-kept, end-kept, out-of-form-once}
 
 -- ---- from a store in form
 
-cells-folded : (es : List Change) (m : State) (cs : List Cell) → heldBy m ≡ some cs → heldBy (after es m) ≡ some (cellsAfter es (ends es m) cs)
-unfolding after ends cellsAfter
+cells-folded : (es : List Change) (m : State) (cs : List Cell) → heldBy m ≡ some cs → heldBy (after es m) ≡ some (cellsAfter (length (m .buffer)) es cs)
+unfolding after cellsAfter
 cells-folded [] m cs h = h
-cells-folded (e ∷ es) m cs h = cells-folded es (next e m) (left (endOf e m) (changed e cs) cs) (form-kept e m cs h .held)
+cells-folded (e ∷ es) m cs h =
+    let k = form-kept e m cs h in
+    cells-folded es (next e m) (edited (length (m .buffer)) e cs .left) (k .held) ∙ ap (λ (size : ℕ). some (cellsAfter size es (edited (length (m .buffer)) e cs .left))) (k .size)
+
+ends-folded : (es : List Change) (m : State) (cs : List Cell) → heldBy m ≡ some cs → ends es m ≡ endsOn (length (m .buffer)) es cs
+unfolding ends endsOn
+ends-folded [] m cs h = refl
+ends-folded (e ∷ es) m cs h =
+    let k = form-kept e m cs h in
+    ap₂ (λ (x : Ended) (xs : List Ended). x ∷ xs) (end-kept e m cs h)
+    (ends-folded es (next e m) (edited (length (m .buffer)) e cs .left) (k .held) ∙ ap (λ (size : ℕ). endsOn size es (edited (length (m .buffer)) e cs .left)) (k .size))
 
 -- ---- from a store out of form
 
@@ -42,22 +53,30 @@ out-of-form (e ∷ es) m h =
 
 -- ---- from any bytes
 
--- "The list starts from the store, of any bytes": the cells afterwards are the fold of put and remove on lists of cells, refused
--- edits left out.
-pub folded : (es : List Change) (m : State) → heldBy (after es m) ≡ heldAfter es (ends es m) (heldBy m)
+-- "The list starts from the store, of any bytes": the cells afterwards are the fold of put and remove on lists of cells.
+pub folded : (es : List Change) (m : State) → heldBy (after es m) ≡ heldAfter (length (m .buffer)) es (heldBy m)
 unfolding heldAfter
 folded es m = go (heldBy m) refl
   where
-    go : (o : Option (List Cell)) → heldBy m ≡ o → heldBy (after es m) ≡ heldAfter es (ends es m) o
+    go : (o : Option (List Cell)) → heldBy m ≡ o → heldBy (after es m) ≡ heldAfter (length (m .buffer)) es o
     go none h = ap heldBy (out-of-form es m h .kept) ∙ h
     go (some cs) h = cells-folded es m cs h
+
+-- And each ends as it does there.
+pub ends-are : (es : List Change) (m : State) → ends es m ≡ endsAfter (length (m .buffer)) es (heldBy m)
+unfolding endsAfter
+ends-are es m = go (heldBy m) refl
+  where
+    go : (o : Option (List Cell)) → heldBy m ≡ o → ends es m ≡ endsAfter (length (m .buffer)) es o
+    go none h = out-of-form es m h .refused
+    go (some cs) h = ends-folded es m cs h
 
 -- a store is in form after the edits exactly where it was before
 pub same-form : (es : List Change) (m : State) → inForm (after es m) ≡ inForm m
 unfolding heldAfter isHeld
 same-form es m = ap isHeld (folded es m) ∙ go (heldBy m)
   where
-    go : (o : Option (List Cell)) → isHeld (heldAfter es (ends es m) o) ≡ isHeld o
+    go : (o : Option (List Cell)) → isHeld (heldAfter (length (m .buffer)) es o) ≡ isHeld o
     go none = refl
     go (some cs) = refl
 

@@ -7,6 +7,8 @@ use Prim.Native.Nat.{ℕ, max}
 use native.Mathlib.Omega.{arith}
 use borrow.Author.Tests.{eqb-true, eq-eqb, ltb-true, ltb-false, not-true}
 use lib.Dec.{eqb, ltb}
+use lib.ListN.{length}
+use Rattle.meaning.specs.declared.refusal.Refusal.the-variants.{StoreFull}
 use Rattle.meaning.specs.Each.{Each}
 use Rattle.meaning.specs.Answer.{highest}
 use Rattle.meaning.specs.declared.question.Question.{Question}
@@ -14,16 +16,16 @@ use Rattle.meaning.specs.declared.end.Ended.{Ended}
 use Rattle.meaning.specs.declared.end.Ended.the-variants.{Finished, Halted}
 use Rattle.cells.specs.Cell.{Key, Cell, number, numberOf, keyAllowed, cellAllowed, wholeCell, wholeKey}
 use Rattle.cells.specs.Store.{allowed}
-use Rattle.cells.specs.Asking.{asked, questionAllowed, highestOf, ofParameter, ofRecord, unusedZero, found, answer, replied, askOf}
+use Rattle.cells.specs.Asking.{lookup, asked, questionAllowed, highestOf, ofParameter, ofRecord, unusedZero, found, answer, replied, askOf}
 use Rattle.cells.proofs.BigEndian.{and-true}
 use Rattle.cells.proofs.CellForm.{same-key, key-allowed as cell-key-allowed}
 use Rattle.cells.proofs.Locating.{held-some}
-use Rattle.store.specs.Edit.{lower, higher, with, without}
+use Rattle.store.specs.Edit.{lower, higher, with, without, refusedOn, doneOn, fits, putOn, takenOut, removeOn}
 use Rattle.history.specs.State.{State, heldBy, askIn}
-use Rattle.history.specs.Change.{Change, put, remove, next, endOf, succeeded, keyOfCell, keyNamed, isKey, ofItsParameter, touchesParameter, withPut, withoutRemoved, changed, left}
+use Rattle.history.specs.Change.{Change, put, remove, next, endOf, succeeded, keyOfCell, keyNamed, isKey, ofItsParameter, touchesParameter, edited}
 use Rattle.history.specs.History.{after, outside}
 use Rattle.history.proofs.Form.{cell-allowed, key-allowed, form-kept, refused-keeps, out-of-form-once}
-use Rattle.history.proofs.Answers.{changed-other}
+use Rattle.history.proofs.Answers.{edited-other}
 
 -- ---- the highest number over the cells whose keys pass a test
 
@@ -68,18 +70,26 @@ module _ (p : Key → Bool) (f : Cell → ℕ) where
       omega (arith, top-append (lower (number l) cs) (higher (number l) cs), top-around (number l) cs (none-of l a n cs h))
 
   -- an edit of a key that doesn't pass
-  top-changed : (e : Change) → ((l : Key) → keyNamed e ≡ some l → p l ≡ false) → (cs : List Cell) → allowed cs ≡ true → top (changed e cs) ≡ top cs
-  unfolding keyNamed keyOfCell changed withPut withoutRemoved
-  top-changed (put s) n cs h = go (wholeCell s) refl n
+  top-edited : (size : ℕ) (e : Change) → ((l : Key) → keyNamed e ≡ some l → p l ≡ false) → (cs : List Cell) → allowed cs ≡ true → top (edited size e cs .left) ≡ top cs
+  unfolding keyNamed keyOfCell edited putOn removeOn takenOut
+  top-edited size (put s) n cs h = go (wholeCell s) refl n
     where
-      go : (o : Option Cell) → wholeCell s ≡ o → ((l : Key) → keyOfCell o ≡ some l → p l ≡ false) → top (withPut o cs) ≡ top cs
+      by : (c : Cell) (t : Bool) → wholeCell s ≡ some c → p (c .key) ≡ false → top (cond t (doneOn (with c cs)) (refusedOn StoreFull cs) .left) ≡ top cs
+      by c true e n = top-with c (cell-key-allowed c (cell-allowed s c e)) n cs h
+      by c false e n = refl
+
+      go : (o : Option Cell) → wholeCell s ≡ o → ((l : Key) → keyOfCell o ≡ some l → p l ≡ false) → top (putOn size o cs .left) ≡ top cs
       go none e n = refl
-      go (some c) e n = top-with c (cell-key-allowed c (cell-allowed s c e)) (n (c .key) refl) cs h
-  top-changed (remove s) n cs h = go (wholeKey s) refl n
+      go (some c) e n = by c (fits size (with c cs)) e (n (c .key) refl)
+  top-edited size (remove s) n cs h = go (wholeKey s) refl n
     where
-      go : (o : Option Key) → wholeKey s ≡ o → ((l : Key) → o ≡ some l → p l ≡ false) → top (withoutRemoved o cs) ≡ top cs
+      by : (k : Key) (o : Option Cell) → wholeKey s ≡ some k → p k ≡ false → top (takenOut (number k) cs o .left) ≡ top cs
+      by k none e n = refl
+      by k (some c) e n = top-without k (key-allowed s k e) n cs h
+
+      go : (o : Option Key) → wholeKey s ≡ o → ((l : Key) → o ≡ some l → p l ≡ false) → top (removeOn o cs .left) ≡ top cs
       go none e n = refl
-      go (some k) e n = top-without k (key-allowed s k e) (n k refl) cs h
+      go (some k) e n = by k (lookup (number k) cs) e (n k refl)
 
 -- ---- one edit
 
@@ -113,9 +123,9 @@ module _ (q : Question) (e : Change) (n : ofItsParameter (asked q) (keyNamed e) 
               absurd (true≢false (sym (rw (eq-eqb (q .datasource) (q .datasource) refl, eq-eqb (q .parameter) (q .parameter) refl)) ∙ sym (ap (λ (x : Key). eqb (x .datasource) (q .datasource) && eqb (x .parameter) (q .parameter)) k) ∙ other l h))
           by false u = refl
 
-  same-reply : (cs : List Cell) → allowed cs ≡ true → replied q (some (changed e cs)) ≡ replied q (some cs)
+  same-reply : (size : ℕ) (cs : List Cell) → allowed cs ≡ true → replied q (some (edited size e cs .left)) ≡ replied q (some cs)
   unfolding replied questionAllowed answer ofParameter ofRecord
-  same-reply cs h = go (keyAllowed (asked q)) refl
+  same-reply size cs h = go (keyAllowed (asked q)) refl
     where
       in-parameter : (l : Key) → keyNamed e ≡ some l → eqb (l .datasource) (q .datasource) && eqb (l .parameter) (q .parameter) ≡ false
       in-parameter = other
@@ -123,12 +133,12 @@ module _ (q : Question) (e : Change) (n : ofItsParameter (asked q) (keyNamed e) 
       in-record : (l : Key) → keyNamed e ≡ some l → (eqb (l .datasource) (q .datasource) && eqb (l .parameter) (q .parameter)) && eqb (l .recordNumber) (q .«record») ≡ false
       in-record l k = ap (λ (t : Bool). t && eqb (l .recordNumber) (q .«record»)) (other l k)
 
-      go : (t : Bool) → keyAllowed (asked q) ≡ t → replied q (some (changed e cs)) ≡ replied q (some cs)
-      go true a = rw (changed-other (asked q) e cs (not-asked a), top-changed (λ l. eqb (l .datasource) (q .datasource) && eqb (l .parameter) (q .parameter)) (λ c. c .key .recordNumber) e in-parameter cs h, top-changed (λ l. (eqb (l .datasource) (q .datasource) && eqb (l .parameter) (q .parameter)) && eqb (l .recordNumber) (q .«record»)) (λ c. c .key .entryNumber) e in-record cs h)
+      go : (t : Bool) → keyAllowed (asked q) ≡ t → replied q (some (edited size e cs .left)) ≡ replied q (some cs)
+      go true a = rw (edited-other size (asked q) e cs (not-asked a), top-edited (λ l. eqb (l .datasource) (q .datasource) && eqb (l .parameter) (q .parameter)) (λ c. c .key .recordNumber) size e in-parameter cs h, top-edited (λ l. (eqb (l .datasource) (q .datasource) && eqb (l .parameter) (q .parameter)) && eqb (l .recordNumber) (q .«record»)) (λ c. c .key .entryNumber) size e in-record cs h)
       go false a = rw a
 
 other-once : (q : Question) (e : Change) (m : State) → touchesParameter (asked q) e m ≡ false → askIn (next e m) q ≡ askIn m q
-unfolding touchesParameter askOf left succeeded
+unfolding touchesParameter askOf succeeded
 other-once q e m n = by (endOf e m) refl
   where
     by : (x : Ended) → endOf e m ≡ x → askIn (next e m) q ≡ askIn m q
@@ -138,8 +148,8 @@ other-once q e m n = by (endOf e m) refl
         go : (o : Option (List Cell)) → heldBy m ≡ o → askIn (next e m) q ≡ askIn m q
         go none h = absurd (true≢false (sym (ap succeeded u) ∙ ap (λ r. succeeded (r .end)) (out-of-form-once e m h)))
         go (some cs) h =
-            ap (replied q) (form-kept e m cs h .held ∙ ap (λ x. some (left x (changed e cs) cs)) u)
-            ∙ same-reply q e (rw (ap succeeded u) at n) cs (held-some (m .buffer) (m .length) cs h .holds .valid .allowed)
+            ap (replied q) (form-kept e m cs h .held)
+            ∙ same-reply q e (rw (ap succeeded u) at n) (length (m .buffer)) cs (held-some (m .buffer) (m .length) cs h .holds .valid .allowed)
             ∙ ap (replied q) (sym h)
 
 -- Edits outside a parameter change no answer about it, of any kind: for any list of edits, from any bytes, none of them an

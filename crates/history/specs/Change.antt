@@ -7,7 +7,7 @@ use lib.Dec.{eqb}
 use Rattle.meaning.specs.declared.end.Ended.{Ended}
 use Rattle.meaning.specs.declared.end.Ended.the-variants.{Finished, Halted}
 use Rattle.cells.specs.Cell.{Key, Cell, number, wholeCell, wholeKey}
-use Rattle.store.specs.Edit.{with, without, Edit, putOf, removeOf}
+use Rattle.store.specs.Edit.{CellEdit, putOn, removeOn, Edit, putOf, removeOf}
 use Rattle.history.specs.State.{State}
 
 -- the bytes of a cell, or of a key: any bytes
@@ -65,20 +65,7 @@ ofItsParameter k (some l) = eqb (l .datasource) (k .datasource) && eqb (l .param
 unfoldable pub touchesParameter : Key → Change → State → Bool
 touchesParameter k e m = accepted e m && ofItsParameter k (keyNamed e)
 
--- the cells with the one put, or without the one removed
-unfoldable pub withPut : Option Cell → List Cell → List Cell
-withPut none cs = cs
-withPut (some c) cs = with c cs
-
-unfoldable pub withoutRemoved : Option Key → List Cell → List Cell
-withoutRemoved none cs = cs
-withoutRemoved (some k) cs = without (number k) cs
-
-unfoldable pub changed : Change → List Cell → List Cell
-changed (put s) cs = withPut (wholeCell s) cs
-changed (remove s) cs = withoutRemoved (wholeKey s) cs
-
--- the cells behind an edit that ended so, ds if it is accepted: "Refused edits change nothing"
-unfoldable pub left : Ended → List Cell → List Cell → List Cell
-left Finished ds cs = ds
-left (Halted h l) ds cs = cs
+-- the same edit on the cells alone, in a buffer of `size` bytes
+unfoldable pub edited : ℕ → Change → List Cell → CellEdit
+edited size (put s) cs = putOn size (wholeCell s) cs
+edited size (remove s) cs = removeOn (wholeKey s) cs

@@ -2,10 +2,14 @@
 use mathlib.Core.Bool.{Bool, true, not, _&&_}
 use mathlib.Core.List.{List, [], _∷_}
 use mathlib.Core.Option.{Option, none, some}
+use Prim.Native.Nat.{ℕ}
+use lib.ListN.{length, replicate}
+use Rattle.meaning.specs.declared.refusal.Refusal.the-variants.{BadStore}
 use Rattle.meaning.specs.declared.end.Ended.{Ended}
+use Rattle.cells.specs.Asking.{refusedWith}
 use Rattle.cells.specs.Cell.{Key, Cell}
 use Rattle.history.specs.State.{State}
-use Rattle.history.specs.Change.{Change, next, endOf, touches, touchesParameter, changed, left}
+use Rattle.history.specs.Change.{Change, next, endOf, touches, touchesParameter, edited}
 
 -- the store after the edits, one after the other
 unfoldable pub after : List Change → State → State
@@ -27,13 +31,20 @@ unfoldable pub outside : Key → List Change → State → Bool
 outside k [] m = true
 outside k (e ∷ es) m = not (touchesParameter k e m) && outside k es (next e m)
 
--- the same edits on a list of cells, by how each ended
-unfoldable pub cellsAfter : List Change → List Ended → List Cell → List Cell
-cellsAfter [] xs cs = cs
-cellsAfter (e ∷ es) [] cs = cs
-cellsAfter (e ∷ es) (x ∷ xs) cs = cellsAfter es xs (left x (changed e cs) cs)
+-- the same edits on a list of cells, in a buffer of `size` bytes: the cells that they leave, and how each ends
+unfoldable pub cellsAfter : ℕ → List Change → List Cell → List Cell
+cellsAfter size [] cs = cs
+cellsAfter size (e ∷ es) cs = cellsAfter size es (edited size e cs .left)
 
--- "The list starts from the store, of any bytes": out of form there are no cells, before or after
-unfoldable pub heldAfter : List Change → List Ended → Option (List Cell) → Option (List Cell)
-heldAfter es xs none = none
-heldAfter es xs (some cs) = some (cellsAfter es xs cs)
+unfoldable pub endsOn : ℕ → List Change → List Cell → List Ended
+endsOn size [] cs = []
+endsOn size (e ∷ es) cs = edited size e cs .end ∷ endsOn size es (edited size e cs .left)
+
+-- "The list starts from the store, of any bytes": out of form there are no cells, before or after, and every edit ends in 1
+unfoldable pub heldAfter : ℕ → List Change → Option (List Cell) → Option (List Cell)
+heldAfter size es none = none
+heldAfter size es (some cs) = some (cellsAfter size es cs)
+
+unfoldable pub endsAfter : ℕ → List Change → Option (List Cell) → List Ended
+endsAfter size es none = replicate (length es) (refusedWith BadStore)
+endsAfter size es (some cs) = endsOn size es cs

@@ -12,7 +12,7 @@ use Rattle.cells.specs.Bytes.{pair, quad, octet, pairAt, quadAt, octetAt, unsig
 use Rattle.cells.specs.Cell.{Key, between, keyAllowed, keyBytes, number, each, valueAllowed, cellAllowed, kindOf, valueBytes, cellBytes, keyAt, valueOf, front, wholeCell, wholeKey}
 use Rattle.cells.specs.Store.{encode, above, rising, before, run, ordered, cells, held}
 use Rattle.cells.specs.Asking.{lookup, found, answer, unusedZero, questionAllowed, replied, askOf, refusedWith}
-use Rattle.store.specs.Edit.{lower, higher, with, without, written, fits, putIn, takenOut, removeFrom, checked, putOf, removeOf}
+use Rattle.store.specs.Edit.{lower, higher, with, without, written, fits, putOn, takenOut, removeOn, writtenBy, checked, putOf, removeOf}
 use Rattle.history.specs.State.{State, answerIn, cellQuestion}
 use Rattle.history.specs.Change.{put, remove, handedBack}
 use Rattle.history.specs.History.{after, ends}
@@ -105,9 +105,10 @@ unfolding
     without
     written
     fits
-    putIn
+    putOn
     takenOut
-    removeFrom
+    removeOn
+    writtenBy
     checked
     putOf
     removeOf

@@ -9,7 +9,7 @@ use lib.Seq.{sets}
 use Rattle.meaning.specs.declared.refusal.Refusal.{Refusal}
 use Rattle.meaning.specs.declared.refusal.Refusal.the-variants.{BadStore, BadRequest, StoreFull, NoCell}
 use Rattle.meaning.specs.declared.end.Ended.{Ended}
-use Rattle.meaning.specs.declared.end.Ended.the-variants.{Finished}
+use Rattle.meaning.specs.declared.end.Ended.the-variants.{Finished, Halted}
 use Rattle.cells.specs.Cell.{Key, Cell, number, numberOf, wholeCell, wholeKey}
 use Rattle.cells.specs.Store.{capacity, encode, held}
 use Rattle.cells.specs.Asking.{refusedWith, lookup}
@@ -30,13 +30,44 @@ with c cs = lower (numberOf c) cs ++ (c ∷ higher (numberOf c) cs)
 unfoldable pub without : ℕ → List Cell → List Cell
 without n cs = lower n cs ++ higher n cs
 
+-- What an edit does to the cells of a store: how it ends, and the cells that it leaves.
+pub record CellEdit : Type 0 where
+  pub end : Ended
+  pub left : List Cell
+
+-- "Refused edits change nothing"
+abbrev pub refusedOn : Refusal → List Cell → CellEdit
+refusedOn e cs = record { end = refusedWith e; left = cs }
+
+abbrev pub doneOn : List Cell → CellEdit
+doneOn cs = record { end = Finished; left = cs }
+
+-- 16: "A put would pass the buffer or 65,536 bytes." The buffer has `size` bytes.
+unfoldable pub fits : ℕ → List Cell → Bool
+fits size cs = leb (length (encode cs)) size && leb (length (encode cs)) capacity
+
+-- 15, then 16
+unfoldable pub putOn : ℕ → Option Cell → List Cell → CellEdit
+putOn size none cs = refusedOn BadRequest cs
+putOn size (some c) cs = cond (fits size (with c cs)) (doneOn (with c cs)) (refusedOn StoreFull cs)
+
+-- 17: "The key to remove has no cell."
+unfoldable pub takenOut : ℕ → List Cell → Option Cell → CellEdit
+takenOut k cs none = refusedOn NoCell cs
+takenOut k cs (some c) = doneOn (without k cs)
+
+-- 15, then 17
+unfoldable pub removeOn : Option Key → List Cell → CellEdit
+removeOn none cs = refusedOn BadRequest cs
+removeOn (some k) cs = takenOut (number k) cs (lookup (number k) cs)
+
 -- What an edit hands back: how it ended, the length, and the buffer.
 pub record Edit : Type 0 where
   pub end : Ended
   pub length : ℕ
   pub buffer : List ℕ
 
--- "Refused edits change nothing and hand back the old length"
+-- "hand back the old length"
 abbrev pub refusedEdit : List ℕ → ℕ → Refusal → Edit
 refusedEdit b n e = record { end = refusedWith e; length = n; buffer = b }
 
@@ -49,34 +80,25 @@ written b n cs =
       buffer = sets b 0 (encode cs ++ replicate (n - length (encode cs)) 0);
     }
 
--- 16: "A put would pass the buffer or 65,536 bytes."
-unfoldable pub fits : List ℕ → List Cell → Bool
-fits b cs = leb (length (encode cs)) (length b) && leb (length (encode cs)) capacity
+-- the cells are written where the edit is accepted
+unfoldable pub writtenBy : List ℕ → ℕ → List Cell → Ended → Edit
+writtenBy b n cs Finished = written b n cs
+writtenBy b n cs (Halted h l) = record { end = Halted h l; length = n; buffer = b }
 
-unfoldable pub putIn : List ℕ → ℕ → Option Cell → List Cell → Edit
-putIn b n none cs = refusedEdit b n BadRequest
-putIn b n (some c) cs = cond (fits b (with c cs)) (written b n (with c cs)) (refusedEdit b n StoreFull)
+abbrev pub writtenOut : List ℕ → ℕ → CellEdit → Edit
+writtenOut b n x = writtenBy b n (x .left) (x .end)
 
--- 17: "The key to remove has no cell."
-unfoldable pub takenOut : List ℕ → ℕ → ℕ → List Cell → Option Cell → Edit
-takenOut b n k cs none = refusedEdit b n NoCell
-takenOut b n k cs (some c) = written b n (without k cs)
-
-unfoldable pub removeFrom : List ℕ → ℕ → Option Key → List Cell → Edit
-removeFrom b n none cs = refusedEdit b n BadRequest
-removeFrom b n (some k) cs = takenOut b n (number k) cs (lookup (number k) cs)
-
--- "Ask, put and remove check 1, 15, 16, 17."
-unfoldable pub checked : List ℕ → ℕ → (List Cell → Edit) → Option (List Cell) → Edit
+-- 1, before the others: "Ask, put and remove check 1, 15, 16, 17."
+unfoldable pub checked : List ℕ → ℕ → (List Cell → CellEdit) → Option (List Cell) → Edit
 checked b n f none = refusedEdit b n BadStore
-checked b n f (some cs) = f cs
+checked b n f (some cs) = writtenOut b n (f cs)
 
 -- put and remove, on a buffer and a length, with the bytes of a cell or a key
 unfoldable pub putOf : List ℕ → ℕ → List ℕ → Edit
-putOf b n s = checked b n (putIn b n (wholeCell s)) (held b n)
+putOf b n s = checked b n (putOn (length b) (wholeCell s)) (held b n)
 
 unfoldable pub removeOf : List ℕ → ℕ → List ℕ → Edit
-removeOf b n s = checked b n (removeFrom b n (wholeKey s)) (held b n)
+removeOf b n s = checked b n (removeOn (wholeKey s)) (held b n)
 
 -- what a call handed back, as an edit
 abbrev pub edit : Edited → List ℕ → Edit
