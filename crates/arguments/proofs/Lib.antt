@@ -3,4 +3,5 @@ pub mod ScaleLaws
 pub mod NameLaws
 pub mod FilterLaws
 pub mod OnwardLaws
+pub mod Bounds
 pub mod Parsed

@@ -84,3 +84,10 @@ digits-below l at most d e =
     ten : (m : ℕ) (t : Bool) → ltb 10 m ≡ t → cond (ltb 10 m) 10 m ≤ 10
     ten m true q = rw q (omega arith)
     ten m false q = rw q (ltb-false 10 m q)
+
+-- a value of at most so many digits
+pub digits-power : (l : List ℕ) (at most : ℕ) → most ≤ 10 → digitsAt l at most .value < 10 ^ most
+unfolding digitsAt
+digits-power l at most h =
+    rw (le-ltb 10 most h)
+    (lt-of-lt-of-le (value-below (take most (drop at l)) 0 0 (omega arith)) (pow-le-pow-right (omega arith) (omega (arith, length-take most (drop at l)))))
