@@ -215,7 +215,7 @@ least-one (Parameter n) = omega arith
 least-one (Record n r) = omega arith
 least-one (Entry n r e) = omega arith
 
-small-parameter : (l : List ℕ) (o : Operand) → OperandWithin l o → parameterOf o ≤ 65535
+pub small-parameter : (l : List ℕ) (o : Operand) → OperandWithin l o → parameterOf o ≤ 65535
 unfolding parameterOf
 small-parameter l (Number q) h = omega arith
 small-parameter l (Text start end) h = omega arith

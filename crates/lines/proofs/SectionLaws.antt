@@ -107,7 +107,7 @@ module _ (l : List ℕ) (a e : ℕ) where
 before-section : Never (take 24 commands)
 unfolding commands
 before-section =
-    datasource-makes Other lacking (λ i. other tt)
+    datasource-makes Other lacking (λ i k. other tt)
     besides set _
     besides set _
     besides set _
@@ -121,28 +121,28 @@ before-section =
     besides compare _
     besides compare _
     besides compare _
-    besides single-makes Other lacking IfZero (λ a k. other tt)
-    besides single-makes Other lacking IfNonZero (λ a k. other tt)
-    besides single-makes Other lacking BeginTable (λ a k. other tt)
+    besides (λ l. single-makes Other lacking IfZero (λ a k. other tt))
+    besides (λ l. single-makes Other lacking IfNonZero (λ a k. other tt))
+    besides (λ l. single-makes Other lacking BeginTable (λ a k. other tt))
     besides bare-makes Other lacking Else (other tt)
     besides bare-makes Other lacking EndIf (other tt)
     besides bare-makes Other lacking NoFormFeed (other tt)
-    besides optional-makes Other lacking EndTable (λ k h. other tt)
-    besides optional-makes Other lacking NewPage (λ k h. other tt)
+    besides (λ l. optional-makes Other lacking EndTable (λ k h. other tt))
+    besides (λ l. optional-makes Other lacking NewPage (λ k h. other tt))
     besides fetch-makes Other lacking Records (λ f h. other tt)
     besides fetch-makes Other lacking Entries (λ f h. other tt)
     besides all
   where
     set : (word : Operation) (l : List ℕ) (at : ℕ) → Other (setAt word l at)
-    set word = set-makes Other lacking word (λ t a k. other tt)
+    set word l = set-makes Other lacking word (λ t a k. other tt)
 
     compare : (word : Comparison) (l : List ℕ) (at : ℕ) → Other (compareAt word l at)
-    compare word = compare-makes Other lacking word (λ a b j k. other tt)
+    compare word l = compare-makes Other lacking word (λ a b j k. other tt)
 
 behind-section : Never (drop 25 commands)
 unfolding commands
 behind-section =
-    (λ l. heading-makes Other lacking l (λ n at e h. other tt) (λ n. other tt)) besides remark-makes Other lacking (other tt) besides all
+    (λ l. heading-makes Other lacking l (λ n at e h. other tt) (λ n k. other tt)) besides remark-makes Other lacking (other tt) besides all
 
 -- where no space stands behind the word, no name does
 space-behind : (l : List ℕ) (at a e : ℕ) → sectionAt l at ≡ Section a e → byteIs l at " " ≡ true
