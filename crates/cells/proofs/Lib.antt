@@ -10,3 +10,4 @@ pub mod Questions
 pub mod Values
 pub mod Replies
 pub mod Requests
+pub mod Limits

@@ -8,3 +8,4 @@ pub mod Looping
 pub mod Moving
 pub mod Numbers
 pub mod Rows
+pub mod Yielding

@@ -11,3 +11,4 @@ pub mod Fetches
 pub mod Keeping
 pub mod Giving
 pub mod Still
+pub mod Ranges

@@ -1,0 +1,99 @@
+-- What `ask` answers: over a ready index the code's answer is the same, and every answer's value lies within its limits.
+use mathlib.Core.Path.{_≡_, refl, sym, ap, _∙_}
+use mathlib.Core.Bool.{Bool, true, false, cond, _&&_}
+use mathlib.Core.List.{List, [], _∷_}
+use mathlib.Core.Option.{Option, none, some}
+use Prim.Native.Nat.{ℕ, _≤_, max}
+use native.Mathlib.Omega.{arith}
+use borrow.Author.Tests.{leb-true}
+use lib.Dec.{leb, eqb}
+use lib.IntN.{natAbs}
+use lib.ListN.{length}
+use Rattle.numbers.specs.Range.{integerLimit, decimalLimit, within}
+use Rattle.numbers.proofs.Laws.{within-true}
+use Rattle.meaning.specs.Answer.{Value, integer, decimal, string, Answer, missing, cell, highest}
+use Rattle.meaning.specs.declared.question.Question.{Question}
+use Rattle.meaning.specs.declared.refusal.Refusal.the-variants.{BadRequest}
+use Rattle.cells.specs.declared.Answered.{Answered}
+use Rattle.cells.specs.Cell.{Cell, number, numberOf, printable, valueAllowed, cellAllowed}
+use Rattle.cells.specs.Store.{allowed, held}
+use Rattle.cells.specs.Index.{Ready, Answers}
+use Rattle.cells.specs.Asking.{asked, questionAllowed, lookup, found, highestOf, ofParameter, ofRecord, answer, answeredAsk, refusedAsk, replied, askOf, meant}
+use Rattle.cells.proofs.BigEndian.{and-true}
+use Rattle.cells.proofs.CellForm.{limits, key-allowed, value-allowed}
+use Rattle.cells.proofs.Locating.{held-some}
+
+refused-missing : (t : Bool) (x : Answer) → cond t x missing ≡ cond t (answeredAsk x) (refusedAsk BadRequest) .answer
+refused-missing true x = refl
+refused-missing false x = refl
+
+-- What the code answers over the index is what `ask` answers.
+pub same-answer : (b : List ℕ) (n : ℕ) (index : List ℕ) (count : ℕ) (cs : List Cell) (q : Question) (r : Answered) → Ready b n index count cs → Answers b index count q r → meant b r ≡ askOf b n q .answer
+unfolding askOf replied
+same-answer b n index count cs q r k h = h .answer n cs k ∙ refused-missing (questionAllowed q) (answer q cs) ∙ sym (ap (λ (o : Option (List Cell)). replied q o .answer) (k .holds))
+
+-- ---- limits
+
+-- "Values lie within ±2,000,000,000, so within ±2×10^15 millionths"; "a length 0–16"
+abbrev pub ValueWithin : Value → Type 0
+ValueWithin (integer z) = natAbs z ≤ integerLimit
+ValueWithin (decimal z) = natAbs z ≤ decimalLimit
+ValueWithin (string s) = length s ≤ 16
+
+-- "record 0–999, entry 0–999"
+abbrev pub AnswerWithin : Answer → Type 0
+AnswerWithin missing = Unit {0}
+AnswerWithin (cell v) = ValueWithin v
+AnswerWithin (highest n) = n ≤ 999
+
+value-within : (v : Value) → valueAllowed v ≡ true → ValueWithin v
+unfolding valueAllowed
+value-within (integer z) h = within-true integerLimit z h
+value-within (decimal z) h = within-true decimalLimit z h
+value-within (string s) h = leb-true (length s) 16 (and-true (leb (length s) 16) (printable s) h .0)
+
+lookup-within : (n : ℕ) (cs : List Cell) → allowed cs ≡ true → AnswerWithin (found (lookup n cs))
+unfolding allowed found lookup
+lookup-within n [] h = tt
+lookup-within n (c ∷ cs) h = go (eqb (numberOf c) n) (lookup-within n cs (t .1))
+  where
+    t : (cellAllowed c ≡ true) × (allowed cs ≡ true)
+    t = and-true (cellAllowed c) (allowed cs) h
+
+    go : (b : Bool) → AnswerWithin (found (lookup n cs)) → AnswerWithin (found (cond b (some c) (lookup n cs)))
+    go true r = value-within (c .value) (value-allowed c (t .0))
+    go false r = r
+
+highest-within : (m : Cell → Bool) (f : Cell → ℕ) → ((c : Cell) → cellAllowed c ≡ true → f c ≤ 999) → (cs : List Cell) → allowed cs ≡ true → highestOf m f cs ≤ 999
+unfolding allowed highestOf
+highest-within m f g [] h = omega arith
+highest-within m f g (c ∷ cs) h = go (m c) (highest-within m f g cs (t .1))
+  where
+    t : (cellAllowed c ≡ true) × (allowed cs ≡ true)
+    t = and-true (cellAllowed c) (allowed cs) h
+
+    go : (b : Bool) → highestOf m f cs ≤ 999 → max (cond b (f c) 0) (highestOf m f cs) ≤ 999
+    go true r = omega (arith, g c (t .0))
+    go false r = omega arith
+
+answer-within : (q : Question) (cs : List Cell) → allowed cs ≡ true → AnswerWithin (answer q cs)
+unfolding answer
+answer-within q cs h = go (eqb (q .kind) 1) (eqb (q .kind) 2)
+  where
+    go : (a b : Bool) → AnswerWithin (cond a (found (lookup (number (asked q)) cs)) (cond b (highest (highestOf (ofParameter (asked q)) (λ c. c .key .recordNumber) cs)) (highest (highestOf (ofRecord (asked q)) (λ c. c .key .entryNumber) cs))))
+    go true b = lookup-within (number (asked q)) cs h
+    go false true = highest-within (ofParameter (asked q)) (λ c. c .key .recordNumber) (λ c k. limits (c .key) (key-allowed c k) .recordNumber) cs h
+    go false false = highest-within (ofRecord (asked q)) (λ c. c .key .entryNumber) (λ c k. limits (c .key) (key-allowed c k) .entryNumber) cs h
+
+-- Whatever the store holds, an answer lies within its limits.
+pub ask-within : (b : List ℕ) (n : ℕ) (q : Question) → AnswerWithin (askOf b n q .answer)
+unfolding askOf replied
+ask-within b n q = go (held b n) refl
+  where
+    by : (t : Bool) (cs : List Cell) → allowed cs ≡ true → AnswerWithin (cond t (answeredAsk (answer q cs)) (refusedAsk BadRequest) .answer)
+    by true cs h = answer-within q cs h
+    by false cs h = tt
+
+    go : (o : Option (List Cell)) → held b n ≡ o → AnswerWithin (replied q o .answer)
+    go none e = tt
+    go (some cs) e = by (questionAllowed q) cs (held-some b n cs e .holds .valid .allowed)

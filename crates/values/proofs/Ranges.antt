@@ -1,0 +1,218 @@
+-- Numbers stay in range, strings short: what an argument within its limits is worth in a machine in range, where answers lie
+-- within theirs. So a variable that is read is one of the machine's, and |ABS is the magnitude.
+use mathlib.Core.Path.{_≡_, refl, sym}
+use mathlib.Core.Bool.{Bool, true, false, cond}
+use mathlib.Core.List.{List, [], _∷_, map}
+use Prim.Native.Nat.{ℕ, zero, suc, _+_, _-_, _≤_, _<_}
+use native.Mathlib.Omega.{arith}
+use lib.Dec.{leb}
+use lib.IntN.{ℤ, pos, negsuc, natAbs}
+use lib.ListN.{length, getD, take, drop, length-take, length-map}
+use Rattle.meaning.specs.Each.{Each}
+use Rattle.meaning.specs.Answer as A
+use Rattle.meaning.specs.Answer.{Answer, cell, highest}
+use Rattle.meaning.specs.Tree.{done, stop, ask, bind}
+use Rattle.meaning.specs.Meaning.{Meaning}
+use Rattle.meaning.specs.declared.question.Question.{Question}
+use Rattle.meaning.specs.declared.refusal.Refusal.{Refusal}
+use Rattle.meaning.specs.declared.refusal.Refusal.the-variants.{BadIndex}
+use Rattle.meaning.proofs.Yielding.{Yields, yields-bind, yields-any}
+use Rattle.numbers.specs.declared.Quantity.{Quantity}
+use Rattle.numbers.specs.declared.Quantity.the-variants.{Integer, Decimal}
+use Rattle.numbers.specs.Range.{integerLimit, decimalLimit, millionths}
+use Rattle.numbers.specs.Parts.{wholeOf}
+use Rattle.numbers.proofs.Laws.{within-in, whole-bound, integer-inside}
+use Rattle.cells.proofs.Limits.{AnswerWithin, ask-within}
+use Rattle.arguments.specs.declared.argument.Argument.{Argument}
+use Rattle.arguments.specs.declared.argument.Filter.{Filter}
+use Rattle.arguments.specs.declared.argument.Filter.the-variants.{Unfiltered, Absolute, Truncated, UpperCase, Length, RecordCount, EntryCount}
+use Rattle.arguments.specs.declared.index.Index.{Index}
+use Rattle.arguments.specs.declared.index.Index.the-variants.{Fixed}
+use Rattle.arguments.specs.declared.operand.Operand.{Operand}
+use Rattle.arguments.specs.declared.operand.Operand.the-variants.{Number, Text, IntegerVariable, DecimalVariable, StringVariable, PageNumber, LineNumber, LoopCounter, RecordElement, EntryElement, Parameter, Record, Entry}
+use Rattle.arguments.proofs.Parsed.{Between, QuantityWithin, StringWithin, OperandWithin, ArgumentWithin}
+use Rattle.values.specs.declared.fetch.Along.{Along}
+use Rattle.values.specs.Letters.{upper}
+use Rattle.values.specs.Machine.{Machine, numbered}
+use Rattle.values.specs.Worth.{Worth, missing, wrong, number, string, answered, absolute, filteredNumber, filteredString, filtered, kindOf}
+use Rattle.values.specs.Meanings.{indexNumber, indexValue, question, asks, cellMeaning, worthOf, element, operandMeaning, argumentMeaning}
+use Rattle.values.specs.Fetching.{elementQuestion, elementQuestions, asksEach, countValue, firstOf, asksElements, fetchMeaning}
+use Rattle.values.specs.State.{answers}
+use Rattle.values.proofs.Keeping.{absolute-integer, absolute-decimal}
+
+-- "SV1–SV99 hold up to 16 bytes each, IV integers, FV decimals"; strings of cells and of the template have "0–16 bytes"
+abbrev pub IntegerWithin : ℤ → Type 0
+IntegerWithin z = natAbs z ≤ integerLimit
+
+abbrev pub DecimalWithin : ℤ → Type 0
+DecimalWithin z = natAbs z ≤ decimalLimit
+
+abbrev pub Short : List ℕ → Type 0
+Short s = length s ≤ 16
+
+abbrev pub WorthWithin : Worth → Type 0
+WorthWithin missing = Unit {0}
+WorthWithin wrong = Unit {0}
+WorthWithin (number q) = QuantityWithin q
+WorthWithin (string s) = Short s
+
+-- a machine in range, with as many variables as there are
+pub record MachineWithin (m : Machine) : Type 0 where
+  pub integers : Each IntegerWithin (m .integers)
+  pub decimals : Each DecimalWithin (m .decimals)
+  pub strings : Each Short (m .strings)
+  pub records : Each (Each AnswerWithin) (m .records)
+  pub entries : Each (Each AnswerWithin) (m .entries)
+  pub counter : IntegerWithin (m .counter)
+  pub page : m .page ≤ integerLimit
+  pub row : m .row ≤ integerLimit
+  pub integer-count : length (m .integers) ≡ 99
+  pub decimal-count : length (m .decimals) ≡ 99
+  pub string-count : length (m .strings) ≡ 99
+  pub record-count : length (m .records) ≡ 10
+  pub entry-count : length (m .entries) ≡ 10
+
+-- ---- the n-th of a list
+
+getD-each : {A : Type 0} (P : A → Type 0) (d : A) (l : List A) (k : ℕ) → P d → Each P l → P (getD l k d)
+getD-each P d [] zero p h = p
+getD-each P d [] (suc k) p h = p
+getD-each P d (x ∷ l) zero p h = h .0
+getD-each P d (x ∷ l) (suc k) p h = getD-each P d l k p (h .1)
+
+pub numbered-each : {A : Type 0} (P : A → Type 0) (d : A) (l : List A) (n : ℕ) → P d → Each P l → P (numbered d l n)
+unfolding numbered
+numbered-each P d l zero p h = p
+numbered-each P d l (suc k) p h = getD-each P d l k p h
+
+getD-there : {A : Type 0} (d e : A) (l : List A) (k : ℕ) → k < length l → getD l k d ≡ getD l k e
+getD-there d e [] k h = absurd (omega arith)
+getD-there d e (x ∷ l) zero h = refl
+getD-there d e (x ∷ l) (suc k) h = getD-there d e l k (omega arith)
+
+-- A number from 1 to the length names one of the list: what `numbered` gives for any other doesn't matter.
+pub numbered-there : {A : Type 0} (d e : A) (l : List A) (n : ℕ) → Between 1 (length l) n → numbered d l n ≡ numbered e l n
+unfolding numbered
+numbered-there d e l zero h = absurd (omega (arith, h .least))
+numbered-there d e l (suc k) h = getD-there d e l k (omega (arith, h .most))
+
+-- ---- answers and filters
+
+pub answered-within : (a : Answer) → AnswerWithin a → WorthWithin (answered a)
+unfolding answered
+answered-within A.missing h = tt
+answered-within (cell (A.integer z)) h = h
+answered-within (cell (A.decimal z)) h = h
+answered-within (cell (A.string s)) h = h
+answered-within (highest n) h = omega arith
+
+pub millionths-within : (q : Quantity) → QuantityWithin q → natAbs (millionths q) ≤ decimalLimit
+millionths-within (Integer z) h = integer-inside z h
+millionths-within (Decimal z) h = h
+
+-- the magnitude of a number, which is what |ABS gives
+abbrev pub magnitude : Quantity → Quantity
+magnitude (Integer z) = Integer (pos (natAbs z))
+magnitude (Decimal z) = Decimal (pos (natAbs z))
+
+-- |ABS of a number in range is its magnitude: `ranged` refuses none.
+pub absolute-is : (q : Quantity) → QuantityWithin q → absolute q ≡ number (magnitude q)
+absolute-is (Integer z) h = absolute-integer z (within-in integerLimit z h)
+absolute-is (Decimal z) h = absolute-decimal z (within-in decimalLimit z h)
+
+magnitude-within : (q : Quantity) → QuantityWithin q → QuantityWithin (magnitude q)
+magnitude-within (Integer z) h = h
+magnitude-within (Decimal z) h = h
+
+number-within : (f : Filter) (q : Quantity) → QuantityWithin q → WorthWithin (filteredNumber f q)
+unfolding filteredNumber
+number-within Unfiltered q h = h
+number-within Absolute q h = rw (absolute-is q h) (magnitude-within q h)
+number-within Truncated q h = whole-bound q (millionths-within q h)
+number-within UpperCase q h = tt
+number-within Length q h = tt
+number-within RecordCount q h = h
+number-within EntryCount q h = h
+
+string-within : (f : Filter) (s : List ℕ) → Short s → WorthWithin (filteredString f s)
+unfolding filteredString
+string-within Unfiltered s h = h
+string-within Absolute s h = tt
+string-within Truncated s h = tt
+string-within UpperCase s h = omega (arith, length-map s upper)
+string-within Length s h = omega arith
+string-within RecordCount s h = h
+string-within EntryCount s h = h
+
+pub filtered-within : (f : Filter) (w : Worth) → WorthWithin w → WorthWithin (filtered f w)
+unfolding filtered
+filtered-within f missing h = tt
+filtered-within f wrong h = tt
+filtered-within f (number q) h = number-within f q h
+filtered-within f (string s) h = string-within f s h
+
+-- ---- arguments
+
+element-within : (l : List Answer) (z : ℤ) → Each AnswerWithin l → AnswerWithin (element l z)
+unfolding element
+element-within l (pos n) h = numbered-each AnswerWithin A.missing l n tt h
+element-within l (negsuc n) h = tt
+
+module _ (m : Machine) (line : ℕ) where
+  cell-within : (kind p : ℕ) (i j : Index) → Yields AnswerWithin (worthOf (cellMeaning m line kind p i j)) WorthWithin
+  unfolding worthOf cellMeaning asks
+  cell-within kind p i j =
+      yields-bind AnswerWithin (cellMeaning m line kind p i j) (λ a. done (answered a)) AnswerWithin WorthWithin
+      (yields-bind AnswerWithin (indexValue m line i) (λ r. bind (indexValue m line j) (λ e. ask (question (m .datasource) kind p r e) line (λ a. done a))) (λ _. Unit {0}) AnswerWithin (yields-any AnswerWithin (indexValue m line i)) (λ r h.
+      yields-bind AnswerWithin (indexValue m line j) (λ e. ask (question (m .datasource) kind p r e) line (λ a. done a)) (λ _. Unit {0}) AnswerWithin (yields-any AnswerWithin (indexValue m line j)) (λ e k a w. w)))
+      (λ a h. answered-within a h)
+
+  module _ (h : MachineWithin m) (s : List ℕ) where
+    operand-within : (kind : ℕ) (o : Operand) → OperandWithin s o → Yields AnswerWithin (operandMeaning m s line kind o) WorthWithin
+    unfolding operandMeaning
+    operand-within kind (Number q) b = b
+    operand-within kind (Text a e) b = omega (arith, length-take (e - a) (drop a s), b .short)
+    operand-within kind (IntegerVariable n) b = numbered-each IntegerWithin (pos 0) (m .integers) n (omega arith) (h .integers)
+    operand-within kind (DecimalVariable n) b = numbered-each DecimalWithin (pos 0) (m .decimals) n (omega arith) (h .decimals)
+    operand-within kind (StringVariable n) b = numbered-each Short [] (m .strings) n (omega arith) (h .strings)
+    operand-within kind PageNumber b = h .page
+    operand-within kind LineNumber b = h .row
+    operand-within kind LoopCounter b = h .counter
+    operand-within kind (RecordElement n) b =
+        answered-within (element (numbered [] (m .records) n) (m .counter)) (element-within (numbered [] (m .records) n) (m .counter) (numbered-each (Each AnswerWithin) [] (m .records) n tt (h .records)))
+    operand-within kind (EntryElement n) b =
+        answered-within (element (numbered [] (m .entries) n) (m .counter)) (element-within (numbered [] (m .entries) n) (m .counter) (numbered-each (Each AnswerWithin) [] (m .entries) n tt (h .entries)))
+    operand-within kind (Parameter p) b = cell-within kind p (Fixed 0) (Fixed 0)
+    operand-within kind (Record p r) b = cell-within kind p r (Fixed 0)
+    operand-within kind (Entry p r e) b = cell-within kind p r e
+
+    -- An argument within its limits is worth a number in range or a short string, where it is worth one.
+    pub argument-within : (a : Argument) → ArgumentWithin s a → Yields AnswerWithin (argumentMeaning m s line a) WorthWithin
+    unfolding argumentMeaning
+    argument-within a b =
+        yields-bind AnswerWithin (operandMeaning m s line (kindOf (a .filter)) (a .operand)) (λ w. done (filtered (a .filter) w)) WorthWithin WorthWithin (operand-within (kindOf (a .filter)) (a .operand) (b .operand)) (λ w k. filtered-within (a .filter) w k)
+
+-- ---- $REC and $TBL
+
+each-within : (line : ℕ) (qs : List Question) → Yields AnswerWithin (asksEach line qs) (Each AnswerWithin)
+unfolding asksEach
+each-within line [] = tt
+each-within line (q ∷ qs) =
+    λ r p. yields-bind AnswerWithin (asksEach line qs) (λ rest. done (r ∷ rest)) (Each AnswerWithin) (Each AnswerWithin) (each-within line qs) (λ l h. (p, h))
+
+-- What is fetched lies within its limits.
+pub fetch-within : (m : Machine) (line : ℕ) (along : Along) (p : ℕ) (i j c : Index) → Yields AnswerWithin (fetchMeaning m line along p i j c) (Each AnswerWithin)
+unfolding fetchMeaning asksElements
+fetch-within m line along p i j c =
+    yields-bind AnswerWithin (indexValue m line i) _ (λ _. Unit {0}) (Each AnswerWithin) (yields-any AnswerWithin (indexValue m line i)) (λ r h.
+    yields-bind AnswerWithin (indexValue m line j) _ (λ _. Unit {0}) (Each AnswerWithin) (yields-any AnswerWithin (indexValue m line j)) (λ e k.
+    yields-bind AnswerWithin (countValue line (indexNumber (m .integers) (m .counter) c)) _ (λ _. Unit {0}) (Each AnswerWithin) (yields-any AnswerWithin (countValue line (indexNumber (m .integers) (m .counter) c))) (λ n l.
+    by (leb (firstOf along r e + n) 1000) (asksEach line (elementQuestions (elementQuestion (m .datasource) along p r e) 0 n)) (each-within line _))))
+  where
+    by : (b : Bool) (t : Meaning (List Answer)) → Yields AnswerWithin t (Each AnswerWithin) → Yields AnswerWithin (cond b t (stop BadIndex line)) (Each AnswerWithin)
+    by true t h = h
+    by false t h = tt
+
+-- What a store answers lies within its limits.
+pub answers-within : (b : List ℕ) (n : ℕ) (q : Question) → AnswerWithin (answers b n q)
+answers-within b n q = ask-within b n q
