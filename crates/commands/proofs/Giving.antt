@@ -45,7 +45,7 @@ module _ {A : Type 0} where
   gives-concluded line (settled a) Φ h = h
   gives-concluded line (against e) Φ h = h
 
-  whenever-then : {B : Type 0} (x : Settled A) (f : A → Settled B) (Φ : A → Type 0) (Ψ : B → Type 0) → Whenever x Φ → ((a : A) → Φ a → Whenever (f a) Ψ) → Whenever (andThen x f) Ψ
+  pub whenever-then : {B : Type 0} (x : Settled A) (f : A → Settled B) (Φ : A → Type 0) (Ψ : B → Type 0) → Whenever x Φ → ((a : A) → Φ a → Whenever (f a) Ψ) → Whenever (andThen x f) Ψ
   whenever-then (settled a) f Φ Ψ h g = g a h
   whenever-then (against e) f Φ Ψ h g = tt
 

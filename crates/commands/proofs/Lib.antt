@@ -8,3 +8,4 @@ pub mod Tabling
 pub mod Selections
 pub mod Clearing
 pub mod Giving
+pub mod Ranges

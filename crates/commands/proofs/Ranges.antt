@@ -1,0 +1,201 @@
+-- Commands keep a machine in range, where their arguments lie within their limits and answers within theirs. So a string that
+-- SV takes is not cut, and a variable that is set is one of the machine's.
+use mathlib.Core.Path.{_≡_, refl, ap, subst, _∙_}
+use mathlib.Core.List.{List, [], _∷_}
+use Prim.Native.Nat.{ℕ, zero, suc, _+_, _≤_}
+use native.Mathlib.Omega.{arith}
+use lib.IntN.{ℤ, pos, natAbs}
+use lib.ListN.{length, set, take}
+use lib.Seq.{take-all, getD-set-same}
+use Rattle.meaning.specs.Each.{Each}
+use Rattle.meaning.specs.Answer.{Answer}
+use Rattle.meaning.specs.Tree.{done, stop, ask, print, bind}
+use Rattle.meaning.specs.Meaning.{Meaning}
+use Rattle.meaning.proofs.Yielding.{Yields, yields-bind, yields-more}
+use Rattle.numbers.specs.declared.Quantity.{Quantity}
+use Rattle.numbers.specs.declared.Quantity.the-variants.{Integer, Decimal}
+use Rattle.numbers.specs.Range.{integerLimit, decimalLimit}
+use Rattle.numbers.specs.Outcome as N
+use Rattle.numbers.specs.Arithmetic.{inMillionths}
+use Rattle.numbers.proofs.Laws.{sum-bound, difference-bound, integer-product-bound, integer-quotient-bound, decimal-product-bound, decimal-quotient-bound, millionths-bound}
+use Rattle.cells.proofs.Limits.{AnswerWithin}
+use Rattle.arguments.specs.declared.argument.Argument.{Argument}
+use Rattle.arguments.proofs.Parsed.{Between, QuantityWithin, ArgumentWithin}
+use Rattle.lines.specs.declared.command.Fetch.{Fetch}
+use Rattle.lines.specs.declared.command.Operation.{Operation}
+use Rattle.lines.specs.declared.command.Operation.the-variants.{Assign, Add, Subtract, Multiply, Divide}
+use Rattle.lines.specs.declared.command.Optional.{Optional}
+use Rattle.lines.specs.declared.command.Target.{Target}
+use Rattle.lines.specs.declared.command.Target.the-variants.{IntegerTarget, DecimalTarget, StringTarget}
+use Rattle.values.specs.declared.fetch.Along.the-variants.{Records, Entries}
+use Rattle.values.specs.Machine.{Machine, numbered}
+use Rattle.values.specs.Worth.{Worth, missing, wrong, number, string}
+use Rattle.values.specs.Meanings.{argumentMeaning}
+use Rattle.values.specs.Fetching.{fetchMeaning}
+use Rattle.values.proofs.Giving.{Gives}
+use Rattle.values.proofs.Ranges.{IntegerWithin, DecimalWithin, Short, WorthWithin, MachineWithin, argument-within, fetch-within}
+use Rattle.commands.specs.declared.table.Table.{Table}
+use Rattle.commands.specs.Settling.{Settled, settled, against, concluded, integerFrom, quantityFrom, stringFrom, resultOf, millionthsOf, decimalFrom, integerMeaning}
+use Rattle.commands.specs.Setting.{integerOutcome, decimalOutcome, setNumbered, stored, newFrom, integerNew, decimalNew, stringNew, setOf, setMeaning}
+use Rattle.commands.specs.Fetching.{withRecords, withEntries, recordsMeaning, entriesMeaning}
+use Rattle.commands.specs.Looping.{Looping, begun, beginMeaning, endMeaning}
+use Rattle.commands.proofs.Giving.{Whenever, whenever-then, numbered-length, Counting, end-gives, Bounded, begun-bounded, counting-bounded}
+
+-- what a tree that only asks gives, it yields
+pub gives-yields : {A : Type 0} (t : Meaning A) (Φ : A → Type 0) → Gives t Φ → Yields AnswerWithin t Φ
+gives-yields (done a) Φ h = h
+gives-yields (stop e l) Φ h = tt
+gives-yields (ask q l k) Φ h = λ r p. gives-yields (k r) Φ (h r)
+gives-yields (print v l t) Φ h = absurd h
+
+yields-concluded : {A : Type 0} (line : ℕ) (x : Settled A) (Φ : A → Type 0) → Whenever x Φ → Yields AnswerWithin (concluded line x) Φ
+yields-concluded line (settled a) Φ h = h
+yields-concluded line (against e) Φ h = tt
+
+-- ---- results
+
+integer-from : (w : Worth) → WorthWithin w → Whenever (integerFrom w) IntegerWithin
+unfolding integerFrom
+integer-from missing h = tt
+integer-from wrong h = tt
+integer-from (number (Integer z)) h = h
+integer-from (number (Decimal z)) h = tt
+integer-from (string s) h = tt
+
+quantity-from : (w : Worth) → WorthWithin w → Whenever (quantityFrom w) QuantityWithin
+unfolding quantityFrom
+quantity-from missing h = tt
+quantity-from wrong h = tt
+quantity-from (number q) h = h
+quantity-from (string s) h = tt
+
+result-within : (limit : ℕ) (o : N.Outcome) → ((v : ℤ) → o ≡ N.success v → natAbs v ≤ limit) → Whenever (resultOf o) (λ v. natAbs v ≤ limit)
+unfolding resultOf
+result-within limit (N.success z) h = h z refl
+result-within limit (N.refused n) h = tt
+
+millionths-of : (q : Quantity) → QuantityWithin q → Whenever (millionthsOf q) DecimalWithin
+unfolding millionthsOf
+millionths-of (Integer n) h = result-within decimalLimit (inMillionths n) (λ v e. millionths-bound n v e)
+millionths-of (Decimal m) h = h
+
+decimal-from : (w : Worth) → WorthWithin w → Whenever (decimalFrom w) DecimalWithin
+unfolding decimalFrom
+decimal-from w h = whenever-then (quantityFrom w) millionthsOf QuantityWithin DecimalWithin (quantity-from w h) millionths-of
+
+assigned : (limit : ℕ) (b v : ℤ) → natAbs b ≤ limit → N.success b ≡ N.success v → natAbs v ≤ limit
+assigned limit b v h e = let q : b ≡ v = cc in subst (λ z. natAbs z ≤ limit) q h
+
+integer-outcome : (o : Operation) (a b v : ℤ) → IntegerWithin b → integerOutcome o a b ≡ N.success v → IntegerWithin v
+unfolding integerOutcome
+integer-outcome Assign a b v h e = assigned integerLimit b v h e
+integer-outcome Add a b v h e = sum-bound integerLimit a b v e
+integer-outcome Subtract a b v h e = difference-bound integerLimit a b v e
+integer-outcome Multiply a b v h e = integer-product-bound a b v e
+integer-outcome Divide a b v h e = integer-quotient-bound a b v e
+
+decimal-outcome : (o : Operation) (a b v : ℤ) → DecimalWithin b → decimalOutcome o a b ≡ N.success v → DecimalWithin v
+unfolding decimalOutcome
+decimal-outcome Assign a b v h e = assigned decimalLimit b v h e
+decimal-outcome Add a b v h e = sum-bound decimalLimit a b v e
+decimal-outcome Subtract a b v h e = difference-bound decimalLimit a b v e
+decimal-outcome Multiply a b v h e = decimal-product-bound a b v e
+decimal-outcome Divide a b v h e = decimal-quotient-bound a b v e
+
+integer-new : (o : Operation) (a : ℤ) (w : Worth) → WorthWithin w → Whenever (integerNew o a w) IntegerWithin
+unfolding newFrom
+integer-new o a w h =
+    whenever-then (integerFrom w) (λ b. resultOf (integerOutcome o a b)) IntegerWithin IntegerWithin (integer-from w h) (λ b k. result-within integerLimit (integerOutcome o a b) (λ v e. integer-outcome o a b v k e))
+
+decimal-new : (o : Operation) (a : ℤ) (w : Worth) → WorthWithin w → Whenever (decimalNew o a w) DecimalWithin
+unfolding newFrom
+decimal-new o a w h =
+    whenever-then (decimalFrom w) (λ b. resultOf (decimalOutcome o a b)) DecimalWithin DecimalWithin (decimal-from w h) (λ b k. result-within decimalLimit (decimalOutcome o a b) (λ v e. decimal-outcome o a b v k e))
+
+-- "SV1–SV99 hold up to 16 bytes each": a string in range is taken whole.
+pub string-whole : (w : Worth) → WorthWithin w → stringNew w ≡ stringFrom w
+unfolding stringNew stringFrom
+string-whole missing h = refl
+string-whole wrong h = refl
+string-whole (number q) h = refl
+string-whole (string s) h = ap settled (take-all 16 s h)
+
+string-new : (w : Worth) → WorthWithin w → Whenever (stringNew w) Short
+unfolding stringFrom
+string-new missing h = rw (string-whole missing h) tt
+string-new wrong h = rw (string-whole wrong h) tt
+string-new (number q) h = rw (string-whole (number q) h) tt
+string-new (string s) h = rw (string-whole (string s) h) h
+
+-- ---- variables
+
+-- A number from 1 to the length names one of the list, which is then x.
+pub set-there : {A : Type 0} (d : A) (l : List A) (n : ℕ) (x : A) → Between 1 (length l) n → numbered d (setNumbered l n x) n ≡ x
+unfolding setNumbered numbered
+set-there d l zero x h = absurd (omega (arith, h .least))
+set-there d l (suc k) x h = getD-set-same l k x d (omega (arith, h .most))
+
+set-each : {A : Type 0} (P : A → Type 0) (l : List A) (k : ℕ) (x : A) → P x → Each P l → Each P (set l k x)
+set-each P [] k x p h = tt
+set-each P (y ∷ l) zero x p h = (p, h .1)
+set-each P (y ∷ l) (suc k) x p h = (h .0, set-each P l k x p (h .1))
+
+numbered-each : {A : Type 0} (P : A → Type 0) (l : List A) (n : ℕ) (x : A) → P x → Each P l → Each P (setNumbered l n x)
+unfolding setNumbered
+numbered-each P l zero x p h = h
+numbered-each P l (suc k) x p h = set-each P l k x p h
+
+-- c of them, each with P
+record All {A : Type 0} (P : A → Type 0) (c : ℕ) (l : List A) : Type 0 where
+  each : Each P l
+  count : length l ≡ c
+
+stored-all : {A : Type 0} (P : A → Type 0) (c : ℕ) (l : List A) (n : ℕ) (x : Settled A) → Each P l → length l ≡ c → Whenever x P → Whenever (stored l n x) (All P c)
+unfolding stored
+stored-all P c l n (settled x) h e p = record { each = numbered-each P l n x p h; count = numbered-length l n x ∙ e }
+stored-all P c l n (against r) h e p = tt
+
+module _ (m : Machine) (h : MachineWithin m) where
+  set-of : (o : Operation) (t : Target) (w : Worth) → WorthWithin w → Whenever (setOf m o t w) MachineWithin
+  unfolding setOf
+  set-of o (IntegerTarget n) w k =
+      whenever-then (stored (m .integers) n (integerNew o (numbered (pos 0) (m .integers) n) w)) _ (All IntegerWithin 99) MachineWithin (stored-all IntegerWithin 99 (m .integers) n _ (h .integers) (h .integer-count) (integer-new o _ w k)) (λ l a. record { integers = a .each; decimals = h .decimals; strings = h .strings; records = h .records; entries = h .entries; counter = h .counter; page = h .page; row = h .row; integer-count = a .count; decimal-count = h .decimal-count; string-count = h .string-count; record-count = h .record-count; entry-count = h .entry-count })
+  set-of o (DecimalTarget n) w k =
+      whenever-then (stored (m .decimals) n (decimalNew o (numbered (pos 0) (m .decimals) n) w)) _ (All DecimalWithin 99) MachineWithin (stored-all DecimalWithin 99 (m .decimals) n _ (h .decimals) (h .decimal-count) (decimal-new o _ w k)) (λ l a. record { integers = h .integers; decimals = a .each; strings = h .strings; records = h .records; entries = h .entries; counter = h .counter; page = h .page; row = h .row; integer-count = h .integer-count; decimal-count = a .count; string-count = h .string-count; record-count = h .record-count; entry-count = h .entry-count })
+  set-of o (StringTarget n) w k =
+      whenever-then (stored (m .strings) n (stringNew w)) _ (All Short 99) MachineWithin (stored-all Short 99 (m .strings) n (stringNew w) (h .strings) (h .string-count) (string-new w k)) (λ l a. record { integers = h .integers; decimals = h .decimals; strings = a .each; records = h .records; entries = h .entries; counter = h .counter; page = h .page; row = h .row; integer-count = h .integer-count; decimal-count = h .decimal-count; string-count = a .count; record-count = h .record-count; entry-count = h .entry-count })
+
+  module _ (line : ℕ) where
+    module _ (s : List ℕ) where
+      -- $SETE to $SETD
+      pub set-within : (o : Operation) (t : Target) (a : Argument) → ArgumentWithin s a → Yields AnswerWithin (setMeaning m s line o t a) MachineWithin
+      unfolding setMeaning
+      set-within o t a b =
+          yields-bind AnswerWithin (argumentMeaning m s line a) (λ w. concluded line (setOf m o t w)) WorthWithin MachineWithin (argument-within m line h s a b) (λ w k. yields-concluded line (setOf m o t w) MachineWithin (set-of o t w k))
+
+      -- "$BT, $ET and $NP take integers"
+      pub integer-within : (a : Argument) → ArgumentWithin s a → Yields AnswerWithin (integerMeaning m s line a) IntegerWithin
+      unfolding integerMeaning
+      integer-within a b =
+          yields-bind AnswerWithin (argumentMeaning m s line a) (λ w. concluded line (integerFrom w)) WorthWithin IntegerWithin (argument-within m line h s a b) (λ w k. yields-concluded line (integerFrom w) IntegerWithin (integer-from w k))
+
+      pub begin-within : (ts : List Table) (start next : ℕ) (a : Argument) → ArgumentWithin s a → Each Bounded ts → Yields AnswerWithin (beginMeaning m s line ts start next a) (λ x. Each Bounded (x .tables))
+      unfolding beginMeaning
+      begin-within ts start next a b k =
+          yields-bind AnswerWithin (integerMeaning m s line a) (λ n. done (begun ts start next n)) IntegerWithin (λ x. Each Bounded (x .tables)) (integer-within a b) (λ n i. begun-bounded ts start next n i k)
+
+    -- $REC and $TBL
+    pub records-within : (f : Fetch) → Yields AnswerWithin (recordsMeaning m line f) MachineWithin
+    unfolding recordsMeaning
+    records-within f =
+        yields-bind AnswerWithin (fetchMeaning m line Records (f .parameter) (f .first) (f .second) (f .count)) (λ l. done (withRecords m (setNumbered (m .records) (f .number) l))) (Each AnswerWithin) MachineWithin (fetch-within m line Records (f .parameter) (f .first) (f .second) (f .count)) (λ l k. record { integers = h .integers; decimals = h .decimals; strings = h .strings; records = numbered-each (Each AnswerWithin) (m .records) (f .number) l k (h .records); entries = h .entries; counter = h .counter; page = h .page; row = h .row; integer-count = h .integer-count; decimal-count = h .decimal-count; string-count = h .string-count; record-count = numbered-length (m .records) (f .number) l ∙ h .record-count; entry-count = h .entry-count })
+
+    pub entries-within : (f : Fetch) → Yields AnswerWithin (entriesMeaning m line f) MachineWithin
+    unfolding entriesMeaning
+    entries-within f =
+        yields-bind AnswerWithin (fetchMeaning m line Entries (f .parameter) (f .first) (f .second) (f .count)) (λ l. done (withEntries m (setNumbered (m .entries) (f .number) l))) (Each AnswerWithin) MachineWithin (fetch-within m line Entries (f .parameter) (f .first) (f .second) (f .count)) (λ l k. record { integers = h .integers; decimals = h .decimals; strings = h .strings; records = h .records; entries = numbered-each (Each AnswerWithin) (m .entries) (f .number) l k (h .entries); counter = h .counter; page = h .page; row = h .row; integer-count = h .integer-count; decimal-count = h .decimal-count; string-count = h .string-count; record-count = h .record-count; entry-count = numbered-length (m .entries) (f .number) l ∙ h .entry-count })
+
+-- $ET: counters stay within their limits, whatever k is.
+pub end-within : (m : Machine) (s : List ℕ) (line : ℕ) (ts : List Table) (o : Optional) → Each Bounded ts → Yields AnswerWithin (endMeaning m s line ts o) (λ x. Each Bounded (x .tables))
+end-within m s line ts o h =
+    yields-more AnswerWithin (endMeaning m s line ts o) (Counting ts) (λ x. Each Bounded (x .tables)) (gives-yields (endMeaning m s line ts o) (Counting ts) (end-gives m s line ts o)) (λ x k. counting-bounded ts x k h)
