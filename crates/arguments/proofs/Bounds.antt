@@ -57,18 +57,18 @@ pub record ArgumentWithin (l : List ℕ) (a : Argument) : Type 0 where
   pub operand : OperandWithin l (a .operand)
   pub filter : admits (a .filter) (countOf (a .operand)) ≡ true
 
--- how many bytes an operand takes at least: a cell a P and a digit
-abbrev pub leastBytes : Operand → ℕ
-leastBytes (Number q) = 1
-leastBytes (Text start end) = 1
-leastBytes (IntegerVariable n) = 1
-leastBytes (DecimalVariable n) = 1
-leastBytes (StringVariable n) = 1
-leastBytes PageNumber = 1
-leastBytes LineNumber = 1
-leastBytes LoopCounter = 1
-leastBytes (RecordElement n) = 1
-leastBytes (EntryElement n) = 1
-leastBytes (Parameter n) = 2
-leastBytes (Record n r) = 2
-leastBytes (Entry n r e) = 2
+-- how many questions an operand asks: a cell one
+abbrev pub questionsOf : Operand → ℕ
+questionsOf (Number q) = 0
+questionsOf (Text start end) = 0
+questionsOf (IntegerVariable n) = 0
+questionsOf (DecimalVariable n) = 0
+questionsOf (StringVariable n) = 0
+questionsOf PageNumber = 0
+questionsOf LineNumber = 0
+questionsOf LoopCounter = 0
+questionsOf (RecordElement n) = 0
+questionsOf (EntryElement n) = 0
+questionsOf (Parameter n) = 1
+questionsOf (Record n r) = 1
+questionsOf (Entry n r e) = 1

@@ -19,7 +19,7 @@ use Rattle.scan.specs.Run.{span}
 use Rattle.scan.specs.Line.{byteAt, byteIs, window}
 use Rattle.scan.specs.Digits.{digitsAt, numberAt}
 use Rattle.scan.specs.Words.{standsAt, firstOf}
-use Rattle.scan.proofs.OnwardLaws.{picked}
+use Rattle.scan.proofs.OnwardLaws.{picked, tested}
 use Rattle.scan.proofs.DigitLaws.{digits-power}
 use Rattle.scan.proofs.NumberLaws.{Counts, Within, number-within}
 use Rattle.scan.proofs.RunLaws.{length-span, byte-within}
@@ -42,12 +42,7 @@ use Rattle.arguments.specs.Index.{loopWord, variableWord, variableIndex,
 use Rattle.arguments.specs.Operand.{stringEnd, stringAt, entryOf, recordOf, cellOf, cellAt, wholeAt, numberedOf, numberedAt, names, namedAt, numberOr, operandAt}
 use Rattle.arguments.specs.Argument.{countOf, admits, filteredAt, filters, argumentOf, argumentAt}
 use Rattle.arguments.specs.Parameter.{parameterOf}
-pub use Rattle.arguments.proofs.Bounds.{Between, QuantityWithin, IndexWithin, StringWithin, OperandWithin, ArgumentWithin, leastBytes}
-
--- what holds in each case of a test, with its outcome, holds of what it picks
-tested : {A : Type 0} (P : A → Type 0) (b : Bool) {x y : A} → (b ≡ true → P x) → (b ≡ false → P y) → P (cond b x y)
-tested P true p q = p refl
-tested P false p q = q refl
+pub use Rattle.arguments.proofs.Bounds.{Between, QuantityWithin, IndexWithin, StringWithin, OperandWithin, ArgumentWithin, questionsOf}
 
 -- what is read from `from` on lies within its limits and moves on
 abbrev LiteralFine : ℕ → LiteralRead → Type 0
@@ -59,11 +54,11 @@ IndexFine from (IndexTo i next) = IndexWithin i × (from < next)
 IndexFine from NoIndex = Unit {0}
 
 abbrev OperandFine : List ℕ → ℕ → OperandRead → Type 0
-OperandFine l from (OperandTo o next) = OperandWithin l o × (from + leastBytes o ≤ next)
+OperandFine l from (OperandTo o next) = OperandWithin l o × (from + 1 + questionsOf o ≤ next)
 OperandFine l from NoOperand = Unit {0}
 
 abbrev ArgumentFine : List ℕ → ℕ → ArgumentRead → Type 0
-ArgumentFine l from (ArgumentTo a next) = ArgumentWithin l a × (from + leastBytes (a .operand) ≤ next)
+ArgumentFine l from (ArgumentTo a next) = ArgumentWithin l a × (from + 1 + questionsOf (a .operand) ≤ next)
 ArgumentFine l from NoArgument = Unit {0}
 
 -- ---- literals
@@ -181,7 +176,7 @@ operand-bounded l at o next e = subst (OperandFine l at) e (operand-fine l at) .
 -- ---- filters
 
 module _ (l : List ℕ) (from : ℕ) (o : Operand) (h : OperandWithin l o) where
-  filtered-fine : (f : Filter) (k : ℕ) → from + leastBytes o ≤ k → ArgumentFine l from (filteredAt o f l k)
+  filtered-fine : (f : Filter) (k : ℕ) → from + 1 + questionsOf o ≤ k → ArgumentFine l from (filteredAt o f l k)
   unfolding filteredAt
   filtered-fine f k b = tested (ArgumentFine l from) (admits f (countOf o)) (λ e. (record { operand = h; filter = e }, b)) (λ e. tt)
 
@@ -199,21 +194,6 @@ argument-fine l from (OperandTo o next) h =
     ) (record { operand = h .0; filter = refl }, h .1)
 
 -- ---- what was parsed
-
-least-one : (o : Operand) → 1 ≤ leastBytes o
-least-one (Number q) = omega arith
-least-one (Text start end) = omega arith
-least-one (IntegerVariable n) = omega arith
-least-one (DecimalVariable n) = omega arith
-least-one (StringVariable n) = omega arith
-least-one PageNumber = omega arith
-least-one LineNumber = omega arith
-least-one LoopCounter = omega arith
-least-one (RecordElement n) = omega arith
-least-one (EntryElement n) = omega arith
-least-one (Parameter n) = omega arith
-least-one (Record n r) = omega arith
-least-one (Entry n r e) = omega arith
 
 pub small-parameter : (l : List ℕ) (o : Operand) → OperandWithin l o → parameterOf o ≤ 65535
 unfolding parameterOf
@@ -240,13 +220,13 @@ module _ (l : List ℕ) (at : ℕ) (a : Argument) (next : ℕ) (e : argumentAt l
   pub argument-bounded : ArgumentWithin l a
   argument-bounded = known .0
 
-  -- An argument takes at least one byte, and a cell two.
-  pub argument-bytes : at + leastBytes (a .operand) ≤ next
+  -- An argument takes at least one byte, one that asks two.
+  pub argument-bytes : at + 1 + questionsOf (a .operand) ≤ next
   argument-bytes = known .1
 
   -- An argument moves on.
   pub argument-onward : at < next
-  argument-onward = omega (arith, argument-bytes, least-one (a .operand))
+  argument-onward = omega (arith, argument-bytes)
 
   -- "a cell Pn .. n 1–65,535"
   pub parsed-parameter : parameterOf (a .operand) ≤ 65535

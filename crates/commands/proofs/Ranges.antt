@@ -22,6 +22,7 @@ use Rattle.cells.proofs.Limits.{AnswerWithin}
 use Rattle.arguments.specs.declared.argument.Argument.{Argument}
 use Rattle.arguments.proofs.Parsed.{Between, QuantityWithin, ArgumentWithin}
 use Rattle.lines.specs.declared.command.Fetch.{Fetch}
+use Rattle.lines.proofs.Accepted.{TargetWithin, FetchWithin}
 use Rattle.lines.specs.declared.command.Operation.{Operation}
 use Rattle.lines.specs.declared.command.Operation.the-variants.{Assign, Add, Subtract, Multiply, Divide}
 use Rattle.lines.specs.declared.command.Optional.{Optional}
@@ -135,12 +136,34 @@ unfolding setNumbered numbered
 set-there d l zero x h = absurd (omega (arith, h .least))
 set-there d l (suc k) x h = getD-set-same l k x d (omega (arith, h .most))
 
+-- what is set is read again, whatever would stand for a number that there is none of
+abbrev pub Held : {A : Type 0} → List A → ℕ → Type 0
+Held {A} l n = (d x : A) → numbered d (setNumbered l n x) n ≡ x
+
+held : {A : Type 0} (l : List A) (c n : ℕ) → length l ≡ c → Between 1 c n → Held l n
+held l c n e h = λ d x. set-there d l n x (record { least = h .least; most = omega (arith, h .most) })
+
+abbrev pub TargetThere : Machine → Target → Type 0
+TargetThere m (IntegerTarget n) = Held (m .integers) n
+TargetThere m (DecimalTarget n) = Held (m .decimals) n
+TargetThere m (StringTarget n) = Held (m .strings) n
+
+-- A variable that a parsed line sets is one of the machine's.
+pub target-there : (m : Machine) → MachineWithin m → (t : Target) → TargetWithin t → TargetThere m t
+target-there m h (IntegerTarget n) b = held (m .integers) 99 n (h .integer-count) b
+target-there m h (DecimalTarget n) b = held (m .decimals) 99 n (h .decimal-count) b
+target-there m h (StringTarget n) b = held (m .strings) 99 n (h .string-count) b
+
+-- So is what $REC and $TBL fill.
+pub fetch-there : (m : Machine) → MachineWithin m → (f : Fetch) → FetchWithin f → Held (m .records) (f .number) × Held (m .entries) (f .number)
+fetch-there m h f b = (held (m .records) 10 (f .number) (h .record-count) (b .number), held (m .entries) 10 (f .number) (h .entry-count) (b .number))
+
 set-each : {A : Type 0} (P : A → Type 0) (l : List A) (k : ℕ) (x : A) → P x → Each P l → Each P (set l k x)
 set-each P [] k x p h = tt
 set-each P (y ∷ l) zero x p h = (p, h .1)
 set-each P (y ∷ l) (suc k) x p h = (h .0, set-each P l k x p (h .1))
 
-numbered-each : {A : Type 0} (P : A → Type 0) (l : List A) (n : ℕ) (x : A) → P x → Each P l → Each P (setNumbered l n x)
+pub numbered-each : {A : Type 0} (P : A → Type 0) (l : List A) (n : ℕ) (x : A) → P x → Each P l → Each P (setNumbered l n x)
 unfolding setNumbered
 numbered-each P l zero x p h = h
 numbered-each P l (suc k) x p h = set-each P l k x p h

@@ -34,7 +34,7 @@ decimalOutcome Subtract a b = differenceOf decimalLimit a b
 decimalOutcome Multiply a b = decimalProduct a b
 decimalOutcome Divide a b = decimalQuotient a b
 
--- the n-th, counted from 1, is x now
+-- the n-th, counted from 1, is x now; a parsed line names one that is there (proofs/Ranges:target-there, fetch-there)
 unfoldable pub setNumbered : {A : Type 0} → List A → ℕ → A → List A
 setNumbered l zero x = l
 setNumbered l (suc k) x = set l k x
@@ -54,7 +54,7 @@ integerNew o a = newFrom integerFrom (integerOutcome o a)
 abbrev pub decimalNew : Operation → ℤ → Worth → Settled ℤ
 decimalNew o a = newFrom decimalFrom (decimalOutcome o a)
 
--- "SV takes a string"; "SV1–SV99 hold up to 16 bytes each"
+-- "SV takes a string"; "SV1–SV99 hold up to 16 bytes each". No string of a run has more, so none is cut (proofs/Ranges:string-whole).
 unfoldable pub stringNew : Worth → Settled (List ℕ)
 stringNew w = andThen (stringFrom w) (λ s. settled (take 16 s))
 

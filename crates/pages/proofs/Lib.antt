@@ -6,3 +6,4 @@ pub mod Turning
 pub mod Stepping
 pub mod Sixty
 pub mod InRange
+pub mod Ranges

@@ -1,4 +1,5 @@
 -- What is read in a line ends no earlier than it starts: each law has a place `from` that it doesn't fall behind.
+use mathlib.Core.Path.{_≡_, refl}
 use mathlib.Core.Bool.{Bool, true, false, cond}
 use mathlib.Core.List.{List}
 use Prim.Native.Nat.{ℕ, zero, suc, _+_, _/_, _≤_}
@@ -17,6 +18,11 @@ use Rattle.scan.specs.Words.{standsAt, wordIn, wordFrom, wordAt}
 pub picked : {A : Type 0} (P : A → Type 0) (b : Bool) {x y : A} → P x → P y → P (cond b x y)
 picked P true p q = p
 picked P false p q = q
+
+-- so does what holds in each case, with the outcome of the test
+pub tested : {A : Type 0} (P : A → Type 0) (b : Bool) {x y : A} → (b ≡ true → P x) → (b ≡ false → P y) → P (cond b x y)
+tested P true p q = p refl
+tested P false p q = q refl
 
 pub data NumeralFrom (from : ℕ) : Numeral → Type 0 where
   numeral : (n next : ℕ) → from ≤ next → NumeralFrom from (Value n next)

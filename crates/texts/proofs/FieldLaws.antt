@@ -1,27 +1,29 @@
--- What is known of a field that was read: its parameter, width and places are within their limits, and it takes at least four
--- bytes of its line.
+-- What is known of a field that was read: its argument, width and places are within their limits, and it takes at least five
+-- bytes of its line, six where it asks.
 use mathlib.Core.Path.{_≡_, refl, subst}
 use mathlib.Core.Bool.{Bool, true, false, cond}
-use mathlib.Core.List.{List, _∷_}
+use mathlib.Core.List.{List, [], _∷_}
 use mathlib.Core.Option.{Option, none, some}
 use Prim.Native.Nat.{ℕ, zero, suc, _+_, _*_, _≤_, _<_}
 use native.Mathlib.Omega.{arith}
-use borrow.Author.Tests.{le-leb, lt-leb, leb-true, leb-false, ltb-false}
+use borrow.Author.Tests.{le-leb, eqb-true, leb-true, leb-false, ltb-false}
 use lib.Dec.{ltb, leb, eqb}
 use lib.ListN.{length}
 use Rattle.scan.specs.declared.digits.Numeral.{Numeral}
 use Rattle.scan.specs.declared.digits.Numeral.the-variants.{Value, NoNumeral}
 use Rattle.scan.specs.Line.{byteAt}
 use Rattle.scan.specs.Digits.{digitsAt, numberAt}
-use Rattle.scan.proofs.OnwardLaws.{picked}
+use Rattle.scan.proofs.OnwardLaws.{picked, tested}
+use Rattle.scan.proofs.RunLaws.{byte-within}
 use Rattle.scan.proofs.NumberLaws.{Within, number-within}
+use Rattle.arguments.specs.declared.operand.Operand.{Operand}
+use Rattle.arguments.specs.declared.operand.Operand.the-variants as O
 use Rattle.arguments.specs.declared.argument.Argument.{Argument}
 use Rattle.arguments.specs.declared.argument.ArgumentRead.{ArgumentRead}
 use Rattle.arguments.specs.declared.argument.ArgumentRead.the-variants.{ArgumentTo, NoArgument}
 use Rattle.arguments.specs.Argument.{argumentAt}
 use Rattle.arguments.specs.Parameter.{parameterOf}
-use Rattle.arguments.proofs.OnwardLaws.{ArgumentFrom, argument, no-argument, argument-from}
-use Rattle.arguments.proofs.Parsed.{parsed-parameter}
+use Rattle.arguments.proofs.Parsed.{ArgumentWithin, questionsOf, small-parameter, argument-bounded, argument-bytes}
 use Rattle.texts.specs.declared.text.Places.{Places}
 use Rattle.texts.specs.declared.text.Places.the-variants.{Unsaid, Said}
 use Rattle.texts.specs.declared.text.PlacesRead.{PlacesRead}
@@ -42,107 +44,175 @@ abbrev pub Few : Places → Type 0
 Few Unsaid = Unit {0}
 Few (Said d) = d ≤ 6
 
--- "w 1–32, d 0–6", and "n 1–65,535" of a cell
-pub record Limited (f : Field) : Type 0 where
+-- "w 1–32, d 0–6", and an argument of the line within its limits
+pub record Limited (l : List ℕ) (f : Field) : Type 0 where
   pub least : 1 ≤ f .width
   pub most : f .width ≤ 32
   pub few : Few (f .places)
-  pub parameter : parameterOf (f .argument .operand) ≤ 65535
+  pub argument : ArgumentWithin l (f .argument)
 
--- what is read, and that it ends at k or behind
-abbrev PlacesKnown : ℕ → PlacesRead → Type 0
-PlacesKnown k (PlacesTo p next) = Few p × (k ≤ next)
-PlacesKnown k NoPlaces = Unit {0}
+-- what is read, and that it ends at k or behind, in the line; a field that asks one byte later
+abbrev PlacesKnown : List ℕ → ℕ → PlacesRead → Type 0
+PlacesKnown l k (PlacesTo p next) = Few p × (k ≤ next) × (next ≤ length l)
+PlacesKnown l k NoPlaces = Unit {0}
 
-abbrev FieldKnown : ℕ → FieldRead → Type 0
-FieldKnown k (FieldTo f next) = Limited f × (k ≤ next)
-FieldKnown k NoField = Unit {0}
+abbrev FieldKnown : List ℕ → ℕ → FieldRead → Type 0
+FieldKnown l k (FieldTo f next) = Limited l f × (k + questionsOf (f .argument .operand) ≤ next) × (next ≤ length l)
+FieldKnown l k NoField = Unit {0}
 
-abbrev PieceKnown : ℕ → PieceRead → Type 0
-PieceKnown k (PieceTo (Plain b) next) = Unit {0}
-PieceKnown k (PieceTo (Placed f) next) = Limited f × (k ≤ next)
-PieceKnown k NoPiece = Unit {0}
+abbrev PieceKnown : List ℕ → ℕ → PieceRead → Type 0
+PieceKnown l k (PieceTo (Plain b) next) = next ≤ length l
+PieceKnown l k (PieceTo (Placed f) next) = Limited l f × (k + questionsOf (f .argument .operand) ≤ next) × (next ≤ length l)
+PieceKnown l k NoPiece = Unit {0}
 
-places-known : (l : List ℕ) (at : ℕ) → PlacesKnown (at + 1) (placesAt l at)
+-- a closing brace lies in the line
+closed : (l : List ℕ) (at : ℕ) → eqb (byteAt l at) 125 ≡ true → at < length l
+closed l at e = byte-within l at (byteAt l at) 125 refl (eqb-true (byteAt l at) 125 e) (omega arith)
+
+places-known : (l : List ℕ) (at : ℕ) → PlacesKnown l (at + 1) (placesAt l at)
 unfolding placesAt
 places-known l at =
-    picked (PlacesKnown (at + 1)) (eqb (byteAt l at) 125) (tt, omega arith)
-    (picked (PlacesKnown (at + 1)) (eqb (byteAt l at) 46)
-    (picked (PlacesKnown (at + 1)) (eqb (digitsAt l (at + 1) 1 .count) 0) tt (go (ltb 6 (digitsAt l (at + 1) 1 .value)) refl))
+    tested (PlacesKnown l (at + 1)) (eqb (byteAt l at) 125) (λ e. (tt, omega arith, omega (arith, closed l at e))) (λ e.
+    picked (PlacesKnown l (at + 1)) (eqb (byteAt l at) 46)
+    (picked (PlacesKnown l (at + 1)) (eqb (digitsAt l (at + 1) 1 .count) 0) tt
+    (tested (PlacesKnown l (at + 1)) (ltb 6 (digitsAt l (at + 1) 1 .value)) (λ f. tt) (λ f.
+    tested (PlacesKnown l (at + 1)) (eqb (byteAt l (at + 2)) 125) (λ g. (ltb-false 6 (digitsAt l (at + 1) 1 .value) f, omega arith, omega (arith, closed l (at + 2) g))) (λ g. tt))))
     tt)
-  where
-    go : (b : Bool) → ltb 6 (digitsAt l (at + 1) 1 .value) ≡ b → PlacesKnown (at + 1) (cond b NoPlaces (cond (eqb (byteAt l (at + 2)) 125) (PlacesTo (Said (digitsAt l (at + 1) 1 .value)) (at + 3)) NoPlaces))
-    go true e = tt
-    go false e = picked (PlacesKnown (at + 1)) (eqb (byteAt l (at + 2)) 125) (ltb-false 6 (digitsAt l (at + 1) 1 .value) e, omega arith) tt
 
-module _ (a : Argument) (s : parameterOf (a .operand) ≤ 65535) where
-  with-places : (k at w : ℕ) (p : PlacesRead) → k ≤ at → 1 ≤ w → w ≤ 32 → PlacesKnown at p → FieldKnown k (placesOf a w p)
+module _ (l : List ℕ) (a : Argument) (s : ArgumentWithin l a) where
+  with-places : (k at w : ℕ) (p : PlacesRead) → k + questionsOf (a .operand) ≤ at → 1 ≤ w → w ≤ 32 → PlacesKnown l at p → FieldKnown l k (placesOf a w p)
   unfolding placesOf
-  with-places k at w (PlacesTo p next) h x y e = (record { least = x; most = y; few = e .0; parameter = s }, omega (arith, e .1))
+  with-places k at w (PlacesTo p next) h x y e = (record { least = x; most = y; few = e .0; argument = s }, omega (arith, e .1), e .2)
   with-places k at w NoPlaces h x y e = tt
 
-  with-width : (l : List ℕ) (k at : ℕ) (n : Numeral) → k ≤ at + 2 → Within 32 at n → FieldKnown k (widthNext l a n)
+  with-width : (k at : ℕ) (n : Numeral) → k + questionsOf (a .operand) ≤ at + 2 → Within 32 at n → FieldKnown l k (widthNext l a n)
   unfolding widthNext
-  with-width l k at (Value w next) h x = with-places k (next + 1) w (placesAt l next) (omega (arith, x .onward)) (x .least) (x .most) (places-known l next)
-  with-width l k at NoNumeral h x = tt
+  with-width k at (Value w next) h x = with-places k (next + 1) w (placesAt l next) (omega (arith, x .onward)) (x .least) (x .most) (places-known l next)
+  with-width k at NoNumeral h x = tt
 
-field-known : (l : List ℕ) (k i : ℕ) → k ≤ i + 3 → FieldKnown k (fieldAt l i)
+field-known : (l : List ℕ) (k i : ℕ) → k ≤ i + 4 → FieldKnown l k (fieldAt l i)
 unfolding fieldAt fieldOf
-field-known l k i h = go (argumentAt l i) refl (argument-from l i i (omega arith))
+field-known l k i h = go (argumentAt l i) refl
   where
-    go : (r : ArgumentRead) → argumentAt l i ≡ r → ArgumentFrom i r → FieldKnown k (fieldOf l r)
-    go (ArgumentTo a next) e (argument b c j) =
-        picked (FieldKnown k) (eqb (byteAt l next) 44) (with-width a (parsed-parameter l i a next e) l k (next + 1) (numberAt l (next + 1) 32) (omega arith) (number-within l (next + 1) 32)) tt
-    go NoArgument e no-argument = tt
+    go : (r : ArgumentRead) → argumentAt l i ≡ r → FieldKnown l k (fieldOf l r)
+    go (ArgumentTo a next) e =
+        picked (FieldKnown l k) (eqb (byteAt l next) 44) (with-width l a (argument-bounded l i a next e) k (next + 1) (numberAt l (next + 1) 32) (omega (arith, argument-bytes l i a next e)) (number-within l (next + 1) 32)) tt
+    go NoArgument e = tt
 
-placed-known : (k : ℕ) (r : FieldRead) → FieldKnown k r → PieceKnown k (placed r)
+placed-known : (l : List ℕ) (k : ℕ) (r : FieldRead) → FieldKnown l k r → PieceKnown l k (placed r)
 unfolding placed
-placed-known k (FieldTo f next) h = h
-placed-known k NoField h = tt
+placed-known l k (FieldTo f next) h = h
+placed-known l k NoField h = tt
 
-piece-known : (l : List ℕ) (i : ℕ) → PieceKnown (i + 4) (pieceAt l i)
+piece-known : (l : List ℕ) (i : ℕ) → PieceKnown l (i + 5) (pieceAt l i)
 unfolding pieceAt
 piece-known l i =
-    picked (PieceKnown (i + 4)) (leb (length l) i) tt
-    (picked (PieceKnown (i + 4)) (eqb (byteAt l i) 123)
-    (placed-known (i + 4) (fieldAt l (i + 1)) (field-known l (i + 4) (i + 1) (omega arith)))
-    (picked (PieceKnown (i + 4)) (eqb (byteAt l i) 125) tt tt))
+    tested (PieceKnown l (i + 5)) (leb (length l) i) (λ e. tt) (λ e.
+    picked (PieceKnown l (i + 5)) (eqb (byteAt l i) 123)
+    (placed-known l (i + 5) (fieldAt l (i + 1)) (field-known l (i + 5) (i + 1) (omega arith)))
+    (picked (PieceKnown l (i + 5)) (eqb (byteAt l i) 125) tt (omega (arith, leb-false (length l) i e))))
 
-pub field-limited : (l : List ℕ) (i : ℕ) (f : Field) (next : ℕ) → pieceAt l i ≡ PieceTo (Placed f) next → Limited f
-field-limited l i f next e = subst (PieceKnown (i + 4)) e (piece-known l i) .0
+module _ (l : List ℕ) (i : ℕ) (f : Field) (next : ℕ) (e : pieceAt l i ≡ PieceTo (Placed f) next) where
+  pub field-limited : Limited l f
+  field-limited = subst (PieceKnown l (i + 5)) e (piece-known l i) .0
 
--- ---- so many fields
+  pub field-parameter : parameterOf (f .argument .operand) ≤ 65535
+  field-parameter = small-parameter l (f .argument .operand) (field-limited .argument .operand)
 
-none-over : (n : ℕ) (l : List ℕ) (i : ℕ) → length l ≤ i → fieldCount (read (piecesWithin n l i)) ≡ 0
+-- ---- the fields of a text
+
+-- each is within its limits
+abbrev pub EachLimited : List ℕ → List Piece → Type 0
+EachLimited l [] = Unit {0}
+EachLimited l (Plain b ∷ ps) = EachLimited l ps
+EachLimited l (Placed f ∷ ps) = Limited l f × EachLimited l ps
+
+-- how many of them ask
+abbrev pub askingCount : List Piece → ℕ
+askingCount [] = 0
+askingCount (Plain b ∷ ps) = askingCount ps
+askingCount (Placed f ∷ ps) = questionsOf (f .argument .operand) + askingCount ps
+
+one-question : (o : Operand) → questionsOf o ≤ 1
+one-question (O.Number q) = omega arith
+one-question (O.Text start end) = omega arith
+one-question (O.IntegerVariable n) = omega arith
+one-question (O.DecimalVariable n) = omega arith
+one-question (O.StringVariable n) = omega arith
+one-question O.PageNumber = omega arith
+one-question O.LineNumber = omega arith
+one-question O.LoopCounter = omega arith
+one-question (O.RecordElement n) = omega arith
+one-question (O.EntryElement n) = omega arith
+one-question (O.Parameter n) = omega arith
+one-question (O.Record n r) = omega arith
+one-question (O.Entry n r e) = omega arith
+
+asking-fields : (ps : List Piece) → askingCount ps ≤ fieldCount ps
+asking-fields [] = omega arith
+asking-fields (Plain b ∷ ps) = asking-fields ps
+asking-fields (Placed f ∷ ps) = omega (arith, one-question (f .argument .operand), asking-fields ps)
+
+-- what the pieces from i on take of the line
+record Takes (l : List ℕ) (i : ℕ) (ps : List Piece) : Type 0 where
+  bytes : i + (5 * fieldCount ps + askingCount ps) ≤ length l
+  each : EachLimited l ps
+
+takes-none : (l : List ℕ) (i : ℕ) → i ≤ length l → Takes l i []
+takes-none l i h = record { bytes = omega arith; each = tt }
+
+takes-more : (l : List ℕ) (i : ℕ) (p : Piece) (next : ℕ) (o : Option (List Piece)) → i < next → i ≤ length l → PieceKnown l (i + 5) (PieceTo p next) → (next ≤ length l → Takes l next (read o)) → Takes l i (read (before p o))
+unfolding read before
+takes-more l i p next none k h e rest = takes-none l i h
+takes-more l i (Plain b) next (some ps) k h e rest = let r = rest e in record { bytes = omega (arith, r .bytes); each = r .each }
+takes-more l i (Placed f) next (some ps) k h e rest = let r = rest (e .2) in record { bytes = omega (arith, e .1, r .bytes); each = (e .0, r .each) }
+
+takes : (n : ℕ) (l : List ℕ) (i : ℕ) → i ≤ length l → Takes l i (read (piecesWithin n l i))
+unfolding piecesWithin read
+takes zero l i h = takes-none l i h
+takes (suc n) l i h = by (leb (length l) i) (pieceAt l i) refl (takes n l)
+  where
+    go : (r : PieceRead) → pieceAt l i ≡ r → ((next : ℕ) → next ≤ length l → Takes l next (read (piecesWithin n l next))) → Takes l i (read (elim r [ PieceTo p next ↦ before p (piecesWithin n l next) | NoPiece ↦ none ]))
+    go (PieceTo p next) e rest = takes-more l i p next (piecesWithin n l next) (piece-ends l i p next e) h (subst (PieceKnown l (i + 5)) e (piece-known l i)) (rest next)
+    go NoPiece e rest = takes-none l i h
+
+    by : (b : Bool) (r : PieceRead) → pieceAt l i ≡ r → ((next : ℕ) → next ≤ length l → Takes l next (read (piecesWithin n l next))) → Takes l i (read (cond b (some []) (elim r [ PieceTo p next ↦ before p (piecesWithin n l next) | NoPiece ↦ none ])))
+    by true r e rest = takes-none l i h
+    by false r e rest = go r e rest
+
+none-over : (n : ℕ) (l : List ℕ) (i : ℕ) → length l ≤ i → read (piecesWithin n l i) ≡ []
 unfolding piecesWithin read
 none-over zero l i h = refl
 none-over (suc n) l i h = rw (le-leb (length l) i h)
 
-one-more : (l : List ℕ) (i : ℕ) (p : Piece) (next : ℕ) (o : Option (List Piece)) → i < length l → i < next → PieceKnown (i + 4) (PieceTo p next) → (length l ≤ next → fieldCount (read o) ≡ 0) → (next < length l → next + 4 * fieldCount (read o) ≤ length l + 3) → i + 4 * fieldCount (read (before p o)) ≤ length l + 3
-unfolding read before
-one-more l i p next none h k e over rest = omega arith
-one-more l i p next (some ps) h k e over rest = go (leb (length l) next) refl p e
-  where
-    go : (b : Bool) → leb (length l) next ≡ b → (q : Piece) → PieceKnown (i + 4) (PieceTo q next) → i + 4 * fieldCount (q ∷ ps) ≤ length l + 3
-    go true z (Plain y) e = omega (arith, over (leb-true (length l) next z))
-    go true z (Placed f) e = omega (arith, e .1, over (leb-true (length l) next z))
-    go false z (Plain y) e = omega (arith, rest (leb-false (length l) next z))
-    go false z (Placed f) e = omega (arith, e .1, rest (leb-false (length l) next z))
+module _ (l : List ℕ) (from : ℕ) where
+  abbrev Known : List Piece → Type 0
+  Known ps = EachLimited l ps × (length l ≤ 132 → (fieldCount ps ≤ 26) × (askingCount ps ≤ 22) × (1 ≤ from → askingCount ps ≤ 21))
 
-few-within : (n : ℕ) (l : List ℕ) (i : ℕ) → i < length l → i + 4 * fieldCount (read (piecesWithin n l i)) ≤ length l + 3
-unfolding piecesWithin read
-few-within zero l i h = omega arith
-few-within (suc n) l i h = go (pieceAt l i) refl (λ next. few-within n l next)
-  where
-    go : (r : PieceRead) → pieceAt l i ≡ r → ((next : ℕ) → next < length l → next + 4 * fieldCount (read (piecesWithin n l next)) ≤ length l + 3) → i + 4 * fieldCount (read (piecesWithin (suc n) l i)) ≤ length l + 3
-    go (PieceTo p next) e rest = rw (lt-leb (length l) i h, e) (one-more l i p next (piecesWithin n l next) h (piece-ends l i p next e) (subst (PieceKnown (i + 4)) e (piece-known l i)) (none-over n l next) (rest next))
-    go NoPiece e rest = rw (lt-leb (length l) i h, e) (omega arith)
+  known : Known (piecesOf l from)
+  unfolding piecesOf textPieces
+  known = go (leb (length l) from) refl
+    where
+      go : (b : Bool) → leb (length l) from ≡ b → Known (read (piecesWithin (length l) l from))
+      go true e = rw (none-over (length l) l from (leb-true (length l) from e)) (tt, λ h. (omega arith, omega arith, λ k. omega arith))
+      go false e =
+          let ps = read (piecesWithin (length l) l from) in
+          let t = takes (length l) l from (omega (arith, leb-false (length l) from e)) in
+          (t .each, λ h. (omega (arith, t .bytes), omega (arith, t .bytes, asking-fields ps), λ k. omega (arith, t .bytes, asking-fields ps)))
 
--- A field takes at least four bytes, so that a line has at most 33.
-pub fields-few : (l : List ℕ) (from : ℕ) → length l ≤ 132 → fieldCount (piecesOf l from) ≤ 33
-unfolding piecesOf textPieces
-fields-few l from h = go (leb (length l) from) refl
-  where
-    go : (b : Bool) → leb (length l) from ≡ b → fieldCount (read (piecesWithin (length l) l from)) ≤ 33
-    go true e = omega (arith, none-over (length l) l from (leb-true (length l) from e))
-    go false e = omega (arith, few-within (length l) l from (leb-false (length l) from e))
+  -- Every field's argument, width and places are within their limits.
+  pub fields-limited : EachLimited l (piecesOf l from)
+  fields-limited = known .0
+
+  module _ (h : length l ≤ 132) where
+    -- A field takes at least five bytes, `{1,1}`: a line has at most 26.
+    pub fields-few : fieldCount (piecesOf l from) ≤ 26
+    fields-few = known .1 h .0
+
+    -- One that asks takes six, `{P1,1}`: a line has at most 22,
+    pub asking-few : askingCount (piecesOf l from) ≤ 22
+    asking-few = known .1 h .1
+
+    -- and a heading, with its word before them, 21.
+    pub heading-asking-few : 1 ≤ from → askingCount (piecesOf l from) ≤ 21
+    heading-asking-few k = known .1 h .2 k

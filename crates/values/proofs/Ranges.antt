@@ -27,10 +27,10 @@ use Rattle.arguments.specs.declared.argument.Argument.{Argument}
 use Rattle.arguments.specs.declared.argument.Filter.{Filter}
 use Rattle.arguments.specs.declared.argument.Filter.the-variants.{Unfiltered, Absolute, Truncated, UpperCase, Length, RecordCount, EntryCount}
 use Rattle.arguments.specs.declared.index.Index.{Index}
-use Rattle.arguments.specs.declared.index.Index.the-variants.{Fixed}
+use Rattle.arguments.specs.declared.index.Index.the-variants.{Fixed, Variable, Loop}
 use Rattle.arguments.specs.declared.operand.Operand.{Operand}
 use Rattle.arguments.specs.declared.operand.Operand.the-variants.{Number, Text, IntegerVariable, DecimalVariable, StringVariable, PageNumber, LineNumber, LoopCounter, RecordElement, EntryElement, Parameter, Record, Entry}
-use Rattle.arguments.proofs.Parsed.{Between, QuantityWithin, StringWithin, OperandWithin, ArgumentWithin}
+use Rattle.arguments.proofs.Parsed.{Between, QuantityWithin, IndexWithin, StringWithin, OperandWithin, ArgumentWithin}
 use Rattle.values.specs.declared.fetch.Along.{Along}
 use Rattle.values.specs.Letters.{upper}
 use Rattle.values.specs.Machine.{Machine, numbered}
@@ -191,6 +191,54 @@ module _ (m : Machine) (line : ℕ) where
     unfolding argumentMeaning
     argument-within a b =
         yields-bind AnswerWithin (operandMeaning m s line (kindOf (a .filter)) (a .operand)) (λ w. done (filtered (a .filter) w)) WorthWithin WorthWithin (operand-within (kindOf (a .filter)) (a .operand) (b .operand)) (λ w k. filtered-within (a .filter) w k)
+
+-- ---- variables that are named
+
+-- what is read by a number doesn't depend on what would stand for a number that there is none of
+abbrev pub IndexThere : Machine → Index → Type 0
+IndexThere m (Fixed n) = Unit {0}
+IndexThere m (Variable n) = (d : ℤ) → numbered (pos 0) (m .integers) n ≡ numbered d (m .integers) n
+IndexThere m Loop = Unit {0}
+
+abbrev pub There : Machine → Operand → Type 0
+There m (Number q) = Unit {0}
+There m (Text a e) = Unit {0}
+There m (IntegerVariable n) = (d : ℤ) → numbered (pos 0) (m .integers) n ≡ numbered d (m .integers) n
+There m (DecimalVariable n) = (d : ℤ) → numbered (pos 0) (m .decimals) n ≡ numbered d (m .decimals) n
+There m (StringVariable n) = (d : List ℕ) → numbered [] (m .strings) n ≡ numbered d (m .strings) n
+There m PageNumber = Unit {0}
+There m LineNumber = Unit {0}
+There m LoopCounter = Unit {0}
+There m (RecordElement n) = (d : List Answer) → numbered [] (m .records) n ≡ numbered d (m .records) n
+There m (EntryElement n) = (d : List Answer) → numbered [] (m .entries) n ≡ numbered d (m .entries) n
+There m (Parameter p) = Unit {0}
+There m (Record p r) = IndexThere m r
+There m (Entry p r e) = IndexThere m r × IndexThere m e
+
+counted : {A : Type 0} (l : List A) (c n : ℕ) → length l ≡ c → Between 1 c n → Between 1 (length l) n
+counted l c n e h = record { least = h .least; most = omega (arith, h .most) }
+
+module _ (m : Machine) (h : MachineWithin m) where
+  pub index-there : (i : Index) → IndexWithin i → IndexThere m i
+  index-there (Fixed n) b = tt
+  index-there (Variable n) b = λ d. numbered-there (pos 0) d (m .integers) n (counted (m .integers) 99 n (h .integer-count) b)
+  index-there Loop b = tt
+
+  -- A variable that a parsed line names is one of the machine's.
+  pub operand-there : (s : List ℕ) (o : Operand) → OperandWithin s o → There m o
+  operand-there s (Number q) b = tt
+  operand-there s (Text a e) b = tt
+  operand-there s (IntegerVariable n) b = λ d. numbered-there (pos 0) d (m .integers) n (counted (m .integers) 99 n (h .integer-count) b)
+  operand-there s (DecimalVariable n) b = λ d. numbered-there (pos 0) d (m .decimals) n (counted (m .decimals) 99 n (h .decimal-count) b)
+  operand-there s (StringVariable n) b = λ d. numbered-there [] d (m .strings) n (counted (m .strings) 99 n (h .string-count) b)
+  operand-there s PageNumber b = tt
+  operand-there s LineNumber b = tt
+  operand-there s LoopCounter b = tt
+  operand-there s (RecordElement n) b = λ d. numbered-there [] d (m .records) n (counted (m .records) 10 n (h .record-count) b)
+  operand-there s (EntryElement n) b = λ d. numbered-there [] d (m .entries) n (counted (m .entries) 10 n (h .entry-count) b)
+  operand-there s (Parameter p) b = tt
+  operand-there s (Record p r) b = index-there r (b .1)
+  operand-there s (Entry p r e) b = (index-there r (b .1), index-there e (b .2))
 
 -- ---- $REC and $TBL
 
