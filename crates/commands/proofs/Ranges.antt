@@ -17,7 +17,7 @@ use Rattle.numbers.specs.declared.Quantity.the-variants.{Integer, Decimal}
 use Rattle.numbers.specs.Range.{integerLimit, decimalLimit}
 use Rattle.numbers.specs.Outcome as N
 use Rattle.numbers.specs.Arithmetic.{inMillionths}
-use Rattle.numbers.proofs.Laws.{sum-bound, difference-bound, integer-product-bound, integer-quotient-bound, decimal-product-bound, decimal-quotient-bound, millionths-bound}
+use Rattle.numbers.proofs.Laws.{Inside, sum-bound, difference-bound, integer-product-bound, integer-quotient-bound, decimal-product-bound, decimal-quotient-bound, millionths-bound}
 use Rattle.cells.proofs.Limits.{AnswerWithin}
 use Rattle.arguments.specs.declared.argument.Argument.{Argument}
 use Rattle.arguments.proofs.Parsed.{Between, QuantityWithin, ArgumentWithin}
@@ -34,6 +34,7 @@ use Rattle.values.specs.Worth.{Worth, missing, wrong, number, string}
 use Rattle.values.specs.Meanings.{argumentMeaning}
 use Rattle.values.specs.Fetching.{fetchMeaning}
 use Rattle.values.proofs.Giving.{Gives}
+use Rattle.values.proofs.Ranges as R
 use Rattle.values.proofs.Ranges.{IntegerWithin, DecimalWithin, Short, WorthWithin, MachineWithin, argument-within, fetch-within}
 use Rattle.commands.specs.declared.table.Table.{Table}
 use Rattle.commands.specs.Settling.{Settled, settled, against, concluded, integerFrom, quantityFrom, stringFrom, resultOf, millionthsOf, decimalFrom, integerMeaning}
@@ -52,6 +53,10 @@ gives-yields (print v l t) Φ h = absurd h
 yields-concluded : {A : Type 0} (line : ℕ) (x : Settled A) (Φ : A → Type 0) → Whenever x Φ → Yields AnswerWithin (concluded line x) Φ
 yields-concluded line (settled a) Φ h = h
 yields-concluded line (against e) Φ h = tt
+
+whenever-more : {A : Type 0} (x : Settled A) (Φ Ψ : A → Type 0) → Whenever x Φ → ((a : A) → Φ a → Ψ a) → Whenever x Ψ
+whenever-more (settled a) Φ Ψ h g = g a h
+whenever-more (against e) Φ Ψ h g = tt
 
 -- ---- results
 
@@ -140,7 +145,7 @@ set-there d l (suc k) x h = getD-set-same l k x d (omega (arith, h .most))
 abbrev pub Held : {A : Type 0} → List A → ℕ → Type 0
 Held {A} l n = (d x : A) → numbered d (setNumbered l n x) n ≡ x
 
-held : {A : Type 0} (l : List A) (c n : ℕ) → length l ≡ c → Between 1 c n → Held l n
+pub held : {A : Type 0} (l : List A) (c n : ℕ) → length l ≡ c → Between 1 c n → Held l n
 held l c n e h = λ d x. set-there d l n x (record { least = h .least; most = omega (arith, h .most) })
 
 abbrev pub TargetThere : Machine → Target → Type 0
@@ -188,6 +193,13 @@ module _ (m : Machine) (h : MachineWithin m) where
   set-of o (StringTarget n) w k =
       whenever-then (stored (m .strings) n (stringNew w)) _ (All Short 99) MachineWithin (stored-all Short 99 (m .strings) n (stringNew w) (h .strings) (h .string-count) (string-new w k)) (λ l a. record { integers = h .integers; decimals = h .decimals; strings = a .each; records = h .records; entries = h .entries; counter = h .counter; page = h .page; row = h .row; integer-count = h .integer-count; decimal-count = h .decimal-count; string-count = a .count; record-count = h .record-count; entry-count = h .entry-count })
 
+  -- What an operation is done with is in range: `operands` refuses nothing.
+  pub integer-operands : (n : ℕ) (w : Worth) → WorthWithin w → Whenever (integerFrom w) (Inside integerLimit (numbered (pos 0) (m .integers) n))
+  integer-operands n w k = whenever-more (integerFrom w) IntegerWithin (Inside integerLimit (numbered (pos 0) (m .integers) n)) (integer-from w k) (λ b i. record { left = R.numbered-each IntegerWithin (pos 0) (m .integers) n (omega arith) (h .integers); right = i })
+
+  pub decimal-operands : (n : ℕ) (w : Worth) → WorthWithin w → Whenever (decimalFrom w) (Inside decimalLimit (numbered (pos 0) (m .decimals) n))
+  decimal-operands n w k = whenever-more (decimalFrom w) DecimalWithin (Inside decimalLimit (numbered (pos 0) (m .decimals) n)) (decimal-from w k) (λ b i. record { left = R.numbered-each DecimalWithin (pos 0) (m .decimals) n (omega arith) (h .decimals); right = i })
+
   module _ (line : ℕ) where
     module _ (s : List ℕ) where
       -- $SETE to $SETD
@@ -195,6 +207,10 @@ module _ (m : Machine) (h : MachineWithin m) where
       unfolding setMeaning
       set-within o t a b =
           yields-bind AnswerWithin (argumentMeaning m s line a) (λ w. concluded line (setOf m o t w)) WorthWithin MachineWithin (argument-within m line h s a b) (λ w k. yields-concluded line (setOf m o t w) MachineWithin (set-of o t w k))
+
+      -- What SV takes of a parsed line's argument is taken whole.
+      pub string-taken : (a : Argument) → ArgumentWithin s a → Yields AnswerWithin (argumentMeaning m s line a) (λ w. stringNew w ≡ stringFrom w)
+      string-taken a b = yields-more AnswerWithin (argumentMeaning m s line a) WorthWithin (λ w. stringNew w ≡ stringFrom w) (argument-within m line h s a b) string-whole
 
       -- "$BT, $ET and $NP take integers"
       pub integer-within : (a : Argument) → ArgumentWithin s a → Yields AnswerWithin (integerMeaning m s line a) IntegerWithin

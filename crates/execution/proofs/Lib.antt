@@ -3,3 +3,4 @@ pub mod Sounds
 pub mod Following
 pub mod Commanding
 pub mod Lining
+pub mod Ranges

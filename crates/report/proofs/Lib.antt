@@ -12,3 +12,4 @@ pub mod Beginning
 pub mod Driving
 pub mod Reprint
 pub mod Pages
+pub mod Ranges

@@ -16,7 +16,7 @@ use Rattle.meaning.specs.Meaning.{Meaning}
 use Rattle.meaning.specs.declared.question.Question.{Question}
 use Rattle.meaning.specs.declared.refusal.Refusal.{Refusal}
 use Rattle.meaning.specs.declared.refusal.Refusal.the-variants.{BadIndex}
-use Rattle.meaning.proofs.Yielding.{Yields, yields-bind, yields-any}
+use Rattle.meaning.proofs.Yielding.{Yields, yields-bind, yields-more, yields-any}
 use Rattle.numbers.specs.declared.Quantity.{Quantity}
 use Rattle.numbers.specs.declared.Quantity.the-variants.{Integer, Decimal}
 use Rattle.numbers.specs.Range.{integerLimit, decimalLimit, millionths}
@@ -151,6 +151,20 @@ filtered-within f wrong h = tt
 filtered-within f (number q) h = number-within f q h
 filtered-within f (string s) h = string-within f s h
 
+-- "|ABS .. on numbers"
+abbrev pub absoluteWorth : Worth → Worth
+absoluteWorth missing = missing
+absoluteWorth wrong = wrong
+absoluteWorth (number q) = number (magnitude q)
+absoluteWorth (string s) = wrong
+
+absolute-worth : (w : Worth) → WorthWithin w → filtered Absolute w ≡ absoluteWorth w
+unfolding filtered filteredNumber filteredString
+absolute-worth missing h = refl
+absolute-worth wrong h = refl
+absolute-worth (number q) h = absolute-is q h
+absolute-worth (string s) h = refl
+
 -- ---- arguments
 
 element-within : (l : List Answer) (z : ℤ) → Each AnswerWithin l → AnswerWithin (element l z)
@@ -185,6 +199,10 @@ module _ (m : Machine) (line : ℕ) where
     operand-within kind (Parameter p) b = cell-within kind p (Fixed 0) (Fixed 0)
     operand-within kind (Record p r) b = cell-within kind p r (Fixed 0)
     operand-within kind (Entry p r e) b = cell-within kind p r e
+
+    -- |ABS of a parsed line's argument is the magnitude of a number, and a wrong kind of a string alone.
+    pub absolute-given : (kind : ℕ) (o : Operand) → OperandWithin s o → Yields AnswerWithin (operandMeaning m s line kind o) (λ w. filtered Absolute w ≡ absoluteWorth w)
+    absolute-given kind o b = yields-more AnswerWithin (operandMeaning m s line kind o) WorthWithin (λ w. filtered Absolute w ≡ absoluteWorth w) (operand-within kind o b) absolute-worth
 
     -- An argument within its limits is worth a number in range or a short string, where it is worth one.
     pub argument-within : (a : Argument) → ArgumentWithin s a → Yields AnswerWithin (argumentMeaning m s line a) WorthWithin

@@ -1,0 +1,161 @@
+-- A run's numbers stay in range: what each line keeps, where the answers lie within their limits.
+use mathlib.Core.Path.{_≡_, refl}
+use mathlib.Core.Bool.{Bool, true, false, cond}
+use mathlib.Core.List.{List, [], _∷_}
+use Prim.Native.Nat.{ℕ, zero, suc, _-_, _≤_}
+use native.Mathlib.Omega.{arith}
+use lib.IntN.{pos}
+use lib.Signed.{ltZ}
+use lib.ListN.{length, replicate}
+use Rattle.scan.specs.Line.{lineAt}
+use Rattle.lines.specs.declared.command.Optional.{Optional}
+use Rattle.lines.specs.declared.command.Optional.the-variants.{Given, Absent}
+use Rattle.lines.specs.declared.command.Line.{Line}
+use Rattle.lines.specs.declared.command.Line.the-variants as form
+use Rattle.lines.specs.Command.{parseLine}
+use Rattle.lines.proofs.Accepted.{Bounded, parsed-bounded}
+use Rattle.meaning.specs.Each.{Each}
+use Rattle.meaning.specs.Answer.{Answer}
+use Rattle.meaning.specs.Tree.{done, bind}
+use Rattle.meaning.specs.Meaning.{Meaning}
+use Rattle.meaning.proofs.Yielding.{Yields, yields-bind, yields-any}
+use Rattle.numbers.specs.Range.{integerLimit}
+use Rattle.cells.proofs.Limits.{AnswerWithin}
+use Rattle.arguments.proofs.Parsed.{Between}
+use Rattle.values.specs.Machine.{Machine}
+use Rattle.values.proofs.Ranges.{IntegerWithin, DecimalWithin, Short, MachineWithin}
+use Rattle.template.specs.declared.seek.Sought.the-variants.{TableEnd}
+use Rattle.commands.specs.declared.table.Table.{Table}
+use Rattle.commands.specs.Settling.{integerMeaning}
+use Rattle.commands.specs.Setting.{setMeaning}
+use Rattle.commands.specs.Testing.{zeroMeaning, testMeaning}
+use Rattle.commands.specs.Looping.{Looping, loop, innermost, beginMeaning, endMeaning}
+use Rattle.commands.specs.Fetching.{recordsMeaning, entriesMeaning}
+use Rattle.commands.specs.Selecting.{datasourceMeaning}
+use Rattle.commands.proofs.Giving as G
+use Rattle.commands.proofs.Giving.{loop-bounded}
+use Rattle.commands.proofs.Ranges.{Held, held, set-within, begin-within, end-within, records-within, entries-within}
+use Rattle.pages.specs.declared.page.Page.{Page}
+use Rattle.pages.specs.Page.{breakMeaning, lineStep}
+use Rattle.execution.specs.State.{State, seen, withPlace, withMachine, withDatasource, withTables, withFeeds, withPage, cleared}
+use Rattle.execution.specs.Line.{past, jumped, setting, branched, testing, tableBegun, tableEnded, breaking, breakingFor, newPageMeaning, headed, formMeaning, lineMeaning}
+use Rattle.execution.specs.Sound.{Sound}
+
+-- Every IV within ±2,000,000,000, every FV within ±2×10^15 millionths, every SV of at most 16 bytes, R and T's answers within
+-- their limits, the tables' counters and limits integers in range.
+pub record InRange (s : State) : Type 0 where
+  pub integers : Each IntegerWithin (s .integers)
+  pub decimals : Each DecimalWithin (s .decimals)
+  pub strings : Each Short (s .strings)
+  pub records : Each (Each AnswerWithin) (s .records)
+  pub entries : Each (Each AnswerWithin) (s .entries)
+  pub tables : Each G.Bounded (s .tables)
+
+same-each : {A : Type 0} (P : A → Type 0) (n : ℕ) (x : A) → P x → Each P (replicate n x)
+same-each P zero x p = tt
+same-each P (suc n) x p = (p, same-each P n x p)
+
+-- The machine that an argument sees is in range: LOOP by the tables, PAGENUM and LINENUM by the lines that were executed.
+pub seen-within : (t : List ℕ) (g : ℕ) (s : State) → g ≤ integerLimit → Sound t g s → InRange s → MachineWithin (seen s)
+seen-within t g s h i r = record { integers = r .integers; decimals = r .decimals; strings = r .strings; records = r .records; entries = r .entries; counter = loop-bounded (s .tables) (r .tables); page = omega (arith, i .number); row = omega (arith, i .last-row); integer-count = i .integers; decimal-count = i .decimals; string-count = i .strings; record-count = i .records; entry-count = i .entries }
+
+-- A heading that a parsed line defines or undefines is one of the nine.
+pub heading-there : (t : List ℕ) (g : ℕ) (s : State) → Sound t g s → (n : ℕ) → Between 1 9 n → Held (s .headings) n
+heading-there t g s i n b = held (s .headings) 9 n (i .headings) b
+
+-- ---- the state behind a line, with one part changed
+
+module _ {s : State} (r : InRange s) where
+  range-at : (at line : ℕ) → InRange (withPlace s at line)
+  range-at at line = record { integers = r .integers; decimals = r .decimals; strings = r .strings; records = r .records; entries = r .entries; tables = r .tables }
+
+  range-tables : (ts : List Table) → Each G.Bounded ts → InRange (withTables s ts)
+  range-tables ts h = record { integers = r .integers; decimals = r .decimals; strings = r .strings; records = r .records; entries = r .entries; tables = h }
+
+  range-machine : (m : Machine) → MachineWithin m → InRange (withMachine s m)
+  range-machine m h = record { integers = h .integers; decimals = h .decimals; strings = h .strings; records = h .records; entries = h .entries; tables = r .tables }
+
+  range-datasource : (d : ℕ) → InRange (withDatasource s d)
+  range-datasource d = record { integers = r .integers; decimals = r .decimals; strings = r .strings; records = r .records; entries = r .entries; tables = r .tables }
+
+  range-page : (p : Page) → InRange (withPage s p)
+  range-page p = record { integers = r .integers; decimals = r .decimals; strings = r .strings; records = r .records; entries = r .entries; tables = r .tables }
+
+-- "sets IV and FV to 0, SV to empty, clears R, T"
+pub range-cleared : (s : State) → Each G.Bounded (s .tables) → InRange (cleared s)
+range-cleared s h = record { integers = same-each IntegerWithin 99 (pos 0) (omega arith); decimals = same-each DecimalWithin 99 (pos 0) (omega arith); strings = same-each Short 99 [] (omega arith); records = same-each (Each AnswerWithin) 10 [] tt; entries = same-each (Each AnswerWithin) 10 [] tt; tables = h }
+
+-- ---- a line by its form: s is the state behind it, m the machine that it sees
+
+module _ (t : List ℕ) (start l : ℕ) (body : List ℕ) (s : State) (h : MachineWithin (seen s)) (r : InRange s) where
+  sets : (x : Meaning Machine) → Yields AnswerWithin x MachineWithin → Yields AnswerWithin (setting s x) InRange
+  sets x k = yields-bind AnswerWithin x (λ m. done (withMachine s m)) MachineWithin InRange k (λ m e. range-machine r m e)
+
+  tests : (x : Meaning Bool) → Yields AnswerWithin (testing t s x) InRange
+  unfolding branched
+  tests x = yields-bind AnswerWithin x (λ holds. done (branched t s holds)) (λ _. Unit {0}) InRange (yields-any AnswerWithin x) (λ b e. by b)
+    where
+      by : (b : Bool) → InRange (branched t s b)
+      by true = r
+      by false = range-at r _ _
+
+  begins : (x : Looping) → Each G.Bounded (x .tables) → InRange (tableBegun t s x)
+  unfolding tableBegun
+  begins x k = by (x .jumps)
+    where
+      by : (b : Bool) → InRange (cond b (jumped t s TableEnd) (withTables s (x .tables)))
+      by true = range-at r _ _
+      by false = range-tables r (x .tables) k
+
+  ends : (x : Looping) → Each G.Bounded (x .tables) → InRange (tableEnded s x)
+  unfolding tableEnded
+  ends x k = by (x .jumps)
+    where
+      by : (b : Bool) → InRange (cond b (withPlace (withTables s (x .tables)) (innermost (x .tables) .start) (innermost (x .tables) .line)) (withTables s (x .tables)))
+      by true = range-at (range-tables r (x .tables) k) _ _
+      by false = range-tables r (x .tables) k
+
+  paged : (x : Meaning Page) → Yields AnswerWithin (bind x (λ p. done (withPage s p))) InRange
+  paged x = yields-bind AnswerWithin x (λ p. done (withPage s p)) (λ _. Unit {0}) InRange (yields-any AnswerWithin x) (λ p e. range-page r p)
+
+  breaks : Yields AnswerWithin (breaking l s) InRange
+  unfolding breaking
+  breaks = paged (breakMeaning l (s .feeds) (s .page))
+
+  pages : (n : Optional) → Yields AnswerWithin (newPageMeaning l body s n) InRange
+  unfolding newPageMeaning breakingFor
+  pages Absent = breaks
+  pages (Given a) = yields-bind AnswerWithin (integerMeaning (seen s) body l a) (breakingFor l s) (λ _. Unit {0}) InRange (yields-any AnswerWithin (integerMeaning (seen s) body l a)) (λ z e. by (ltZ (pos (61 - s .page .line)) z))
+    where
+      by : (b : Bool) → Yields AnswerWithin (cond b (breaking l s) (done s)) InRange
+      by true = breaks
+      by false = r
+
+  form-in-range : (f : Line) → Bounded body f → Yields AnswerWithin (formMeaning t start l body s f) InRange
+  unfolding formMeaning
+  form-in-range form.NoForm b = r
+  form-in-range form.Text b = paged (lineStep (seen s) t l (s .feeds) (s .headings) body (s .page))
+  form-in-range (form.Section a e) b = range-cleared s (r .tables)
+  form-in-range (form.Set o v a) b = sets (setMeaning (seen s) body l o v a) (set-within (seen s) h l body o v a (b .1))
+  form-in-range (form.IfZero a) b = tests (zeroMeaning (seen s) body l true a)
+  form-in-range (form.IfNonZero a) b = tests (zeroMeaning (seen s) body l false a)
+  form-in-range (form.Compare c x y) b = tests (testMeaning (seen s) body l c x y)
+  form-in-range form.Else b = range-at r _ _
+  form-in-range form.EndIf b = r
+  form-in-range (form.BeginTable a) b = yields-bind AnswerWithin (beginMeaning (seen s) body l (s .tables) (s .at) (s .line) a) (λ x. done (tableBegun t s x)) (λ x. Each G.Bounded (x .tables)) InRange (begin-within (seen s) h l body (s .tables) (s .at) (s .line) a b (r .tables)) (λ x k. begins x k)
+  form-in-range (form.EndTable k) b = yields-bind AnswerWithin (endMeaning (seen s) body l (s .tables) k) (λ x. done (tableEnded s x)) (λ x. Each G.Bounded (x .tables)) InRange (end-within (seen s) body l (s .tables) k (r .tables)) (λ x e. ends x e)
+  form-in-range (form.Records f) b = sets (recordsMeaning (seen s) l f) (records-within (seen s) h l f)
+  form-in-range (form.Entries f) b = sets (entriesMeaning (seen s) l f) (entries-within (seen s) h l f)
+  form-in-range (form.Datasource i) b = yields-bind AnswerWithin (datasourceMeaning (seen s) l i) (λ d. done (withDatasource s d)) (λ _. Unit {0}) InRange (yields-any AnswerWithin (datasourceMeaning (seen s) l i)) (λ d e. range-datasource r d)
+  form-in-range form.NoFormFeed b = record { integers = r .integers; decimals = r .decimals; strings = r .strings; records = r .records; entries = r .entries; tables = r .tables }
+  form-in-range (form.NewPage n) b = pages n
+  form-in-range (form.Heading n from) b = record { integers = r .integers; decimals = r .decimals; strings = r .strings; records = r .records; entries = r .entries; tables = r .tables }
+  form-in-range (form.NoHeading n) b = record { integers = r .integers; decimals = r .decimals; strings = r .strings; records = r .records; entries = r .entries; tables = r .tables }
+  form-in-range form.Remark b = r
+
+-- One line.
+pub line-in-range : (t : List ℕ) (g : ℕ) (s : State) → g ≤ integerLimit → Sound t g s → InRange s → Yields AnswerWithin (lineMeaning t s) InRange
+unfolding lineMeaning
+line-in-range t g s h i r =
+    let body = lineAt t (s .at) in
+    form-in-range t (s .at) (s .line) body (past s (length body)) (seen-within t g s h i r) (range-at r _ _) (parseLine body) (parsed-bounded body (parseLine body) refl)

@@ -1,0 +1,61 @@
+-- Every state that a run reaches is in range, with any source whose answers lie within their limits, so with any store.
+use mathlib.Core.Path.{_≡_, refl}
+use mathlib.Core.Bool.{Bool, true, false, cond}
+use mathlib.Core.List.{List, []}
+use Prim.Native.Nat.{ℕ, zero, suc, _+_, _≤_}
+use native.Mathlib.Omega.{arith}
+use borrow.Author.Tests.{ltb-true}
+use lib.Dec.{ltb}
+use lib.ListN.{length}
+use Rattle.template.specs.declared.Run.{Run}
+use Rattle.template.specs.declared.Checked.the-variants.{Accepted}
+use Rattle.template.specs.Order.{templateChecked}
+use Rattle.template.proofs.Accepted.{accepted-runs}
+use Rattle.meaning.specs.Answer.{Answer}
+use Rattle.meaning.specs.Tree.{done, bind, finished, run}
+use Rattle.meaning.specs.Rule.{pageLimit}
+use Rattle.meaning.specs.Meaning.{Meaning}
+use Rattle.meaning.specs.declared.question.Question.{Question}
+use Rattle.meaning.proofs.Yielding.{Yields, yields-bind, yields-kept, yields-end}
+use Rattle.numbers.specs.Range.{integerLimit}
+use Rattle.cells.proofs.Limits.{AnswerWithin}
+use Rattle.values.specs.State.{answers}
+use Rattle.values.proofs.Ranges.{MachineWithin, answers-within}
+use Rattle.execution.specs.State.{State, seen}
+use Rattle.execution.specs.Line.{lineMeaning}
+use Rattle.execution.proofs.Sounds.{On, line-keeps}
+use Rattle.execution.proofs.Ranges.{InRange, seen-within, range-cleared, line-in-range}
+use Rattle.report.specs.Report.{startOf}
+use Rattle.report.specs.Stretch.{stretch}
+use Rattle.report.proofs.Sounding.{start-on}
+
+-- a state whose variables, answers and tables are in range, and so is all that an argument sees
+pub record Ranged (s : State) : Type 0 where
+  pub state : InRange s
+  pub machine : MachineWithin (seen s)
+
+stretch-in-range : (k : ℕ) (t : List ℕ) (end g : ℕ) (s : State) (c : ℕ) → end ≤ length t → g + k ≤ integerLimit → On t g s c → InRange s → Yields AnswerWithin (stretch k t end s) Ranged
+unfolding stretch
+stretch-in-range zero t end g s c h b i r = record { state = r; machine = seen-within t g s (omega arith) (i .sound) r }
+stretch-in-range (suc k) t end g s c h b i r = by (ltb (s .at) end) refl (λ s′ c′ j r′. stretch-in-range k t end (g + 1) s′ c′ h (omega arith) j r′)
+  where
+    by : (x : Bool) → ltb (s .at) end ≡ x → ((s′ : State) (c′ : ℕ) → On t (g + 1) s′ c′ → InRange s′ → Yields AnswerWithin (stretch k t end s′) Ranged) → Yields AnswerWithin (cond {A = Meaning State} x (bind (lineMeaning t s) (stretch k t end)) (done s)) Ranged
+    by true e next =
+        yields-bind AnswerWithin (lineMeaning t s) (stretch k t end) (λ s′. InRange s′ × (c′ : ℕ) × On t (g + 1) s′ c′) Ranged
+        (yields-kept AnswerWithin (pageLimit 60) (lineMeaning t s) c (On t (g + 1)) InRange (line-keeps i (omega (arith, h, ltb-true (s .at) end e))) (line-in-range t g s (omega arith) (i .sound) r))
+        (λ s′ q. next s′ (q .1) (q .2) (q .0))
+    by false e next = record { state = r; machine = seen-within t g s (omega arith) (i .sound) r }
+
+start-in-range : (r : Run) → InRange (startOf r)
+start-in-range r = range-cleared (startOf r) tt
+
+module _ (t name : List ℕ) (r : Run) (e : templateChecked t name ≡ Accepted r) where
+  -- The state after any number of lines of an accepted template's run, whatever source answers it.
+  pub run-in-range : (source : Question → Answer) → ((q : Question) → AnswerWithin (source q)) → (places room k : ℕ) → k ≤ 50000 → (s : State) → run source places room (stretch k t (r .end) (startOf r)) .end ≡ finished s → Ranged s
+  run-in-range source every places room k h s f =
+      yields-end AnswerWithin source every Ranged places room (stretch k t (r .end) (startOf r)) s
+      (stretch-in-range k t (r .end) 1 (startOf r) 0 (accepted-runs t name r e .inside) (omega arith) (start-on t name r e) (start-in-range r)) f
+
+  -- On any store.
+  pub store-in-range : (b : List ℕ) (n places room k : ℕ) → k ≤ 50000 → (s : State) → run (answers b n) places room (stretch k t (r .end) (startOf r)) .end ≡ finished s → Ranged s
+  store-in-range b n = run-in-range (answers b n) (answers-within b n)
