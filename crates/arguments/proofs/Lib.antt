@@ -2,6 +2,5 @@ pub mod SignLaws
 pub mod ScaleLaws
 pub mod NameLaws
 pub mod FilterLaws
-pub mod OnwardLaws
 pub mod Bounds
 pub mod Parsed

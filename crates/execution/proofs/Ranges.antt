@@ -2,11 +2,11 @@
 use mathlib.Core.Path.{_≡_, refl}
 use mathlib.Core.Bool.{Bool, true, false, cond}
 use mathlib.Core.List.{List, [], _∷_}
-use Prim.Native.Nat.{ℕ, zero, suc, _-_, _≤_}
+use Prim.Native.Nat.{ℕ, _-_, _≤_}
 use native.Mathlib.Omega.{arith}
 use lib.IntN.{pos}
 use lib.Signed.{ltZ}
-use lib.ListN.{length, replicate}
+use lib.ListN.{length}
 use Rattle.scan.specs.Line.{lineAt}
 use Rattle.lines.specs.declared.command.Optional.{Optional}
 use Rattle.lines.specs.declared.command.Optional.the-variants.{Given, Absent}
@@ -40,6 +40,7 @@ use Rattle.pages.specs.Page.{breakMeaning, lineStep}
 use Rattle.execution.specs.State.{State, seen, withPlace, withMachine, withDatasource, withTables, withFeeds, withPage, cleared}
 use Rattle.execution.specs.Line.{past, jumped, setting, branched, testing, tableBegun, tableEnded, breaking, breakingFor, newPageMeaning, headed, formMeaning, lineMeaning}
 use Rattle.execution.specs.Sound.{Sound}
+use Rattle.execution.proofs.Sounds.{each-same}
 
 -- Every IV within ±2,000,000,000, every FV within ±2×10^15 millionths, every SV of at most 16 bytes, R and T's answers within
 -- their limits, the tables' counters and limits integers in range.
@@ -50,10 +51,6 @@ pub record InRange (s : State) : Type 0 where
   pub records : Each (Each AnswerWithin) (s .records)
   pub entries : Each (Each AnswerWithin) (s .entries)
   pub tables : Each G.Bounded (s .tables)
-
-same-each : {A : Type 0} (P : A → Type 0) (n : ℕ) (x : A) → P x → Each P (replicate n x)
-same-each P zero x p = tt
-same-each P (suc n) x p = (p, same-each P n x p)
 
 -- The machine that an argument sees is in range: LOOP by the tables, PAGENUM and LINENUM by the lines that were executed.
 pub seen-within : (t : List ℕ) (g : ℕ) (s : State) → g ≤ integerLimit → Sound t g s → InRange s → MachineWithin (seen s)
@@ -83,7 +80,7 @@ module _ {s : State} (r : InRange s) where
 
 -- "sets IV and FV to 0, SV to empty, clears R, T"
 pub range-cleared : (s : State) → Each G.Bounded (s .tables) → InRange (cleared s)
-range-cleared s h = record { integers = same-each IntegerWithin 99 (pos 0) (omega arith); decimals = same-each DecimalWithin 99 (pos 0) (omega arith); strings = same-each Short 99 [] (omega arith); records = same-each (Each AnswerWithin) 10 [] tt; entries = same-each (Each AnswerWithin) 10 [] tt; tables = h }
+range-cleared s h = record { integers = each-same IntegerWithin 99 (pos 0) (omega arith); decimals = each-same DecimalWithin 99 (pos 0) (omega arith); strings = each-same Short 99 [] (omega arith); records = each-same (Each AnswerWithin) 10 [] tt; entries = each-same (Each AnswerWithin) 10 [] tt; tables = h }
 
 -- ---- a line by its form: s is the state behind it, m the machine that it sees
 

@@ -8,7 +8,7 @@ use native.Mathlib.Omega.{arith}
 use borrow.Author.Tests.{ne-eqb}
 use lib.IntN.{pos}
 use lib.Signed.{ltZ}
-use lib.ListN.{length, drop, set, replicate, length-replicate}
+use lib.ListN.{length, drop, replicate, length-replicate}
 use Rattle.scan.specs.declared.run.Class.the-variants.{InLine}
 use Rattle.scan.specs.Line.{lineAt}
 use Rattle.scan.proofs.RunLaws.{take-span}
@@ -33,12 +33,13 @@ use Rattle.values.specs.Machine.{Machine}
 use Rattle.values.proofs.Giving.{Gives, Anything, gives-keeps}
 use Rattle.commands.specs.declared.table.Table as C
 use Rattle.commands.specs.Settling.{integerMeaning}
-use Rattle.commands.specs.Setting.{setNumbered, setMeaning}
+use Rattle.commands.specs.Setting.{setMeaning}
 use Rattle.commands.specs.Testing.{zeroMeaning, testMeaning}
 use Rattle.commands.specs.Looping.{Looping, innermost, newTable, countedTo, beginMeaning, endMeaning}
 use Rattle.commands.specs.Fetching.{recordsMeaning, entriesMeaning}
 use Rattle.commands.specs.Selecting.{datasourceMeaning}
 use Rattle.commands.proofs.Giving.{Shaped, numbered-length, set-gives, records-gives, entries-gives, integer-gives, zero-gives, test-gives, Begun, skipped, opened, Counting, ended, again, begin-gives, end-gives, Selectable, datasource-gives}
+use Rattle.commands.proofs.Ranges.{numbered-each}
 use Rattle.pages.specs.declared.page.Page.{Page}
 use Rattle.pages.specs.declared.heading.Heading.{Heading}
 use Rattle.pages.specs.Heading.{noHeading}
@@ -71,17 +72,7 @@ line-heading t at n line from h e k =
     let b : headFrom x ≡ from = rw (ne-eqb line 0 d) in
     record { fits = rw (a, b) (heading-accepted (lineAt t at) n from e); short = rw a k }
 
-each-set : (P : Heading → Type 0) (hs : List Heading) (k : ℕ) (h : Heading) → P h → Each P hs → Each P (set hs k h)
-each-set P [] k h p e = tt
-each-set P (x ∷ hs) zero h p e = (p, e .1)
-each-set P (x ∷ hs) (suc k) h p e = (e .0, each-set P hs k h p (e .1))
-
-each-numbered : (P : Heading → Type 0) (hs : List Heading) (n : ℕ) (h : Heading) → P h → Each P hs → Each P (setNumbered hs n h)
-unfolding setNumbered
-each-numbered P hs zero h p e = e
-each-numbered P hs (suc k) h p e = each-set P hs k h p e
-
-pub each-same : (P : Heading → Type 0) (n : ℕ) (h : Heading) → P h → Each P (replicate n h)
+pub each-same : {A : Type 0} (P : A → Type 0) (n : ℕ) (h : A) → P h → Each P (replicate n h)
 each-same P zero h p = tt
 each-same P (suc n) h p = (p, each-same P n h p)
 
@@ -101,7 +92,7 @@ module _ {t : List ℕ} {g : ℕ} {s : State} (i : Sound t g s) where
   sound-datasource d h = record { checks = i .checks; nested = i .nested; number = i .number; first-row = i .first-row; last-row = i .last-row; datasource = h; integers = i .integers; decimals = i .decimals; strings = i .strings; records = i .records; entries = i .entries; headings = i .headings; heads = i .heads }
 
   sound-heading : (n : ℕ) (h : Heading) → Fit t h → Sound t g (headed s n h)
-  sound-heading n h f = record { checks = i .checks; nested = i .nested; number = i .number; first-row = i .first-row; last-row = i .last-row; datasource = i .datasource; integers = i .integers; decimals = i .decimals; strings = i .strings; records = i .records; entries = i .entries; headings = numbered-length (s .headings) n h ∙ i .headings; heads = each-numbered (Fit t) (s .headings) n h f (i .heads) }
+  sound-heading n h f = record { checks = i .checks; nested = i .nested; number = i .number; first-row = i .first-row; last-row = i .last-row; datasource = i .datasource; integers = i .integers; decimals = i .decimals; strings = i .strings; records = i .records; entries = i .entries; headings = numbered-length (s .headings) n h ∙ i .headings; heads = numbered-each (Fit t) (s .headings) n h f (i .heads) }
 
   sound-feeds : (f : Bool) → Sound t g (withFeeds s f)
   sound-feeds f = record { checks = i .checks; nested = i .nested; number = i .number; first-row = i .first-row; last-row = i .last-row; datasource = i .datasource; integers = i .integers; decimals = i .decimals; strings = i .strings; records = i .records; entries = i .entries; headings = i .headings; heads = i .heads }

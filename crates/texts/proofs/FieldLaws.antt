@@ -37,7 +37,6 @@ use Rattle.texts.specs.declared.text.PieceRead.{PieceRead}
 use Rattle.texts.specs.declared.text.PieceRead.the-variants.{PieceTo, NoPiece}
 use Rattle.texts.specs.Text.{placesAt, placesOf, widthNext, fieldOf, fieldAt, placed, pieceAt, before, piecesWithin, textPieces}
 use Rattle.texts.specs.Pieces.{read, piecesOf, fieldCount}
-use Rattle.texts.proofs.PieceLaws.{piece-ends}
 
 -- "d 0–6"
 abbrev pub Few : Places → Type 0
@@ -61,7 +60,7 @@ FieldKnown l k (FieldTo f next) = Limited l f × (k + questionsOf (f .argument .
 FieldKnown l k NoField = Unit {0}
 
 abbrev PieceKnown : List ℕ → ℕ → PieceRead → Type 0
-PieceKnown l k (PieceTo (Plain b) next) = next ≤ length l
+PieceKnown l k (PieceTo (Plain b) next) = (k ≤ next + 4) × (next ≤ length l)
 PieceKnown l k (PieceTo (Placed f) next) = Limited l f × (k + questionsOf (f .argument .operand) ≤ next) × (next ≤ length l)
 PieceKnown l k NoPiece = Unit {0}
 
@@ -110,7 +109,15 @@ piece-known l i =
     tested (PieceKnown l (i + 5)) (leb (length l) i) (λ e. tt) (λ e.
     picked (PieceKnown l (i + 5)) (eqb (byteAt l i) 123)
     (placed-known l (i + 5) (fieldAt l (i + 1)) (field-known l (i + 5) (i + 1) (omega arith)))
-    (picked (PieceKnown l (i + 5)) (eqb (byteAt l i) 125) tt (omega (arith, leb-false (length l) i e))))
+    (picked (PieceKnown l (i + 5)) (eqb (byteAt l i) 125) tt (omega arith, omega (arith, leb-false (length l) i e))))
+
+-- a piece moves on
+pub piece-ends : (l : List ℕ) (i : ℕ) (p : Piece) (next : ℕ) → pieceAt l i ≡ PieceTo p next → i < next
+piece-ends l i p next e = go p (subst (PieceKnown l (i + 5)) e (piece-known l i))
+  where
+    go : (q : Piece) → PieceKnown l (i + 5) (PieceTo q next) → i < next
+    go (Plain b) k = omega (arith, k .0)
+    go (Placed f) k = omega (arith, k .1)
 
 module _ (l : List ℕ) (i : ℕ) (f : Field) (next : ℕ) (e : pieceAt l i ≡ PieceTo (Placed f) next) where
   pub field-limited : Limited l f
@@ -161,11 +168,11 @@ record Takes (l : List ℕ) (i : ℕ) (ps : List Piece) : Type 0 where
 takes-none : (l : List ℕ) (i : ℕ) → i ≤ length l → Takes l i []
 takes-none l i h = record { bytes = omega arith; each = tt }
 
-takes-more : (l : List ℕ) (i : ℕ) (p : Piece) (next : ℕ) (o : Option (List Piece)) → i < next → i ≤ length l → PieceKnown l (i + 5) (PieceTo p next) → (next ≤ length l → Takes l next (read o)) → Takes l i (read (before p o))
+takes-more : (l : List ℕ) (i : ℕ) (p : Piece) (next : ℕ) (o : Option (List Piece)) → i ≤ length l → PieceKnown l (i + 5) (PieceTo p next) → (next ≤ length l → Takes l next (read o)) → Takes l i (read (before p o))
 unfolding read before
-takes-more l i p next none k h e rest = takes-none l i h
-takes-more l i (Plain b) next (some ps) k h e rest = let r = rest e in record { bytes = omega (arith, r .bytes); each = r .each }
-takes-more l i (Placed f) next (some ps) k h e rest = let r = rest (e .2) in record { bytes = omega (arith, e .1, r .bytes); each = (e .0, r .each) }
+takes-more l i p next none h e rest = takes-none l i h
+takes-more l i (Plain b) next (some ps) h e rest = let r = rest (e .1) in record { bytes = omega (arith, e .0, r .bytes); each = r .each }
+takes-more l i (Placed f) next (some ps) h e rest = let r = rest (e .2) in record { bytes = omega (arith, e .1, r .bytes); each = (e .0, r .each) }
 
 takes : (n : ℕ) (l : List ℕ) (i : ℕ) → i ≤ length l → Takes l i (read (piecesWithin n l i))
 unfolding piecesWithin read
@@ -173,7 +180,7 @@ takes zero l i h = takes-none l i h
 takes (suc n) l i h = by (leb (length l) i) (pieceAt l i) refl (takes n l)
   where
     go : (r : PieceRead) → pieceAt l i ≡ r → ((next : ℕ) → next ≤ length l → Takes l next (read (piecesWithin n l next))) → Takes l i (read (elim r [ PieceTo p next ↦ before p (piecesWithin n l next) | NoPiece ↦ none ]))
-    go (PieceTo p next) e rest = takes-more l i p next (piecesWithin n l next) (piece-ends l i p next e) h (subst (PieceKnown l (i + 5)) e (piece-known l i)) (rest next)
+    go (PieceTo p next) e rest = takes-more l i p next (piecesWithin n l next) h (subst (PieceKnown l (i + 5)) e (piece-known l i)) (rest next)
     go NoPiece e rest = takes-none l i h
 
     by : (b : Bool) (r : PieceRead) → pieceAt l i ≡ r → ((next : ℕ) → next ≤ length l → Takes l next (read (piecesWithin n l next))) → Takes l i (read (cond b (some []) (elim r [ PieceTo p next ↦ before p (piecesWithin n l next) | NoPiece ↦ none ])))

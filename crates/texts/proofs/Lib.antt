@@ -1,3 +1,3 @@
+pub mod FieldLaws
 pub mod PieceLaws
 pub mod TextLaws
-pub mod FieldLaws
