@@ -9,3 +9,4 @@ pub mod Selections
 pub mod Clearing
 pub mod Giving
 pub mod Ranges
+pub mod Allowed

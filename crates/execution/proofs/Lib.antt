@@ -4,3 +4,4 @@ pub mod Following
 pub mod Commanding
 pub mod Lining
 pub mod Ranges
+pub mod Allowed

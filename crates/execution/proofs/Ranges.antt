@@ -33,8 +33,8 @@ use Rattle.commands.specs.Looping.{Looping, loop, innermost, beginMeaning, endM
 use Rattle.commands.specs.Fetching.{recordsMeaning, entriesMeaning}
 use Rattle.commands.specs.Selecting.{datasourceMeaning}
 use Rattle.commands.proofs.Giving as G
-use Rattle.commands.proofs.Giving.{loop-bounded}
-use Rattle.commands.proofs.Ranges.{Held, held, set-within, begin-within, end-within, records-within, entries-within}
+use Rattle.commands.proofs.Giving.{loop-bounded, Selectable, datasource-gives}
+use Rattle.commands.proofs.Ranges.{Held, held, gives-yields, set-within, begin-within, end-within, records-within, entries-within}
 use Rattle.pages.specs.declared.page.Page.{Page}
 use Rattle.pages.specs.Page.{breakMeaning, lineStep}
 use Rattle.execution.specs.State.{State, seen, withPlace, withMachine, withDatasource, withTables, withFeeds, withPage, cleared}
@@ -43,7 +43,7 @@ use Rattle.execution.specs.Sound.{Sound}
 use Rattle.execution.proofs.Sounds.{each-same}
 
 -- Every IV within ±2,000,000,000, every FV within ±2×10^15 millionths, every SV of at most 16 bytes, R and T's answers within
--- their limits, the tables' counters and limits integers in range.
+-- their limits, the tables' counters and limits integers in range, a datasource from 1 to 35.
 pub record InRange (s : State) : Type 0 where
   pub integers : Each IntegerWithin (s .integers)
   pub decimals : Each DecimalWithin (s .decimals)
@@ -51,6 +51,7 @@ pub record InRange (s : State) : Type 0 where
   pub records : Each (Each AnswerWithin) (s .records)
   pub entries : Each (Each AnswerWithin) (s .entries)
   pub tables : Each G.Bounded (s .tables)
+  pub datasource : Between 1 35 (s .datasource)
 
 -- The machine that an argument sees is in range: LOOP by the tables, PAGENUM and LINENUM by the lines that were executed.
 pub seen-within : (t : List ℕ) (g : ℕ) (s : State) → g ≤ integerLimit → Sound t g s → InRange s → MachineWithin (seen s)
@@ -64,23 +65,23 @@ heading-there t g s i n b = held (s .headings) 9 n (i .headings) b
 
 module _ {s : State} (r : InRange s) where
   range-at : (at line : ℕ) → InRange (withPlace s at line)
-  range-at at line = record { integers = r .integers; decimals = r .decimals; strings = r .strings; records = r .records; entries = r .entries; tables = r .tables }
+  range-at at line = record { integers = r .integers; decimals = r .decimals; strings = r .strings; records = r .records; entries = r .entries; tables = r .tables; datasource = r .datasource }
 
   range-tables : (ts : List Table) → Each G.Bounded ts → InRange (withTables s ts)
-  range-tables ts h = record { integers = r .integers; decimals = r .decimals; strings = r .strings; records = r .records; entries = r .entries; tables = h }
+  range-tables ts h = record { integers = r .integers; decimals = r .decimals; strings = r .strings; records = r .records; entries = r .entries; tables = h; datasource = r .datasource }
 
   range-machine : (m : Machine) → MachineWithin m → InRange (withMachine s m)
-  range-machine m h = record { integers = h .integers; decimals = h .decimals; strings = h .strings; records = h .records; entries = h .entries; tables = r .tables }
+  range-machine m h = record { integers = h .integers; decimals = h .decimals; strings = h .strings; records = h .records; entries = h .entries; tables = r .tables; datasource = r .datasource }
 
-  range-datasource : (d : ℕ) → InRange (withDatasource s d)
-  range-datasource d = record { integers = r .integers; decimals = r .decimals; strings = r .strings; records = r .records; entries = r .entries; tables = r .tables }
+  range-datasource : (d : ℕ) → Between 1 35 d → InRange (withDatasource s d)
+  range-datasource d h = record { integers = r .integers; decimals = r .decimals; strings = r .strings; records = r .records; entries = r .entries; tables = r .tables; datasource = h }
 
   range-page : (p : Page) → InRange (withPage s p)
-  range-page p = record { integers = r .integers; decimals = r .decimals; strings = r .strings; records = r .records; entries = r .entries; tables = r .tables }
+  range-page p = record { integers = r .integers; decimals = r .decimals; strings = r .strings; records = r .records; entries = r .entries; tables = r .tables; datasource = r .datasource }
 
 -- "sets IV and FV to 0, SV to empty, clears R, T"
-pub range-cleared : (s : State) → Each G.Bounded (s .tables) → InRange (cleared s)
-range-cleared s h = record { integers = each-same IntegerWithin 99 (pos 0) (omega arith); decimals = each-same DecimalWithin 99 (pos 0) (omega arith); strings = each-same Short 99 [] (omega arith); records = each-same (Each AnswerWithin) 10 [] tt; entries = each-same (Each AnswerWithin) 10 [] tt; tables = h }
+pub range-cleared : (s : State) → Each G.Bounded (s .tables) → Between 1 35 (s .datasource) → InRange (cleared s)
+range-cleared s h d = record { integers = each-same IntegerWithin 99 (pos 0) (omega arith); decimals = each-same DecimalWithin 99 (pos 0) (omega arith); strings = each-same Short 99 [] (omega arith); records = each-same (Each AnswerWithin) 10 [] tt; entries = each-same (Each AnswerWithin) 10 [] tt; tables = h; datasource = d }
 
 -- ---- a line by its form: s is the state behind it, m the machine that it sees
 
@@ -132,7 +133,7 @@ module _ (t : List ℕ) (start l : ℕ) (body : List ℕ) (s : State) (h : Machi
   unfolding formMeaning
   form-in-range form.NoForm b = r
   form-in-range form.Text b = paged (lineStep (seen s) t l (s .feeds) (s .headings) body (s .page))
-  form-in-range (form.Section a e) b = range-cleared s (r .tables)
+  form-in-range (form.Section a e) b = range-cleared s (r .tables) (r .datasource)
   form-in-range (form.Set o v a) b = sets (setMeaning (seen s) body l o v a) (set-within (seen s) h l body o v a (b .1))
   form-in-range (form.IfZero a) b = tests (zeroMeaning (seen s) body l true a)
   form-in-range (form.IfNonZero a) b = tests (zeroMeaning (seen s) body l false a)
@@ -143,11 +144,11 @@ module _ (t : List ℕ) (start l : ℕ) (body : List ℕ) (s : State) (h : Machi
   form-in-range (form.EndTable k) b = yields-bind AnswerWithin (endMeaning (seen s) body l (s .tables) k) (λ x. done (tableEnded s x)) (λ x. Each G.Bounded (x .tables)) InRange (end-within (seen s) body l (s .tables) k (r .tables)) (λ x e. ends x e)
   form-in-range (form.Records f) b = sets (recordsMeaning (seen s) l f) (records-within (seen s) h l f)
   form-in-range (form.Entries f) b = sets (entriesMeaning (seen s) l f) (entries-within (seen s) h l f)
-  form-in-range (form.Datasource i) b = yields-bind AnswerWithin (datasourceMeaning (seen s) l i) (λ d. done (withDatasource s d)) (λ _. Unit {0}) InRange (yields-any AnswerWithin (datasourceMeaning (seen s) l i)) (λ d e. range-datasource r d)
-  form-in-range form.NoFormFeed b = record { integers = r .integers; decimals = r .decimals; strings = r .strings; records = r .records; entries = r .entries; tables = r .tables }
+  form-in-range (form.Datasource i) b = yields-bind AnswerWithin (datasourceMeaning (seen s) l i) (λ d. done (withDatasource s d)) Selectable InRange (gives-yields (datasourceMeaning (seen s) l i) Selectable (datasource-gives (seen s) l i)) (λ d e. range-datasource r d (record { least = e .low; most = e .high }))
+  form-in-range form.NoFormFeed b = record { integers = r .integers; decimals = r .decimals; strings = r .strings; records = r .records; entries = r .entries; tables = r .tables; datasource = r .datasource }
   form-in-range (form.NewPage n) b = pages n
-  form-in-range (form.Heading n from) b = record { integers = r .integers; decimals = r .decimals; strings = r .strings; records = r .records; entries = r .entries; tables = r .tables }
-  form-in-range (form.NoHeading n) b = record { integers = r .integers; decimals = r .decimals; strings = r .strings; records = r .records; entries = r .entries; tables = r .tables }
+  form-in-range (form.Heading n from) b = record { integers = r .integers; decimals = r .decimals; strings = r .strings; records = r .records; entries = r .entries; tables = r .tables; datasource = r .datasource }
+  form-in-range (form.NoHeading n) b = record { integers = r .integers; decimals = r .decimals; strings = r .strings; records = r .records; entries = r .entries; tables = r .tables; datasource = r .datasource }
   form-in-range form.Remark b = r
 
 -- One line.

@@ -9,3 +9,4 @@ pub mod Moving
 pub mod Numbers
 pub mod Rows
 pub mod Yielding
+pub mod Questions

@@ -7,3 +7,4 @@ pub mod Stepping
 pub mod Sixty
 pub mod InRange
 pub mod Ranges
+pub mod Allowed

@@ -13,3 +13,4 @@ pub mod Driving
 pub mod Reprint
 pub mod Pages
 pub mod Ranges
+pub mod Allowed

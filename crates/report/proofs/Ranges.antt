@@ -46,8 +46,8 @@ stretch-in-range (suc k) t end g s c h b i r = by (ltb (s .at) end) refl (λ s�
         (λ s′ q. next s′ (q .1) (q .2) (q .0))
     by false e next = record { state = r; machine = seen-within t g s (omega arith) (i .sound) r }
 
-start-in-range : (r : Run) → InRange (startOf r)
-start-in-range r = range-cleared (startOf r) tt
+pub start-in-range : (r : Run) → InRange (startOf r)
+start-in-range r = range-cleared (startOf r) tt (record { least = omega arith; most = omega arith })
 
 module _ (t name : List ℕ) (r : Run) (e : templateChecked t name ≡ Accepted r) where
   -- The state after any number of lines of an accepted template's run, whatever source answers it.

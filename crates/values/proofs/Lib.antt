@@ -12,3 +12,4 @@ pub mod Keeping
 pub mod Giving
 pub mod Still
 pub mod Ranges
+pub mod Allowed
