@@ -20,6 +20,8 @@ use Rattle.commands.specs.Looping.{openOf}
 use Rattle.commands.proofs.Tabling.{opened-length}
 use Rattle.pages.specs.Heading.{headingIn}
 use Rattle.lines.proofs.Accepted.{parsed-sound}
+use Rattle.lines.specs.Known.{formOf}
+use Rattle.lines.proofs.KnownLaws.{form-known}
 use Rattle.execution.specs.declared.state.Flow.{Flow}
 use Rattle.execution.specs.declared.state.Lined.{Lined}
 use Rattle.execution.specs.State.{Held}
@@ -46,6 +48,10 @@ module _ {b index : List ℕ} {count : ℕ} {t : List ℕ} {h : Held} {f : Flow}
 
   pub past-ready : (f .at + length body ≤ 65536) × (f .line ≤ 65536)
   past-ready = (omega (arith, body-short, k .inside, checks-short (k .sound .checks)), omega (arith, nested-line (k .sound .checks) here (k .inside), k .inside, checks-short (k .sound .checks)))
+
+  -- the line was accepted, so it has a form
+  pub form-parsed : {line : Line} → line ≡ formOf body → line ≡ parseLine body
+  form-parsed l = l ∙ rw body-is (form-known (lineAt t (f .at)) (opens-line (k .sound .checks) (here .opens) (k .inside) .parsed))
 
   module _ {scene : Scene} {next : Flow} {line : Line} (s : scene ≡ sceneOf f (f .line)) (n : next ≡ placedAt f (f .at + length body + 1) (f .line + 1)) (l : line ≡ parseLine body) where
     few : f .tables .depth ≤ 5

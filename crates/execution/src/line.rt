@@ -342,7 +342,7 @@ pub fn line<'a>(
 {
     let at = flow.at;
     let body = scan::bytes::line_of(&template[at..]);
-    let form = command::parse_line(body);
+    let form = command::form_of(body);
     let scene = flow::scene_of(flow, flow.line);
     let next = flow::past(flow, body.len());
     execute(

@@ -7,4 +7,5 @@ pub mod Fetch
 pub mod Title
 pub mod Command
 pub mod Dispatch
+pub mod Known
 pub mod Rows

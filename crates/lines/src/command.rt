@@ -13,6 +13,7 @@ ghost use Rattle.scan.specs.Words.{firstOf};
 ghost use Rattle.lines.specs.declared.command.Line.the-variants.{NoForm};
 ghost use Rattle.lines.specs.Command.{commands, parseLine};
 ghost use Rattle.lines.specs.Dispatch.{otherAt, commandAt};
+ghost use Rattle.lines.specs.Known.{formOf};
 
 // $SETE, $SETA, $SETS, $SETM, $SETD
 pub enum Operation {
@@ -150,4 +151,17 @@ pub fn parse_line(line: &[u8]) -> Line
         return Line::Text;
     }
     Line::NoForm
+}
+
+// The form of a line that has one, which check 3 has judged: no text is walked for its width again. Only $PH begins with P.
+pub fn form_of(line: &[u8]) -> Line
+    ensures { λ r. ⌜ r ≡ formOf (now (line .entry)) ⌝ }
+{
+    if bytes::byte(line, 0) != b'$' {
+        return Line::Text;
+    }
+    if bytes::byte(line, 1) == b'P' {
+        return title::known_heading(line, 3);
+    }
+    command_in(line)
 }

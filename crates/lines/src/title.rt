@@ -8,6 +8,7 @@ use scan::run;
 use scan::run::Class;
 ghost use mathlib.Core.Path.{_≡_};
 ghost use Rattle.lines.specs.Title.{sectionAt, headingOf, headingAt, remarkAt};
+ghost use Rattle.lines.specs.Known.{knownOf, knownHeading};
 
 // "name: 1–16 of A–Z, 0–9"
 pub fn section_at(line: &[u8], at: usize) -> Line
@@ -49,6 +50,25 @@ pub fn heading_at(line: &[u8], at: usize) -> Line
         return heading_of(line, at, 1);
     };
     heading_of(line, next, n)
+}
+
+// The same of a line that has a form.
+fn known_of(line: &[u8], at: usize, n: usize) -> Line
+    ensures { λ r. ⌜ r ≡ knownOf (now (line .entry)) at n ⌝ }
+{
+    if line.len() <= at {
+        return Line::NoHeading(n);
+    }
+    Line::Heading(n, at + 1)
+}
+
+pub fn known_heading(line: &[u8], at: usize) -> Line
+    ensures { λ r. ⌜ r ≡ knownHeading (now (line .entry)) at ⌝ }
+{
+    let Numeral::Value(n, next) = digits::number_at(line, at, 9) else {
+        return known_of(line, at, 1);
+    };
+    known_of(line, next, n)
 }
 
 // "alone or with a space and any text, unread"

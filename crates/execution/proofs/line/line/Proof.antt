@@ -1,4 +1,4 @@
-use Rattle.execution.proofs.Lining.{past-ready, form-ready, line-executes}
+use Rattle.execution.proofs.Lining.{past-ready, form-ready, form-parsed, line-executes}
 use borrow.Author.Needs.{needs}
 use Rattle.execution.proofs.line.line.Statement.{statement}
 use Rattle.execution.proofs.line.line.Tie as tie
@@ -7,7 +7,7 @@ use Rattle.execution.proofs.line.line.Lts as lts
 use Rattle.execution.proofs.flow.past.Reads as past-reads
 use Rattle.execution.proofs.flow.scene_of.Reads as scene-of-reads
 use Rattle.execution.proofs.line.execute.Reads as execute-reads
-use Rattle.lines.proofs.command.parse_line.Reads as parse-line-reads
+use Rattle.lines.proofs.command.form_of.Reads as form-of-reads
 use Rattle.scan.proofs.bytes.line_of.Reads as line-of-reads
 
 sub-line-of : tie.Need-sub-line-of
@@ -22,8 +22,8 @@ part-line-of-end c = search needs
 line-of-requires : tie.Need-line-of-requires
 line-of-requires c κs = search needs
 
-parse-line-requires : tie.Need-parse-line-requires
-parse-line-requires c κs = search needs
+form-of-requires : tie.Need-form-of-requires
+form-of-requires c κs = search needs
 
 scene-of-requires : tie.Need-scene-of-requires
 scene-of-requires c κs = search needs
@@ -32,7 +32,7 @@ past-requires : tie.Need-past-requires
 past-requires c κs = past-ready (c .before .before .before .before .before .before .before .before .before .before .before .before .pre) (c .before .before .line-of .ensures)
 
 execute-requires : tie.Need-execute-requires
-execute-requires c κs = form-ready (c .before .before .before .before .before .before .before .before .before .before .before .before .before .before .before .before .before .before .before .before .before .before .pre) (c .before .before .before .before .before .before .before .before .before .before .before .before .line-of .ensures) (c .before .before .before .before .before .before .before .before .before .before .scene-of .ensures) (c .before .before .before .before .before .before .before .before .before .past .ensures) (c .before .before .before .before .before .before .before .before .before .before .before .parse-line .ensures)
+execute-requires c κs = form-ready (c .before .before .before .before .before .before .before .before .before .before .before .before .before .before .before .before .before .before .before .before .before .before .pre) (c .before .before .before .before .before .before .before .before .before .before .before .before .line-of .ensures) (c .before .before .before .before .before .before .before .before .before .before .scene-of .ensures) (c .before .before .before .before .before .before .before .before .before .past .ensures) (form-parsed (c .before .before .before .before .before .before .before .before .before .before .before .before .before .before .before .before .before .before .before .before .before .before .pre) (c .before .before .before .before .before .before .before .before .before .before .before .before .line-of .ensures) (c .before .before .before .before .before .before .before .before .before .before .before .form-of .ensures))
 
 same-length : tie.Need-same-length
 same-length c = search needs
@@ -56,7 +56,7 @@ same-length-7 : tie.Need-same-length-7
 same-length-7 c = search needs
 
 returns : tie.Need-returns
-returns c = line-executes (c .before .before .before .before .before .before .before .before .before .before .before .before .before .before .before .before .before .before .before .before .before .before .before .before .before .before .before .before .before .before .before .before .before .before .before .pre) (c .before .before .before .before .before .before .before .before .before .before .before .before .before .before .before .before .before .before .before .before .before .before .before .before .before .line-of .ensures) (c .before .before .before .before .before .before .before .before .before .before .before .before .before .before .before .before .before .before .before .before .before .before .before .scene-of .ensures) (c .before .before .before .before .before .before .before .before .before .before .before .before .before .before .before .before .before .before .before .before .before .before .past .ensures) (c .before .before .before .before .before .before .before .before .before .before .before .before .before .before .before .before .before .before .before .before .before .before .before .before .parse-line .ensures) _ _ _ _ _ _ (c .before .before .before .before .before .before .before .before .before .before .before .before .execute .ensures)
+returns c = line-executes (c .before .before .before .before .before .before .before .before .before .before .before .before .before .before .before .before .before .before .before .before .before .before .before .before .before .before .before .before .before .before .before .before .before .before .before .pre) (c .before .before .before .before .before .before .before .before .before .before .before .before .before .before .before .before .before .before .before .before .before .before .before .before .before .line-of .ensures) (c .before .before .before .before .before .before .before .before .before .before .before .before .before .before .before .before .before .before .before .before .before .before .before .scene-of .ensures) (c .before .before .before .before .before .before .before .before .before .before .before .before .before .before .before .before .before .before .before .before .before .before .past .ensures) (form-parsed (c .before .before .before .before .before .before .before .before .before .before .before .before .before .before .before .before .before .before .before .before .before .before .before .before .before .before .before .before .before .before .before .before .before .before .before .pre) (c .before .before .before .before .before .before .before .before .before .before .before .before .before .before .before .before .before .before .before .before .before .before .before .before .before .line-of .ensures) (c .before .before .before .before .before .before .before .before .before .before .before .before .before .before .before .before .before .before .before .before .before .before .before .before .form-of .ensures)) _ _ _ _ _ _ (c .before .before .before .before .before .before .before .before .before .before .before .before .execute .ensures)
 
 pub line-spec : {M : Type 1} → statement M
 line-spec =
@@ -66,7 +66,7 @@ line-spec =
     part-line-of-start
     part-line-of-end
     line-of-requires
-    parse-line-requires
+    form-of-requires
     scene-of-requires
     past-requires
     execute-requires
