@@ -1,9 +1,9 @@
 // Operands with filters.
+use crate::name;
 use crate::operand;
 use crate::operand::Operand;
 use crate::operand::OperandRead;
 use scan::bytes;
-use scan::words;
 use scan::words::WordRead;
 ghost use mathlib.Core.Path.{_≡_};
 ghost use Rattle.arguments.specs.Argument.{countOf, argumentAt};
@@ -100,8 +100,7 @@ pub fn argument_at(line: &[u8], at: usize) -> ArgumentRead
             next,
         );
     }
-    let names = b"ABS     INT     UPPER   LEN     RECCNT  ENTCNT  ";
-    let WordRead::Word(k, end) = words::word_at(line, next + 1, names) else {
+    let WordRead::Word(k, end) = name::filter_name(line, next + 1) else {
         return ArgumentRead::NoArgument;
     };
     if !is_admitted(operand, k) {

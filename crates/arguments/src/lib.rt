@@ -9,5 +9,6 @@
 
 pub mod literal; // literal.rt: integers and decimals
 pub mod index; // index.rt: indexes
+mod name; // name.rt: the names of operands and filters
 pub mod operand; // operand.rt: strings, numbers, variables, cells
 pub mod argument; // argument.rt: operands with filters

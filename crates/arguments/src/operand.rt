@@ -4,13 +4,13 @@ use crate::index::Index;
 use crate::index::IndexRead;
 use crate::literal;
 use crate::literal::LiteralRead;
+use crate::name;
 use numbers::Quantity;
 use scan::bytes;
 use scan::digits;
 use scan::digits::Numeral;
 use scan::run;
 use scan::run::Class;
-use scan::words;
 use scan::words::WordRead;
 ghost use mathlib.Core.Path.{_≡_};
 ghost use Rattle.arguments.specs.Operand.{stringAt, cellAt, numberedAt, namedAt, operandAt};
@@ -120,8 +120,7 @@ fn numbered_at(line: &[u8], at: usize, name: usize) -> OperandRead
 fn named_at(line: &[u8], at: usize) -> OperandRead
     ensures { λ r. ⌜ r ≡ namedAt (now (line .entry)) at ⌝ }
 {
-    let names = b"PAGENUM LINENUM LOOP    IV      FV      SV      R       T       P       ";
-    let WordRead::Word(name, next) = words::word_at(line, at, names) else {
+    let WordRead::Word(name, next) = name::operand_name(line, at) else {
         return OperandRead::NoOperand;
     };
     if name == 0 {

@@ -6,19 +6,20 @@ use Prim.Native.Nat.{ℕ}
 use borrow.Author.Tests.{ne-eqb}
 use lib.Dec.{eqb}
 use Rattle.scan.specs.Run.{belongs, span}
-use Rattle.scan.specs.Words.{wordIn, wordAt, firstOf, wordOr}
+use Rattle.scan.specs.Words.{wordIn, firstOf, wordOr}
 use Rattle.scan.proofs.WordLaws.{tabled, by-number}
 use Rattle.lines.specs.declared.set.TargetRead.the-variants.{NoTarget}
 use Rattle.lines.specs.declared.command.Line.the-variants.{NoForm}
 use Rattle.lines.specs.Set.{stringTarget}
 use Rattle.lines.specs.Command.{commands}
-use Rattle.lines.specs.Dispatch.{commandWords, operationOf, comparisonOf, singleOf, bareOf, optionalOf, fetchOf, otherAt, commandAt}
+use Rattle.lines.specs.Dispatch.{commandWords, commandWord, operationOf, comparisonOf, singleOf, bareOf, optionalOf, fetchOf, otherAt, commandAt}
 
 all-words : tabled commandWords commandAt 27 0 ≡ commands
 unfolding tabled commands belongs span wordIn operationOf comparisonOf singleOf bareOf optionalOf fetchOf otherAt commandAt
 all-words = refl
 
-pub command-by-number : (l : List ℕ) → firstOf NoForm commands l 1 ≡ wordOr NoForm (wordAt commandWords l 1) (λ k next. commandAt l next k)
+pub command-by-number : (l : List ℕ) → firstOf NoForm commands l 1 ≡ wordOr NoForm (commandWord l) (λ k next. commandAt l next k)
+unfolding commandWord
 command-by-number l = by-number NoForm commandWords commandAt l 1 commands all-words
 
 -- "after another word than $SETE it is 3"

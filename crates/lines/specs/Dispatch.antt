@@ -3,7 +3,9 @@ use mathlib.Core.Bool.{cond}
 use mathlib.Core.List.{List}
 use Prim.Native.Nat.{ℕ}
 use lib.Dec.{ltb, eqb}
+use Rattle.scan.specs.declared.words.WordRead.{WordRead}
 use Rattle.scan.specs.Ascii.{ascii}
+use Rattle.scan.specs.Words.{wordAt}
 use Rattle.arguments.specs.declared.argument.Argument.{Argument}
 use Rattle.lines.specs.declared.command.Operation.{Operation}
 use Rattle.lines.specs.declared.command.Operation.the-variants.{Assign, Add, Subtract, Multiply, Divide}
@@ -23,6 +25,10 @@ use Rattle.lines.specs.Title.{sectionAt, headingAt, remarkAt}
 abbrev pub commandWords : List ℕ
 commandWords =
     ascii "SETDS   SETE    SETA    SETS    SETM    SETD    IFEQSS  IFEQSI  IFEQ    IFNE    IFLT    IFLE    IFGT    IFGE    IFNOT   IF      BT      ELSE    ENDIF   NOFF    ET      NP      REC     TBL     SEC     PH      REM     "
+
+-- the first of them that stands behind the `$`: its number, and the place behind it
+unfoldable pub commandWord : List ℕ → WordRead
+commandWord l = wordAt commandWords l 1
 
 unfoldable pub operationOf : ℕ → Operation
 operationOf k =

@@ -4,6 +4,7 @@ use crate::fetch;
 use crate::set;
 use crate::simple;
 use crate::title;
+use crate::word;
 use arguments::argument::Argument;
 use arguments::index::Index;
 use scan::bytes;
@@ -128,13 +129,11 @@ fn command_at(line: &[u8], at: usize, k: usize) -> Line
     other_at(line, at, k)
 }
 
-// The command whose word stands behind the `$`. Apart from `parse_line`, since the table is built with each call.
+// The command whose word stands behind the `$`.
 fn command_in(line: &[u8]) -> Line
     ensures { λ r. ⌜ r ≡ firstOf NoForm commands (now (line .entry)) 1 ⌝ }
 {
-    let table =
-        b"SETDS   SETE    SETA    SETS    SETM    SETD    IFEQSS  IFEQSI  IFEQ    IFNE    IFLT    IFLE    IFGT    IFGE    IFNOT   IF      BT      ELSE    ENDIF   NOFF    ET      NP      REC     TBL     SEC     PH      REM     ";
-    let WordRead::Word(k, at) = scan::words::word_at(line, 1, table) else {
+    let WordRead::Word(k, at) = word::command_word(line) else {
         return Line::NoForm;
     };
     command_at(line, at, k)

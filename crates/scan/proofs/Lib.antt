@@ -3,3 +3,4 @@ pub mod DigitLaws
 pub mod OnwardLaws
 pub mod WordLaws
 pub mod NumberLaws
+pub mod LetterLaws

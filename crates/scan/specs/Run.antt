@@ -5,7 +5,7 @@ use Prim.Native.Char.{code}
 use Prim.Native.Nat.{ℕ}
 use lib.Dec.{leb, eqb}
 use Rattle.scan.specs.declared.run.Class.{Class}
-use Rattle.scan.specs.declared.run.Class.the-variants.{Allowed, InLine, InString, InName, Digit}
+use Rattle.scan.specs.declared.run.Class.the-variants.{Allowed, InLine, InString, InName, Digit, Unbraced}
 
 abbrev pub inRange : ℕ → ℕ → ℕ → Bool
 inRange b low high = leb low b && leb b high
@@ -20,6 +20,8 @@ belongs InString b = not (eqb b (code "\""))
 -- "A–Z, 0–9"
 belongs InName b = inRange b (code "A") (code "Z") || inRange b (code "0") (code "9")
 belongs Digit b = inRange b (code "0") (code "9")
+-- neither brace: "other braces in text and headings, outside a field's string, are refused"
+belongs Unbraced b = not (eqb b (code "{") || eqb b (code "}"))
 
 -- the longest run of bytes of the class at the front of s
 unfoldable pub span : Class → List ℕ → List ℕ

@@ -32,6 +32,10 @@ wordFrom table l at zero k = NoWord
 wordFrom table l at (suc n) k =
     cond (standsAt (wordIn table k) l at) (Word k (at + length (wordIn table k))) (wordFrom table l at n (k + 1))
 
+-- one word with its number, or what another search gave
+abbrev pub wordElse : List ℕ → List ℕ → ℕ → ℕ → WordRead → WordRead
+wordElse w l at k other = cond (standsAt w l at) (Word k (at + length w)) other
+
 unfoldable pub wordAt : List ℕ → List ℕ → ℕ → WordRead
 wordAt table l at = wordFrom table l at (length table / 8) 0
 

@@ -13,6 +13,8 @@ pub enum Class {
     // "A–Z, 0–9"
     InName,
     Digit,
+    // all but braces
+    Unbraced,
 }
 
 fn between(b: u8, low: u8, high: u8) -> bool
@@ -43,6 +45,12 @@ pub fn belongs_to(class: Class, b: u8) -> bool
             between(b, b'0', b'9')
         }
         Class::Digit => between(b, b'0', b'9'),
+        Class::Unbraced => {
+            if b == b'{' {
+                return false;
+            }
+            b != b'}'
+        }
     }
 }
 

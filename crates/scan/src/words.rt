@@ -7,7 +7,7 @@ ghost use Prim.Native.Nat.{_*_, _≤_};
 ghost use lib.ListN.{length};
 ghost use Rattle.scan.specs.declared.run.Class.the-variants.{InName};
 ghost use Rattle.scan.specs.Run.{span};
-ghost use Rattle.scan.specs.Words.{standsAt, wordIn, wordAt};
+ghost use Rattle.scan.specs.Words.{standsAt, wordIn, wordAt, wordElse};
 
 // Whether the word stands in the line at a place.
 pub fn begins_with(line: &[u8], at: usize, word: &[u8]) -> bool
@@ -81,4 +81,14 @@ pub fn word_at(line: &[u8], at: usize, table: &[u8]) -> WordRead
         k += 1;
     }
     WordRead::NoWord
+}
+
+// The word with a number where it stands in the line at a place, else what another search gave.
+pub fn word_or(line: &[u8], at: usize, word: &[u8], k: usize, other: WordRead) -> WordRead
+    ensures { λ r. ⌜ r ≡ wordElse (now (word .entry)) (now (line .entry)) at k other ⌝ }
+{
+    if begins_with(line, at, word) {
+        return WordRead::Word(k, at + word.len());
+    }
+    other
 }

@@ -1,3 +1,4 @@
 pub mod FieldLaws
 pub mod PieceLaws
 pub mod TextLaws
+pub mod PlainLaws

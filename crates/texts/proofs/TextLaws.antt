@@ -19,7 +19,7 @@ too-wide width (some ps) h = lt-leb (width + totalWidth ps) 132 (omega arith)
 too-wide width none h = refl
 
 -- a piece's width goes to what stands before the rest
-piece-passed : (width : ℕ) (p : Piece) (o : Option (List Piece)) → fitsBehind width (before p o) ≡ fitsBehind (width + widthOf p) o
+pub piece-passed : (width : ℕ) (p : Piece) (o : Option (List Piece)) → fitsBehind width (before p o) ≡ fitsBehind (width + widthOf p) o
 unfolding fitsBehind before totalWidth
 piece-passed width p (some ps) =
     let e : width + (widthOf p + totalWidth ps) ≡ width + widthOf p + totalWidth ps = omega arith in rw e

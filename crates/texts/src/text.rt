@@ -5,8 +5,11 @@ use arguments::argument::ArgumentRead;
 use scan::bytes;
 use scan::digits;
 use scan::digits::Numeral;
+use scan::run;
+use scan::run::Class;
 ghost use mathlib.Core.Path.{_≡_};
 ghost use Rattle.texts.specs.Text.{placesAt, fieldAt, pieceAt, widthOf, textFits};
+ghost use Rattle.texts.specs.Pieces.{plainRun};
 
 // `{argument,w}` says no places, `{argument,w.d}` says d.
 pub enum Places {
@@ -109,6 +112,15 @@ pub fn piece_at(line: &[u8], at: usize) -> PieceRead
         return PieceRead::NoPiece;
     }
     PieceRead::PieceTo(Piece::Plain(b), at + 1)
+}
+
+// The bytes from a place on up to the next brace, each of which is a piece.
+pub fn plain_run<'a>(line: &'a [u8], at: usize) -> &'a [u8]
+    ensures { λ r. ⌜ now r ≡ plainRun (now (line .entry)) at ⌝ }
+{
+    let rest = bytes::part(line, at, line.len());
+    let length = run::count(rest, Class::Unbraced);
+    &rest[..length]
 }
 
 pub fn width_of(piece: Piece) -> usize

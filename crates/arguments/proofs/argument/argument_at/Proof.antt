@@ -30,11 +30,11 @@ returns-2 : tie.Need-returns-2
 unfolding argumentAt argumentOf filterAt
 returns-2 c = rw (sym (c .before .before .before .before .before .operand-at .ensures) ∙ c .before .before .before .operand .given .1, ← c .before .byte .ensures, ne-eqb _ _ (c .if1 .taken))
 
-add-word-at : tie.Need-add-word-at
-add-word-at c = omega (arith, byte-within _ _ _ _ (c .before .before .byte .ensures) (c .before .if1 .left) (omega arith))
+add-filter-name : tie.Need-add-filter-name
+add-filter-name c = omega (arith, byte-within _ _ _ _ (c .before .byte .ensures) (c .if1 .left) (omega arith))
 
-word-at-requires : tie.Need-word-at-requires
-word-at-requires c κs = search needs
+filter-name-requires : tie.Need-filter-name-requires
+filter-name-requires c κs = search needs
 
 enum-known-k : tie.Need-enum-known-k
 enum-known-k c = search needs
@@ -44,21 +44,21 @@ enum-told-2 c = search needs
 
 returns-3 : tie.Need-returns-3
 unfolding argumentAt argumentOf filterAt
-returns-3 c = rw (sym (c .before .before .before .before .before .before .before .before .before .before .operand-at .ensures) ∙ c .before .before .before .before .before .before .before .before .operand .given .1, ← c .before .before .before .before .before .before .byte .ensures, eq-eqb _ _ (c .before .before .before .before .before .if1 .left), filter-by-number, sym (c .before .before .word-at .ensures) ∙ c .enum-told2 .given .1)
+returns-3 c = rw (sym (c .before .before .before .before .before .before .before .before .operand-at .ensures) ∙ c .before .before .before .before .before .before .operand .given .1, ← c .before .before .before .before .byte .ensures, eq-eqb _ _ (c .before .before .before .if1 .left), filter-by-number, sym (c .before .before .filter-name .ensures) ∙ c .enum-told2 .given .1)
 
 is-admitted-requires : tie.Need-is-admitted-requires
 is-admitted-requires c κs = search needs
 
 returns-4 : tie.Need-returns-4
 unfolding argumentAt argumentOf filterAt
-returns-4 c = rw (sym (c .before .before .before .before .before .before .before .before .before .before .before .before .before .operand-at .ensures) ∙ c .before .before .before .before .before .before .before .before .before .before .before .operand .given .1, ← c .before .before .before .before .before .before .before .before .before .byte .ensures, eq-eqb _ _ (c .before .before .before .before .before .before .before .before .if1 .left), filter-by-number, sym (c .before .before .before .before .before .word-at .ensures) ∙ c .before .before .before .k .given .1, sym (c .before .is-admitted .ensures) ∙ not-true _ (c .if2 .taken))
+returns-4 c = rw (sym (c .before .before .before .before .before .before .before .before .before .before .before .operand-at .ensures) ∙ c .before .before .before .before .before .before .before .before .before .operand .given .1, ← c .before .before .before .before .before .before .before .byte .ensures, eq-eqb _ _ (c .before .before .before .before .before .before .if1 .left), filter-by-number, sym (c .before .before .before .before .before .filter-name .ensures) ∙ c .before .before .before .k .given .1, sym (c .before .is-admitted .ensures) ∙ not-true _ (c .if2 .taken))
 
 filter-of-requires : tie.Need-filter-of-requires
 filter-of-requires c κs = search needs
 
 returns-5 : tie.Need-returns-5
 unfolding argumentAt argumentOf filterAt
-returns-5 c = rw (sym (c .before .before .before .before .before .before .before .before .before .before .before .before .before .before .operand-at .ensures) ∙ c .before .before .before .before .before .before .before .before .before .before .before .before .operand .given .1, ← c .before .before .before .before .before .before .before .before .before .before .byte .ensures, eq-eqb _ _ (c .before .before .before .before .before .before .before .before .before .if1 .left), filter-by-number, sym (c .before .before .before .before .before .before .word-at .ensures) ∙ c .before .before .before .before .k .given .1, sym (c .before .before .is-admitted .ensures) ∙ not-false _ (c .before .if2 .left), ← c .filter-of .ensures)
+returns-5 c = rw (sym (c .before .before .before .before .before .before .before .before .before .before .before .before .operand-at .ensures) ∙ c .before .before .before .before .before .before .before .before .before .before .operand .given .1, ← c .before .before .before .before .before .before .before .before .byte .ensures, eq-eqb _ _ (c .before .before .before .before .before .before .before .if1 .left), filter-by-number, sym (c .before .before .before .before .before .before .filter-name .ensures) ∙ c .before .before .before .before .k .given .1, sym (c .before .before .is-admitted .ensures) ∙ not-false _ (c .before .if2 .left), ← c .filter-of .ensures)
 
 pub argument-at-spec : {M : Type 1} → statement M
 argument-at-spec =
@@ -70,8 +70,8 @@ argument-at-spec =
     returns
     byte-requires
     returns-2
-    add-word-at
-    word-at-requires
+    add-filter-name
+    filter-name-requires
     enum-known-k
     enum-told-2
     returns-3
