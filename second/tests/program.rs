@@ -121,8 +121,8 @@ fn the_examples_list_has_no_form_feed() {
     let output = sheet(&example(), b"LIST\n");
     let text = String::from_utf8(output.stdout).unwrap();
     assert!(!text.contains('\x0C'));
-    assert!(text.contains("\nCo-60   ; 1332.49;???      ;    0.29\n"));
-    assert!(text.ends_with("\n0 0 1 410 41\n"));
+    assert!(text.contains("\nCo-60   ; 1332.49;???      ;???       ;    0.29\n"));
+    assert!(text.ends_with("\n0 0 1 537 85\n"));
 }
 
 #[test]

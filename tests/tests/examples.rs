@@ -205,17 +205,22 @@ fn sheet_has(sheet: &str, name: &str, from: usize, to: usize) -> String {
 
 #[test]
 fn sheet_and_list_have_the_same_activities_digit_by_digit() {
-    let (template, store) = (text("spreadsheet", "template"), store("spreadsheet"));
-    let sheet = report(&Template::check(&template).unwrap(), "SHEET", &store).text;
-    let rows = listed("spreadsheet", &store);
-    assert_eq!(rows.len(), 64);
-    for (name, digits) in rows {
-        assert_eq!(
-            sheet_has(&sheet, &format!("{name} "), 40, 51),
-            digits,
-            "{name}"
-        );
-        assert!(digits.parse::<f64>().is_ok(), "{digits}");
+    // A folder, the columns of SHEET's activity, the rows of LIST, and how many of these were found: the others are `???` in both.
+    let cases = [("activity", 51, 61, 10, 6), ("spreadsheet", 40, 51, 64, 64)];
+    for (example, from, to, count, found) in cases {
+        let (template, store) = (text(example, "template"), store(example));
+        let sheet = report(&Template::check(&template).unwrap(), "SHEET", &store).text;
+        let rows = listed(example, &store);
+        assert_eq!(rows.len(), count);
+        let numbers = rows
+            .iter()
+            .filter(|(_, digits)| digits.parse::<f64>().is_ok());
+        assert_eq!(numbers.count(), found);
+        for (name, digits) in rows {
+            let printed = sheet_has(&sheet, &format!("{name} "), from, to);
+            assert_eq!(printed, digits, "{example} {name}");
+            assert!(digits == "???" || digits.parse::<f64>().is_ok(), "{digits}");
+        }
     }
 }
 
