@@ -73,6 +73,7 @@ extern "C" {
         section: *const u8,
         section_length: usize,
         line: &mut u32,
+        start: &mut u32,
     ) -> u32;
     fn station_report(
         template_bytes: *const u8,
@@ -157,6 +158,13 @@ extern "C" {
         numbers: *mut u64,
         numbers_length: usize,
     ) -> bool;
+    fn station_skip(
+        rest: *const u8,
+        rest_length: usize,
+        code: u32,
+        bytes: &mut usize,
+        lines: &mut u32,
+    );
 }
 
 /// The number, and the answer handed back.
@@ -216,10 +224,10 @@ pub fn remove(buffer: &mut [u8], length: usize, key: &[u8]) -> (u32, usize) {
     (number, left)
 }
 
-/// The number and the line of checks 2 to 6.
+/// The number and the line of checks 2 to 6, and the line that a run starts with.
 #[inline]
-pub fn check(template: &[u8], section: &[u8]) -> (u32, u32) {
-    let mut line = u32::MAX;
+pub fn check_run(template: &[u8], section: &[u8]) -> (u32, u32, u32) {
+    let (mut line, mut start) = (u32::MAX, u32::MAX);
     let number = unsafe {
         station_check(
             template.as_ptr(),
@@ -227,8 +235,16 @@ pub fn check(template: &[u8], section: &[u8]) -> (u32, u32) {
             section.as_ptr(),
             section.len(),
             &mut line,
+            &mut start,
         )
     };
+    (number, line, start)
+}
+
+/// The number and the line of checks 2 to 6.
+#[inline]
+pub fn check(template: &[u8], section: &[u8]) -> (u32, u32) {
+    let (number, line, _) = check_run(template, section);
     (number, line)
 }
 
@@ -448,4 +464,12 @@ pub fn piece(line: &[u8], at: usize, numbers: &mut [u64]) -> bool {
             numbers.len(),
         )
     }
+}
+
+/// How many bytes and lines of the part of a template behind a line are passed over where it jumps.
+#[inline]
+pub fn skip(rest: &[u8], code: u32) -> (usize, u32) {
+    let (mut bytes, mut lines) = (usize::MAX, u32::MAX);
+    unsafe { station_skip(rest.as_ptr(), rest.len(), code, &mut bytes, &mut lines) };
+    (bytes, lines)
 }

@@ -16,7 +16,7 @@ int main(void) {
     uint8_t answered = 9;
     int64_t value;
     size_t place, count, left = 7, bytes, questions;
-    uint32_t line, pages;
+    uint32_t line, start = 7, pages, lines = 7;
     IS(station_ask(NULL, 0, 0, 1, 1, 1, 0, 0, &answered, &value, &place, &count), 0);
     IS(answered, STATION_MISSING);
     IS(station_ask(NULL, 0, 0, 2, 1, 1, 0, 0, &answered, &value, &place, &count), 0);
@@ -31,12 +31,16 @@ int main(void) {
     IS(station_put(NULL, 0, 0, cell, sizeof cell, &left), 16);
     IS(station_remove(NULL, 0, 0, NULL, 0, &left), 15);
     IS(station_remove(NULL, 0, 0, cell + 1, 7, &left), 17);
-    IS(station_check(NULL, 0, NULL, 0, &line), 6);
+    IS(station_check(NULL, 0, NULL, 0, &line, &start), 6);
+    IS(start, 0);
     IS(station_report(NULL, 0, NULL, 0, NULL, 0, 0, NULL, 0, NULL, 0, &line, &pages, &bytes, &questions), 6);
     IS(station_report(NULL, 0, NULL, 0, NULL, 0, 1, NULL, 0, NULL, 0, &line, &pages, &bytes, &questions), 1);
     IS(station_index(NULL, 0, 0, NULL, 0, &count), 0);
     IS(count, 0);
     IS(station_line(NULL, 0, NULL, 0), 0);
+    station_skip(NULL, 0, 0, &bytes, &lines);
+    IS(bytes, 0);
+    IS(lines, 0);
     IS(station_string_field(NULL, 0, 0, 1, NULL, 0), 0);
     return faults;
 }

@@ -65,9 +65,10 @@ uint32_t station_put(uint8_t *buffer, size_t buffer_length, size_t length, const
 uint32_t station_remove(uint8_t *buffer, size_t buffer_length, size_t length, const uint8_t *key, size_t key_length,
                         size_t *left);
 
-/* Checks 2 to 6 of a template, with the caller's section name: the number, and in *line the line that is named. */
+/* Checks 2 to 6 of a template, with the caller's section name: the number, in *line the line that is named, and in *start the
+   number of the line that a run starts with, 0 where the template is refused. */
 uint32_t station_check(const uint8_t *text, size_t text_length, const uint8_t *section, size_t section_length,
-                       uint32_t *line);
+                       uint32_t *line, uint32_t *start);
 
 /* The report of a template on the store in the first `length` bytes of a buffer. `section` is the caller's name for a
    section, empty for all. The text and the questions asked go to the starts of `text` and `reads`; the rest of both stays as

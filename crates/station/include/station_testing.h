@@ -1,5 +1,5 @@
 /* The calls of libstation.a that only tests and benchmarks need: numbers, fields, the index of a store, the parsed form of a
-   line. What station.h says of pointers, threads, stack and of these declarations holds here too. */
+   line, jumps. What station.h says of pointers, threads, stack and of these declarations holds here too. */
 #ifndef STATION_TESTING_H
 #define STATION_TESTING_H
 
@@ -81,6 +81,12 @@ void station_look_up(const uint8_t *buffer, size_t buffer_length, const uint16_t
    An index is two numbers: 1 and its value, 2 and n for IVn, 3 and 0 for LOOP. */
 bool station_line(const uint8_t *line, size_t line_length, uint64_t *numbers, size_t numbers_length);
 bool station_piece(const uint8_t *line, size_t line_length, size_t at, uint64_t *numbers, size_t numbers_length);
+
+/* A jump: how many bytes and lines are passed over in `rest`, the part of a template behind the line that jumps. code: 0 a failed
+   test, up to its matching $ELSE, or $ENDIF if there is none; 1 an executed $ELSE, up to $ENDIF; any other a table with n below
+   1, up to its $ET; that line included. Each line is taken by its word. Where none matches all is passed over, and nothing
+   of a part with more than STATION_TEMPLATE_BYTES. */
+void station_skip(const uint8_t *rest, size_t rest_length, uint32_t code, size_t *bytes, uint32_t *lines);
 
 #ifdef __cplusplus
 }

@@ -28,7 +28,8 @@ use Rattle.meaning.specs.declared.refusal.Refusal.{Refusal}
 use Rattle.template.specs.declared.Run.{Run}
 use Rattle.template.specs.declared.Checked.{Checked}
 use Rattle.template.specs.declared.Checked.the-variants.{Accepted, Refused}
-use Rattle.station.specs.Checks.{ToldCheck}
+use Rattle.template.specs.declared.seek.Skip.{Skip}
+use Rattle.station.specs.Checks.{ToldCheck, ToldSkip}
 use Rattle.station.specs.Codes.{Told, ToldUnits}
 use Rattle.store.specs.declared.Edited.{Edited}
 use Rattle.store.specs.Edit.{Edit, edit}
@@ -119,8 +120,11 @@ told-edit s e q = record {
 
 -- ---- checks
 
-pub check-accepted : {x y : Checked} {run : Run} → y ≡ x → y ≡ Accepted run → ToldCheck x 0 0
-check-accepted e h = record { number = rw (← e, h); line = rw (← e, h) }
+pub check-accepted : {x y : Checked} {run : Run} {s : ℕ} → y ≡ x → y ≡ Accepted run → s ≡ run .line → ToldCheck x 0 s 0
+check-accepted e h q = record { number = rw (← e, h); line = rw (← e, h); start = rw (← e, h) q }
 
-pub check-refused : {x y : Checked} {e : Refusal} {l r : ℕ} → y ≡ x → y ≡ Refused e l → r ≡ refusalNumber e → ToldCheck x l r
-check-refused p h q = record { number = rw (← p, h) q; line = rw (← p, h) }
+pub check-refused : {x y : Checked} {e : Refusal} {l r : ℕ} → y ≡ x → y ≡ Refused e l → r ≡ refusalNumber e → ToldCheck x l 0 r
+check-refused p h q = record { number = rw (← p, h) q; line = rw (← p, h); start = rw (← p, h) }
+
+pub told-skip : {x : Skip} (s : Skip) → s ≡ x → ToldSkip x (s .bytes) (s .lines)
+told-skip s e = record { bytes = ap (λ (y : Skip). y .bytes) e; lines = ap (λ (y : Skip). y .lines) e }
