@@ -343,28 +343,49 @@ fn every_prefix_of_the_shipped_templates_and_stores() {
     }
 }
 
-/// Every place of the template and of the store with each of the bytes that `to` gives.
-fn changed(section: &[u8], to: impl Fn(u8) -> Vec<u8>) {
+/// Every place of the template and of the store with each of the bytes that `to` gives, the places dealt out to a thread for
+/// each core.
+fn changed(section: &[u8], to: impl Fn(u8) -> Vec<u8> + Sync) {
+    let threads = std::thread::available_parallelism().map_or(1, usize::from);
+    let places: usize = std::thread::scope(|scope| {
+        let deal = |first| {
+            let to = &to;
+            scope.spawn(move || changed_from(first, threads, section, to))
+        };
+        let running: Vec<_> = (0..threads).map(deal).collect();
+        running.into_iter().map(|t| t.join().unwrap()).sum()
+    });
+    let sheets = SHIPPED.iter().filter(|sheet| sheet.1 == section);
+    let all: usize = sheets.map(|(t, _, s)| t.len() + s.len()).sum();
+    assert_eq!(places, all);
+}
+
+/// Every so manyth place from the first on; how many places these are.
+fn changed_from(first: usize, step: usize, section: &[u8], to: &impl Fn(u8) -> Vec<u8>) -> usize {
     let mut pair = Pair::new(ROOM, PLACES);
+    let mut places = 0;
     for (template, _, store) in SHIPPED.iter().filter(|sheet| sheet.1 == section) {
         let (mut template, mut store) = (template.to_vec(), store.to_vec());
-        for at in 0..template.len() {
+        for at in (first..template.len()).step_by(step) {
             let was = template[at];
             for byte in to(was) {
                 template[at] = byte;
                 pair.report(call(&template, section, &store), ROOM, PLACES);
             }
             template[at] = was;
+            places += 1;
         }
-        for at in 0..store.len() {
+        for at in (first..store.len()).step_by(step) {
             let was = store[at];
             for byte in to(was) {
                 store[at] = byte;
                 pair.report(call(&template, section, &store), ROOM, PLACES);
             }
             store[at] = was;
+            places += 1;
         }
     }
+    places
 }
 
 /// Each bit the other way, and the bytes that mean something in a template or a store.
@@ -388,9 +409,7 @@ fn every_single_byte_change_of_the_papers_sheet() {
     changed(b"A", |was| (0..=255).filter(|&b| b != was).collect());
 }
 
-/// Takes minutes: cargo test --release --test report -- --ignored
 #[test]
-#[ignore]
 fn every_single_byte_change_of_the_shipped_template_and_store() {
     changed(b"", |was| (0..=255).filter(|&b| b != was).collect());
 }
