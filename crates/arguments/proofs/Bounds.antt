@@ -13,7 +13,7 @@ use Rattle.arguments.specs.declared.index.Index.the-variants.{Fixed, Var
 use Rattle.arguments.specs.declared.operand.Operand.{Operand}
 use Rattle.arguments.specs.declared.operand.Operand.the-variants.{Number, Text, IntegerVariable, DecimalVariable, StringVariable, PageNumber, LineNumber, LoopCounter, RecordElement, EntryElement, Parameter, Record, Entry}
 use Rattle.arguments.specs.declared.argument.Argument.{Argument}
-use Rattle.arguments.specs.Argument.{countOf, admits}
+use Rattle.arguments.specs.Admitted.{countOf, admits}
 
 pub record Between (low high n : ℕ) : Type 0 where
   pub least : low ≤ n

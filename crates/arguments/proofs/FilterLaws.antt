@@ -8,8 +8,9 @@ use Rattle.scan.proofs.WordLaws.{tabled, by-number}
 use Rattle.arguments.specs.declared.operand.Operand.{Operand}
 use Rattle.arguments.specs.declared.operand.Operand.the-variants.{Number, Text, IntegerVariable, DecimalVariable, StringVariable, PageNumber, LineNumber, LoopCounter, RecordElement, EntryElement, Parameter, Record, Entry}
 use Rattle.arguments.specs.declared.argument.ArgumentRead.the-variants.{NoArgument}
-use Rattle.arguments.specs.Argument.{countOf, admits, filteredAt, filters}
-use Rattle.arguments.specs.Filtered.{filterNames, filterOf, countNumber, admitted, filterAt}
+use Rattle.arguments.specs.Admitted.{countOf, admits}
+use Rattle.arguments.specs.readers.Argument.{filteredAt, filters}
+use Rattle.arguments.specs.inner.Filtered.{filterNames, filterOf, countNumber, admitted, filterAt}
 
 all-filters : (o : Operand) → tabled filterNames (filterAt o) 6 0 ≡ filters o
 unfolding tabled filters belongs span wordIn filterOf countOf countNumber admitted filterAt admits filteredAt

@@ -6,8 +6,8 @@ use Rattle.scan.specs.Run.{belongs, span}
 use Rattle.scan.specs.Words.{wordIn, wordAt, wordOr}
 use Rattle.scan.proofs.WordLaws.{tabled, by-number}
 use Rattle.arguments.specs.declared.operand.OperandRead.the-variants.{NoOperand}
-use Rattle.arguments.specs.Operand.{wholeAt, names, namedAt}
-use Rattle.arguments.specs.Named.{nameWords, numbered, limitOf, nameAt}
+use Rattle.arguments.specs.readers.Operand.{wholeAt, names, namedAt}
+use Rattle.arguments.specs.inner.Named.{nameWords, numbered, limitOf, nameAt}
 
 all-names : tabled nameWords nameAt 9 0 ≡ names
 unfolding tabled names belongs span wordIn numbered limitOf wholeAt nameAt

@@ -11,8 +11,8 @@ use Rattle.scan.specs.Run.{belongs, span}
 use Rattle.scan.specs.Line.{byteAt}
 use Rattle.scan.specs.Words.{wordIn, wordAt, wordElse}
 use Rattle.scan.proofs.LetterLaws.{letter, Known, fits, fitsAll, none, _and_, tried, wordAmong, by-letters}
-use Rattle.arguments.specs.Named.{nameWords}
-use Rattle.arguments.specs.Filtered.{filterNames}
+use Rattle.arguments.specs.inner.Named.{nameWords}
+use Rattle.arguments.specs.inner.Filtered.{filterNames}
 
 -- a name with its number, or what else was found
 abbrev found : List ℕ → ℕ → String → ℕ → WordRead → WordRead

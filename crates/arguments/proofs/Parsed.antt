@@ -17,7 +17,7 @@ use Rattle.scan.specs.declared.run.Class.the-variants.{InString}
 use Rattle.scan.specs.Ascii.{ascii}
 use Rattle.scan.specs.Run.{span}
 use Rattle.scan.specs.Line.{byteAt, byteIs, window}
-use Rattle.scan.specs.Digits.{digitsAt, numberAt}
+use Rattle.scan.specs.readers.Digits.{digitsAt, numberAt}
 use Rattle.scan.specs.Words.{standsAt, firstOf}
 use Rattle.scan.proofs.OnwardLaws.{picked, tested}
 use Rattle.scan.proofs.DigitLaws.{digits-power}
@@ -37,10 +37,11 @@ use Rattle.arguments.specs.declared.argument.Filter.the-variants.{Absolu
 use Rattle.arguments.specs.declared.argument.Argument.{Argument}
 use Rattle.arguments.specs.declared.argument.ArgumentRead.{ArgumentRead}
 use Rattle.arguments.specs.declared.argument.ArgumentRead.the-variants.{ArgumentTo, NoArgument}
-use Rattle.arguments.specs.Literal.{inMillionths, fractionAt, unsignedAt, literalAt}
-use Rattle.arguments.specs.Index.{loopWord, variableWord, variableIndex, indexAt}
-use Rattle.arguments.specs.Operand.{stringEnd, stringAt, entryOf, recordOf, cellOf, cellAt, wholeAt, numberedOf, numberedAt, names, namedAt, numberOr, operandAt}
-use Rattle.arguments.specs.Argument.{countOf, admits, filteredAt, filters, argumentOf, argumentAt}
+use Rattle.arguments.specs.readers.Literal.{inMillionths, fractionAt, unsignedAt, literalAt}
+use Rattle.arguments.specs.readers.Index.{loopWord, variableWord, variableIndex, indexAt}
+use Rattle.arguments.specs.readers.Operand.{stringEnd, stringAt, entryOf, recordOf, cellOf, cellAt, wholeAt, numberedOf, numberedAt, names, namedAt, numberOr, operandAt}
+use Rattle.arguments.specs.Admitted.{countOf, admits}
+use Rattle.arguments.specs.readers.Argument.{filteredAt, filters, argumentOf, argumentAt}
 use Rattle.arguments.specs.Parameter.{parameterOf}
 pub use Rattle.arguments.proofs.Bounds.{Between, QuantityWithin, IndexWithin, StringWithin, OperandWithin, ArgumentWithin, questionsOf}
 

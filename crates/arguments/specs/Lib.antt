@@ -1,8 +1,5 @@
-pub mod Literal
-pub mod Index
-pub mod Operand
+pub mod Admitted
+pub mod readers
 pub mod Parameter
-pub mod Named
-pub mod Argument
-pub mod Filtered
+pub mod inner
 pub mod Rows

@@ -5,15 +5,16 @@ use Rattle.numbers.specs.declared.Quantity.the-variants.{Integer, Decimal}
 use Rattle.scan.specs.Ascii.{ascii}
 use Rattle.scan.specs.Run.{belongs, span}
 use Rattle.scan.specs.Line.{byteAt}
-use Rattle.scan.specs.Digits.{valueFrom, digitsAt, numberAt}
+use Rattle.scan.specs.Value.{valueFrom}
+use Rattle.scan.specs.readers.Digits.{digitsAt, numberAt}
 use Rattle.scan.specs.Words.{begins, standsAt, wordIn, wordFrom, wordAt, firstOf}
 use Rattle.arguments.specs.declared.literal.LiteralRead.the-variants.{LiteralTo, NoLiteral}
 use Rattle.arguments.specs.declared.index.Index.the-variants.{Fixed, Loop}
 use Rattle.arguments.specs.declared.operand.Operand.the-variants.{Text, IntegerVariable, RecordElement, Parameter, Entry}
 use Rattle.arguments.specs.declared.operand.OperandRead.the-variants.{OperandTo, NoOperand}
-use Rattle.arguments.specs.Literal.{inMillionths, fractionAt, unsignedAt, literalAt}
-use Rattle.arguments.specs.Index.{variableIndex, indexAt}
-use Rattle.arguments.specs.Operand.{stringAt, entryOf, recordOf, cellOf, cellAt, wholeAt, numberedOf, numberedAt, names, namedAt, numberOr, operandAt}
+use Rattle.arguments.specs.readers.Literal.{inMillionths, fractionAt, unsignedAt, literalAt}
+use Rattle.arguments.specs.readers.Index.{variableIndex, indexAt}
+use Rattle.arguments.specs.readers.Operand.{stringAt, entryOf, recordOf, cellOf, cellAt, wholeAt, numberedOf, numberedAt, names, namedAt, numberOr, operandAt}
 
 abbrev Rows : Type 0
 Rows =

@@ -6,8 +6,9 @@ use crate::operand::OperandRead;
 use scan::bytes;
 use scan::words::WordRead;
 ghost use mathlib.Core.Path.{_≡_};
-ghost use Rattle.arguments.specs.Argument.{countOf, argumentAt};
-ghost use Rattle.arguments.specs.Filtered.{filterOf, countNumber, admitted};
+ghost use Rattle.arguments.specs.Admitted.{countOf};
+ghost use Rattle.arguments.specs.readers.Argument.{argumentAt};
+ghost use Rattle.arguments.specs.inner.Filtered.{filterOf, countNumber, admitted};
 
 pub enum Filter {
     Unfiltered,

@@ -3,7 +3,7 @@ use scan::digits;
 use scan::digits::Numeral;
 use scan::words;
 ghost use mathlib.Core.Path.{_≡_};
-ghost use Rattle.arguments.specs.Index.{indexAt};
+ghost use Rattle.arguments.specs.readers.Index.{indexAt};
 
 pub enum Index {
     // 1–3 digits

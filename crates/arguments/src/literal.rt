@@ -5,7 +5,7 @@ use scan::digits;
 ghost use mathlib.Core.Path.{_≡_};
 ghost use Prim.Native.Nat.{_<_, _^_};
 ghost use Rattle.numbers.specs.Sign.{signed};
-ghost use Rattle.arguments.specs.Literal.{literalAt, unsignedAt, fractionAt};
+ghost use Rattle.arguments.specs.readers.Literal.{literalAt, unsignedAt, fractionAt};
 
 // A number, and the place behind it.
 pub enum LiteralRead {

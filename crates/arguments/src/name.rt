@@ -4,8 +4,8 @@ use scan::words;
 use scan::words::WordRead;
 ghost use mathlib.Core.Path.{_≡_};
 ghost use Rattle.scan.specs.Words.{wordAt};
-ghost use Rattle.arguments.specs.Named.{nameWords};
-ghost use Rattle.arguments.specs.Filtered.{filterNames};
+ghost use Rattle.arguments.specs.inner.Named.{nameWords};
+ghost use Rattle.arguments.specs.inner.Filtered.{filterNames};
 
 // Any of the operands' names. Apart from its caller, since the table is built with each call.
 fn any_operand(line: &[u8], at: usize) -> WordRead

@@ -13,8 +13,8 @@ use scan::run;
 use scan::run::Class;
 use scan::words::WordRead;
 ghost use mathlib.Core.Path.{_≡_};
-ghost use Rattle.arguments.specs.Operand.{stringAt, cellAt, numberedAt, namedAt, operandAt};
-ghost use Rattle.arguments.specs.Named.{numbered, limitOf};
+ghost use Rattle.arguments.specs.readers.Operand.{stringAt, cellAt, numberedAt, namedAt, operandAt};
+ghost use Rattle.arguments.specs.inner.Named.{numbered, limitOf};
 
 pub enum Operand {
     Number(Quantity),

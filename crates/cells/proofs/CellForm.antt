@@ -14,7 +14,7 @@ use Rattle.meaning.specs.Answer.{Value, integer, decimal, string}
 use Rattle.numbers.specs.Range.{integerLimit, decimalLimit, within}
 use Rattle.cells.specs.Bytes.{pair, quad, octet, pairAt, quadAt, octetAt, unsigned, signed, word, long, begins}
 use Rattle.cells.specs.Cell.{Key, Cell, between, keyAllowed, keyBytes, number, each, printable, valueAllowed, cellAllowed, kindOf, integerKind, decimalKind, stringKind, valueBytes, cellBytes, keyAt, valueOf, cellOf, front}
-use Rattle.cells.specs.Tests.{sizeOf, zeros, stringFormed, valueFormed, sizeFound, frontSize, Sized}
+use Rattle.cells.specs.inner.Tests.{sizeOf, zeros, stringFormed, valueFormed, sizeFound, frontSize, Sized}
 use Rattle.cells.proofs.BigEndian.{Bytes, and-true, both, begins-self, begins-says, pair-reads, quad-reads, octet-reads, signed-unsigned, unsigned-signed, quad-below, octet-below, next, pair-back, quad-back, octet-back}
 
 -- ---- the limits of a key

@@ -10,7 +10,7 @@ use lib.Dec.{ltb, leb, eqb}
 use lib.ListN.{length, getD}
 use mathlib.Core.Logic.{⊎-elim}
 use Rattle.cells.specs.Cell.{number, keyAt}
-use Rattle.cells.specs.Index.{keyIn, Sorted, Position, belowOf, boundOf}
+use Rattle.cells.specs.inner.Index.{keyIn, Sorted, Position, belowOf, boundOf}
 
 pub record Halved (b places : List ℕ) (count k low size : ℕ) : Type 0 where
   pub few : low + size ≤ count

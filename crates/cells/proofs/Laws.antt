@@ -10,7 +10,7 @@ use lib.ListN.{length, getD, take, drop, drop-of-length-le}
 use Rattle.numbers.specs.Range.{integerLimit, decimalLimit, within}
 use Rattle.cells.specs.Bytes.{quadAt, octetAt, signed, word, long}
 use Rattle.cells.specs.Cell.{between, each, printable, integerKind, decimalKind, stringKind}
-use Rattle.cells.specs.Tests.{sizeOf, zeros, stringFormed, valueFormed}
+use Rattle.cells.specs.inner.Tests.{sizeOf, zeros, stringFormed, valueFormed}
 use Rattle.cells.proofs.BigEndian.{next}
 
 pub between-low : (low high n : ℕ) → n < low → between low high n ≡ false

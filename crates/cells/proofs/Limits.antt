@@ -17,7 +17,7 @@ use Rattle.meaning.specs.declared.refusal.Refusal.the-variants.{BadRequest}
 use Rattle.cells.specs.declared.Answered.{Answered}
 use Rattle.cells.specs.Cell.{Cell, number, numberOf, printable, valueAllowed, cellAllowed}
 use Rattle.cells.specs.Store.{allowed, held}
-use Rattle.cells.specs.Index.{Ready, Answers}
+use Rattle.cells.specs.inner.Index.{Ready, Answers}
 use Rattle.cells.specs.Asking.{asked, questionAllowed, lookup, found, highestOf, ofParameter, ofRecord, answer, answeredAsk, refusedAsk, replied, askOf, meant}
 use Rattle.cells.proofs.BigEndian.{and-true}
 use Rattle.cells.proofs.CellForm.{limits, key-allowed, value-allowed}

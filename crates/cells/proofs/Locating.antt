@@ -12,7 +12,7 @@ use lib.Seq.{getD-drop, drop-append-seam, getD-at, length-take-le}
 use Rattle.cells.specs.Bytes.{pairAt, quadAt, octetAt}
 use Rattle.cells.specs.Cell.{Cell, number, numberOf, keyAt, cellAllowed, cellBytes, kindOf}
 use Rattle.cells.specs.Store.{encode, allowed, above, rising, cells, held}
-use Rattle.cells.specs.Index.{offsets, Ready, keyIn, Sorted, First}
+use Rattle.cells.specs.inner.Index.{offsets, Ready, keyIn, Sorted, First}
 use Rattle.cells.proofs.BigEndian.{and-true}
 use Rattle.cells.proofs.CellForm.{number-small, cell-key, cell-size, size-least, known-kind, key-allowed, value-allowed}
 use Rattle.cells.proofs.Runs.{Holds, cells-some, none-some}

@@ -13,8 +13,8 @@ use Rattle.cells.specs.declared.Answered.the-variants.{Missing, Highest}
 use Rattle.cells.specs.Bytes.{pair, pairAt}
 use Rattle.cells.specs.Cell.{Key, Cell, between, keyAllowed, keyBytes, number, cellBytes}
 use Rattle.cells.specs.Asking.{asked, unusedZero, questionAllowed, ofParameter, ofRecord, answer, meant, InStore}
-use Rattle.cells.specs.Index as I
-use Rattle.cells.specs.Index.{Ready, CellAnswer, Answers, reachOf, offsetOf}
+use Rattle.cells.specs.inner.Index as I
+use Rattle.cells.specs.inner.Index.{Ready, CellAnswer, Answers, reachOf, offsetOf}
 use Rattle.cells.proofs.BigEndian.{and-true, both, pair-reads}
 use Rattle.cells.proofs.CellForm.{key-allowed, Limits, limits}
 use Rattle.cells.proofs.Locating.{held-some}

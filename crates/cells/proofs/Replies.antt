@@ -18,7 +18,7 @@ use Rattle.cells.specs.declared.index.Indexed.{Indexed}
 use Rattle.cells.specs.declared.index.Indexed.the-variants.{Count, BadStore}
 use Rattle.cells.specs.Cell.{Cell, cellAllowed, cellBytes}
 use Rattle.cells.specs.Store.{encode, allowed, held}
-use Rattle.cells.specs.Index.{offsets, counted, Filled, Indexes, Ready, Answers}
+use Rattle.cells.specs.inner.Index.{offsets, counted, Filled, Indexes, Ready, Answers}
 use Rattle.cells.specs.Asking.{questionAllowed, refusedWith, replied, askOf, meant, InStore, reply}
 use Rattle.cells.proofs.BigEndian.{and-true}
 use Rattle.cells.proofs.Locating.{held-some, cell-least}

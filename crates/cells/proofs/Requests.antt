@@ -11,8 +11,8 @@ use lib.ListN.{length, drop-of-length-le}
 use Rattle.cells.specs.declared.request.Request.the-variants as R
 use Rattle.cells.specs.Bytes.{begins, same}
 use Rattle.cells.specs.Cell.{Key, Cell, number, keyAllowed, keyAt, keyBytes, cellAllowed, cellBytes, cellOf, kindOf, front, wholeCell, wholeKey}
-use Rattle.cells.specs.Tests.{sizeFound, frontSize, Sized}
-use Rattle.cells.specs.Request.{requested, requestedKey, CellAsked, KeyAsked}
+use Rattle.cells.specs.inner.Tests.{sizeFound, frontSize, Sized}
+use Rattle.cells.specs.inner.Request.{requested, requestedKey, CellAsked, KeyAsked}
 use Rattle.cells.proofs.BigEndian.{Bytes, and-true, both, begins-self, begins-says}
 use Rattle.cells.proofs.CellForm.{front-some, front-cell, cell-reads, value-allowed, cell-key, key-back, length-key, key-reads, cell-size, size-most}
 use Rattle.cells.proofs.Walking.{size-found, size-none}

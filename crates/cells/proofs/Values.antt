@@ -17,9 +17,9 @@ use Rattle.meaning.specs.Answer.{integer, decimal, string, cell}
 use Rattle.cells.specs.declared.Answered.the-variants.{Missing, Integer, Decimal, Text}
 use Rattle.cells.specs.Bytes.{quadAt, octetAt, signed, word, long}
 use Rattle.cells.specs.Cell.{Cell, cellAllowed, cellBytes, kindOf, integerKind, decimalKind, valueOf}
-use Rattle.cells.specs.Tests.{sizeOf}
+use Rattle.cells.specs.inner.Tests.{sizeOf}
 use Rattle.cells.specs.Asking.{meant, InStore}
-use Rattle.cells.specs.Index.{ValueAt, SizeAt}
+use Rattle.cells.specs.inner.Index.{ValueAt, SizeAt}
 use Rattle.cells.proofs.CellForm.{first-byte, value-reads, value-allowed, cell-size, known-kind, size-string, string-short}
 use Rattle.cells.proofs.Locating.{quad-at, octet-at, cell-least}
 

@@ -14,9 +14,9 @@ use Rattle.buffers.proofs.Laws.{sets-append}
 use Rattle.cells.specs.declared.index.Indexed.{Indexed}
 use Rattle.cells.specs.declared.index.Indexed.the-variants.{Count, BadStore}
 use Rattle.cells.specs.Cell.{Cell, number, numberOf, keyAt, cellAllowed, cellBytes, front}
-use Rattle.cells.specs.Tests.{sizeFound, frontSize, Sized}
+use Rattle.cells.specs.inner.Tests.{sizeFound, frontSize, Sized}
 use Rattle.cells.specs.Store.{encode, allowed, above, rising, cells, held}
-use Rattle.cells.specs.Index.{offsets, counted, Filled, Indexes}
+use Rattle.cells.specs.inner.Index.{offsets, counted, Filled, Indexes}
 use Rattle.cells.proofs.BigEndian.{and-true, both, append-same}
 use Rattle.cells.proofs.CellForm.{cell-key, front-cell, Front, front-some}
 use Rattle.cells.proofs.Runs.{Valid, Holds, cell-some, cells-encode, cells-some}

@@ -2,7 +2,5 @@ pub mod Bytes
 pub mod Cell
 pub mod Store
 pub mod Asking
-pub mod Index
-pub mod Tests
-pub mod Request
+pub mod inner
 pub mod Rows

@@ -6,7 +6,7 @@ ghost use Prim.Native.Nat.{_+_, _/_, _≤_, _<_};
 ghost use lib.Dec.{eqb};
 ghost use lib.ListN.{length, getD};
 ghost use Rattle.cells.specs.Cell.{number, keyAt};
-ghost use Rattle.cells.specs.Index.{Position, SizeAt, belowOf, boundOf};
+ghost use Rattle.cells.specs.inner.Index.{Position, SizeAt, belowOf, boundOf};
 
 // So many keys have 7 bytes: 2^56.
 const KEYS: u64 = 72057594037927936;

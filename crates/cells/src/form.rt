@@ -6,8 +6,8 @@ ghost use lib.ListN.{length, getD};
 ghost use Rattle.numbers.specs.Range.{within};
 ghost use Rattle.cells.specs.Bytes.{signed};
 ghost use Rattle.cells.specs.Cell.{between, each, keyAllowed, keyAt};
-ghost use Rattle.cells.specs.Tests.{sizeOf, stringFormed, valueFormed, Sized};
-ghost use Rattle.cells.specs.Tests as T;
+ghost use Rattle.cells.specs.inner.Tests.{sizeOf, stringFormed, valueFormed, Sized};
+ghost use Rattle.cells.specs.inner.Tests as T;
 
 pub const INTEGER: u8 = 0x49;
 

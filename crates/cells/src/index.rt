@@ -5,7 +5,7 @@ ghost use mathlib.Core.Path.{_≡_};
 ghost use Prim.Native.Nat.{_+_, _≤_, _<_};
 ghost use lib.ListN.{length, set};
 ghost use Rattle.cells.specs.Store.{cells, held};
-ghost use Rattle.cells.specs.Index.{Indexes};
+ghost use Rattle.cells.specs.inner.Index.{Indexes};
 
 // What the walk found: so many cells, or a store out of form.
 pub enum Indexed {

@@ -8,9 +8,9 @@ ghost use mathlib.Core.Path.{_≡_};
 ghost use mathlib.Core.Bool.{true};
 ghost use Prim.Native.Nat.{_+_, _≤_, _<_};
 ghost use Rattle.cells.specs.Cell.{number, keyAllowed};
-ghost use Rattle.cells.specs.Tests.{keyOf};
+ghost use Rattle.cells.specs.inner.Tests.{keyOf};
 ghost use Rattle.cells.specs.Asking.{questionAllowed};
-ghost use Rattle.cells.specs.Index.{CellAnswer, Highest, Answers, reachOf, offsetOf};
+ghost use Rattle.cells.specs.inner.Index.{CellAnswer, Highest, Answers, reachOf, offsetOf};
 
 fn wide(n: u32) -> u64
     ensures { λ r. ⌜ r ≡ n ⌝ }

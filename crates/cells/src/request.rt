@@ -2,7 +2,7 @@
 use crate::bytes;
 use crate::form;
 ghost use Rattle.cells.specs.Cell.{wholeCell, wholeKey};
-ghost use Rattle.cells.specs.Request.{CellAsked, KeyAsked};
+ghost use Rattle.cells.specs.inner.Request.{CellAsked, KeyAsked};
 
 // The key of a request as one number, or a request out of form.
 pub enum Request {

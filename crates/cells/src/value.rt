@@ -6,7 +6,7 @@ ghost use mathlib.Core.Path.{_≡_};
 ghost use Prim.Native.Nat.{_+_, _≤_, _<_};
 ghost use lib.ListN.{length};
 ghost use Rattle.cells.specs.Bytes.{pairAt, signed};
-ghost use Rattle.cells.specs.Index.{ValueAt};
+ghost use Rattle.cells.specs.inner.Index.{ValueAt};
 
 // The value of 32 bits in two's complement, without a branch.
 fn signed_quad(n: u64) -> i64

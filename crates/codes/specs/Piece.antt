@@ -8,7 +8,7 @@ use Rattle.texts.specs.declared.text.Piece.{Piece}
 use Rattle.texts.specs.declared.text.Piece.the-variants.{Plain, Placed}
 use Rattle.texts.specs.declared.text.PieceRead.{PieceRead}
 use Rattle.texts.specs.declared.text.PieceRead.the-variants.{PieceTo, NoPiece}
-use Rattle.texts.specs.Text.{pieceAt}
+use Rattle.texts.specs.readers.Text.{pieceAt}
 use Rattle.codes.specs.declared.row.Pair.{Pair}
 use Rattle.codes.specs.declared.row.Seven.{Seven}
 use Rattle.codes.specs.declared.row.Row.{Row}

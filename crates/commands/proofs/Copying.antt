@@ -21,7 +21,7 @@ use Rattle.values.proofs.Texts.{text-is, length-cased}
 use Rattle.commands.specs.declared.settle.Phrase.{Phrase}
 use Rattle.commands.specs.declared.settle.Phrase.the-variants.{String, NoString}
 use Rattle.commands.specs.Setting.{setNumbered, stored, stringNew}
-use Rattle.commands.specs.Contracts.{TakesText, Held, PutsString, StoresString}
+use Rattle.commands.specs.inner.Contracts.{TakesText, Held, PutsString, StoresString}
 use Rattle.commands.proofs.Sets.{put-none, put-in, put-past}
 
 -- ---- a copy of at most 16 bytes

@@ -18,15 +18,15 @@ use Rattle.meaning.proofs.Doing.{then-does, then-over, does-done, does-stop}
 use Rattle.arguments.specs.declared.argument.Argument.{Argument}
 use Rattle.values.specs.declared.scene.Scene.{Scene}
 use Rattle.values.specs.declared.worth.Valued.{Valued}
-use Rattle.values.specs.Word.{questions}
+use Rattle.values.specs.inner.Word.{questions}
 use Rattle.values.specs.Worth.{Worth}
 use Rattle.values.specs.State.{answers, Strings, strings, meant, machine}
 use Rattle.values.specs.Meanings.{argumentMeaning}
-use Rattle.values.specs.Yielding.{Yields, ArgumentValue}
+use Rattle.values.specs.inner.Yielding.{Yields, ArgumentValue}
 use Rattle.commands.specs.declared.settle.Taken.{Taken}
 use Rattle.commands.specs.declared.taking.Counted.{Counted}
 use Rattle.commands.specs.Settling.{Settled, settled, against, andThen, concluded, endIn, integerFrom, integerMeaning}
-use Rattle.commands.specs.Contracts.{takenOf, Takes, Concludes, Runs, TakesIntegerValue}
+use Rattle.commands.specs.inner.Contracts.{takenOf, Takes, Concludes, Runs, TakesIntegerValue}
 
 concluded-does : {A : Type 0} (source : Question → Answer) (P : Place Question) (line : ℕ) (x : Settled A) → Does source (concluded line x) P P (endIn line x)
 concluded-does source P line (settled a) = does-done source P a

@@ -13,7 +13,7 @@ use Rattle.meaning.specs.declared.end.Ended.the-variants.{Finished, Halted}
 use Rattle.arguments.specs.declared.index.Index.{Index}
 use Rattle.values.specs.declared.scene.Scene.{Scene}
 use Rattle.values.specs.Meanings.{indexNumber}
-use Rattle.values.specs.Yielding.{placeOf}
+use Rattle.values.specs.inner.Yielding.{placeOf}
 use Rattle.commands.specs.Settling.{Settled, settled, against}
 use Rattle.commands.specs.Selecting.{datasourceFrom, datasourceMeaning, Selects}
 use Rattle.commands.proofs.Running.{runs-still}

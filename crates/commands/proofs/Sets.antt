@@ -25,12 +25,12 @@ use Rattle.values.specs.Worth as D
 use Rattle.values.specs.Machine.{Machine, numbered}
 use Rattle.values.specs.Meanings.{argumentMeaning}
 use Rattle.values.specs.State.{Strings, strings, meant, machine}
-use Rattle.values.specs.Yielding.{ArgumentValue}
+use Rattle.values.specs.inner.Yielding.{ArgumentValue}
 use Rattle.commands.specs.declared.settle.Taken.{Taken}
 use Rattle.commands.specs.declared.settle.Taken.the-variants.{Value, Refused}
 use Rattle.commands.specs.Settling.{Settled, resultOf}
 use Rattle.commands.specs.Setting.{setNumbered, stored, newFrom, integerNew, decimalNew, stringNew, withIntegers, withDecimals, withStrings, setOf, setMeaning}
-use Rattle.commands.specs.Contracts.{takenOf, Takes, Concludes, Held, StoresString, Assigns, SetsVariable}
+use Rattle.commands.specs.inner.Contracts.{takenOf, Takes, Concludes, Held, StoresString, Assigns, SetsVariable}
 use Rattle.commands.proofs.Running.{concludes-in, value-over, value-follows}
 
 -- ---- what a variable becomes

@@ -21,7 +21,7 @@ use Rattle.commands.specs.declared.settle.Taken.the-variants.{Value, Ref
 use Rattle.commands.specs.declared.settle.Amount.the-variants as A
 use Rattle.commands.specs.declared.settle.Phrase.the-variants as P
 use Rattle.commands.specs.Settling.{settled, against, integerFrom, quantityFrom, stringFrom, decimalFrom, resultOf, millionthsOf}
-use Rattle.commands.specs.Contracts.{takenOf, Takes, TakesQuantity, TakesText, Concludes}
+use Rattle.commands.specs.inner.Contracts.{takenOf, Takes, TakesQuantity, TakesText, Concludes}
 
 module _ (n : Number) where
   pub result-value : (z m : ℤ) → n ≡ N.Value z → m ≡ z → settled m ≡ resultOf (outcome n)

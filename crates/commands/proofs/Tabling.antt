@@ -22,13 +22,13 @@ use Rattle.lines.specs.declared.command.Optional.the-variants.{Given, Absent}
 use Rattle.values.specs.declared.scene.Scene.{Scene}
 use Rattle.values.specs.State.{machine}
 use Rattle.arguments.specs.Parameter.{parameterOf}
-use Rattle.values.specs.Yielding.{Askable}
+use Rattle.values.specs.inner.Yielding.{Askable}
 use Rattle.commands.specs.declared.table.Table.{Table}
 use Rattle.commands.specs.declared.table.Tables.{Tables}
 use Rattle.commands.specs.declared.table.Looped.{Looped}
 use Rattle.commands.specs.declared.taking.Counted.{Counted}
 use Rattle.commands.specs.Settling.{Settled, settled, against, integerMeaning}
-use Rattle.commands.specs.Contracts.{TakesIntegerValue}
+use Rattle.commands.specs.inner.Contracts.{TakesIntegerValue}
 use Rattle.commands.specs.Looping.{loop, Looping, looping, newTable, begun, beginMeaning, noTable, innermost, exceeds, countedTo, counting, counted, endMeaning, opened, openOf, loopingOf, wentIn, overIn, AtMostOpen, Closes, parameterIn, Loops, BeginsTable, EndsTable}
 use Rattle.commands.proofs.Running.{runs-over, runs-follow, runs-still}
 

@@ -26,7 +26,7 @@ use Rattle.values.specs.Letters.{equalStrings}
 use Rattle.values.specs.Worth as D
 use Rattle.values.specs.Meanings.{argumentMeaning}
 use Rattle.values.specs.State.{Strings, strings, textOf, meant, machine}
-use Rattle.values.specs.Yielding.{Askable, ArgumentValue}
+use Rattle.values.specs.inner.Yielding.{Askable, ArgumentValue}
 use Rattle.commands.specs.declared.settle.Amount.{Amount}
 use Rattle.commands.specs.declared.settle.Amount.the-variants.{Number, NoNumber}
 use Rattle.commands.specs.declared.settle.Phrase.{Phrase}
@@ -36,7 +36,7 @@ use Rattle.commands.specs.declared.test.Judged.the-variants.{Holds, Refu
 use Rattle.commands.specs.declared.test.Tested.{Tested}
 use Rattle.commands.specs.Settling.{settled, against}
 use Rattle.commands.specs.Testing.{zeroTest, zeroJudged, textual, ignoring, numbersHold, ofNumbers, ofStrings, isMissing, compared, zeroMeaning, testMeaning}
-use Rattle.commands.specs.Contracts.{judgedOf, TakesQuantity, TakesText, Lacks, JudgesNumbers, JudgesZero, Concludes, TestsZero, Tests}
+use Rattle.commands.specs.inner.Contracts.{judgedOf, TakesQuantity, TakesText, Lacks, JudgesNumbers, JudgesZero, Concludes, TestsZero, Tests}
 use Rattle.commands.proofs.Running.{value-over, value-follows, first-over, second-over, both-follow}
 
 -- ---- whether a value is missing

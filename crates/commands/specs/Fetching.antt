@@ -13,7 +13,7 @@ use Rattle.values.specs.Fetching.{fetchMeaning}
 use Rattle.values.specs.State.{machine}
 use Rattle.commands.specs.declared.settle.Done.{Done}
 use Rattle.commands.specs.Setting.{setNumbered}
-use Rattle.commands.specs.Contracts.{Runs}
+use Rattle.commands.specs.inner.Contracts.{Runs}
 
 abbrev pub withRecords : Machine → List (List Answer) → Machine
 withRecords m l = record { integers = m .integers; decimals = m .decimals; strings = m .strings; counter = m .counter; records = l; entries = m .entries; datasource = m .datasource; page = m .page; row = m .row }

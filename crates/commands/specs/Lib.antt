@@ -1,7 +1,7 @@
 pub mod Settling
 pub mod Setting
 pub mod Testing
-pub mod Contracts
+pub mod inner
 pub mod Fetching
 pub mod Looping
 pub mod Selecting

@@ -23,7 +23,7 @@ use Rattle.commands.specs.declared.table.Table.{Table}
 use Rattle.commands.specs.declared.table.Tables.{Tables}
 use Rattle.commands.specs.declared.table.Looped.{Looped}
 use Rattle.commands.specs.Settling.{Settled, settled, against, concluded, integerMeaning}
-use Rattle.commands.specs.Contracts.{Concludes, Runs}
+use Rattle.commands.specs.inner.Contracts.{Concludes, Runs}
 
 -- "LOOP is the innermost table's counter, 0 outside"; the open tables stand the innermost first
 unfoldable pub loop : List Table → ℕ

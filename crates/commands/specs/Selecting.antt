@@ -16,7 +16,7 @@ use Rattle.values.specs.Meanings.{indexNumber}
 use Rattle.values.specs.State.{machine}
 use Rattle.commands.specs.declared.datasource.Selected.{Selected}
 use Rattle.commands.specs.Settling.{Settled, settled, against, concluded}
-use Rattle.commands.specs.Contracts.{Runs}
+use Rattle.commands.specs.inner.Contracts.{Runs}
 
 -- 8: "a $SETDS number outside 1–35"
 unfoldable pub datasourceFrom : ℤ → Settled ℕ

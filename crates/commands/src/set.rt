@@ -18,10 +18,10 @@ use values::worth::Worth;
 ghost use mathlib.Core.Path.{_≡_};
 ghost use Rattle.numbers.specs.Outcome.{outcome};
 ghost use Rattle.arguments.specs.Parameter.{parameterOf};
-ghost use Rattle.values.specs.Yielding.{Askable, Sized};
+ghost use Rattle.values.specs.inner.Yielding.{Askable, Sized};
 ghost use Rattle.commands.specs.Setting.{integerOutcome, decimalOutcome, integerNew, decimalNew, setNumbered};
 ghost use Rattle.commands.specs.Setting as S;
-ghost use Rattle.commands.specs.Contracts.{takenOf, Takes, Concludes, Held, Assigns, SetsVariable};
+ghost use Rattle.commands.specs.inner.Contracts.{takenOf, Takes, Concludes, Held, Assigns, SetsVariable};
 
 // "set, add, subtract, multiply, divide"
 fn integer_result(o: Operation, a: i64, b: i64) -> Number

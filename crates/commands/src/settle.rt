@@ -8,7 +8,7 @@ use values::worth::Worth;
 ghost use mathlib.Core.Path.{_≡_};
 ghost use Rattle.numbers.specs.Outcome.{outcome};
 ghost use Rattle.commands.specs.Settling.{resultOf, millionthsOf, integerFrom, decimalFrom};
-ghost use Rattle.commands.specs.Contracts.{takenOf, Takes, TakesQuantity, TakesText};
+ghost use Rattle.commands.specs.inner.Contracts.{takenOf, Takes, TakesQuantity, TakesText};
 
 // How a line ended, and how many questions have been asked now.
 pub struct Done {

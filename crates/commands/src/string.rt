@@ -9,7 +9,7 @@ ghost use mathlib.Core.Path.{_≡_};
 ghost use lib.ListN.{length, take};
 ghost use lib.Seq.{sets};
 ghost use Rattle.values.specs.State.{zeros, cased};
-ghost use Rattle.commands.specs.Contracts.{Held, PutsString, StoresString};
+ghost use Rattle.commands.specs.inner.Contracts.{Held, PutsString, StoresString};
 
 // The first 16 bytes, in upper case where the flag is set.
 fn copied(bytes: &[u8], raised: bool) -> [u8; 16]

@@ -13,7 +13,7 @@ ghost use mathlib.Core.List.{[], _∷_};
 ghost use lib.IntN.{pos};
 ghost use lib.Signed.{ltZ};
 ghost use Rattle.arguments.specs.Parameter.{parameterOf};
-ghost use Rattle.values.specs.Yielding.{Askable, Sized};
+ghost use Rattle.values.specs.inner.Yielding.{Askable, Sized};
 ghost use Rattle.commands.specs.Settling.{settled};
 ghost use Rattle.commands.specs.Looping as L;
 ghost use Rattle.commands.specs.Looping.{noTable, openOf, countedTo, wentIn, overIn, AtMostOpen, Closes, parameterIn, Loops, BeginsTable, EndsTable};

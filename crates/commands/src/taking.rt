@@ -8,8 +8,8 @@ use values::scene::Scene;
 use values::value;
 ghost use mathlib.Core.Path.{_≡_};
 ghost use Rattle.arguments.specs.Parameter.{parameterOf};
-ghost use Rattle.values.specs.Yielding.{Askable, Sized};
-ghost use Rattle.commands.specs.Contracts.{takenOf, Concludes, TakesIntegerValue};
+ghost use Rattle.values.specs.inner.Yielding.{Askable, Sized};
+ghost use Rattle.commands.specs.inner.Contracts.{takenOf, Concludes, TakesIntegerValue};
 
 // How an argument ended, its integer, and how many questions have been asked now.
 pub struct Counted {

@@ -17,9 +17,9 @@ ghost use mathlib.Core.Path.{_≡_};
 ghost use Prim.Native.Nat.{_+_};
 ghost use Rattle.values.specs.State.{meant, strings as stringsOf};
 ghost use Rattle.arguments.specs.Parameter.{parameterOf};
-ghost use Rattle.values.specs.Yielding.{Askable, Sized};
+ghost use Rattle.values.specs.inner.Yielding.{Askable, Sized};
 ghost use Rattle.commands.specs.Testing as T;
-ghost use Rattle.commands.specs.Contracts.{judgedOf, Lacks, JudgesNumbers, JudgesZero, Concludes, TestsZero, Tests};
+ghost use Rattle.commands.specs.inner.Contracts.{judgedOf, Lacks, JudgesNumbers, JudgesZero, Concludes, TestsZero, Tests};
 
 // Whether a test holds, or why the line is refused.
 pub enum Judged {

@@ -31,11 +31,11 @@ use Rattle.meaning.specs.declared.end.Ended.the-variants.{Finished, Halted}
 use Rattle.meaning.proofs.Doing.{then-does, then-over, does-done}
 use Rattle.values.specs.declared.scene.Scene.{Scene}
 use Rattle.values.specs.declared.fetch.Along.the-variants.{Records, Entries}
-use Rattle.values.specs.Word.{questions}
+use Rattle.values.specs.inner.Word.{questions}
 use Rattle.values.specs.State.{machine, texts, fetched}
 use Rattle.values.specs.Fetching.{Fetchable}
 use Rattle.arguments.specs.Parameter.{parameterOf}
-use Rattle.values.specs.Yielding.{Askable, Sized}
+use Rattle.values.specs.inner.Yielding.{Askable, Sized}
 use Rattle.commands.specs.declared.table.Looped.{Looped}
 use Rattle.commands.specs.declared.taking.Counted.{Counted}
 use Rattle.commands.specs.declared.datasource.Selected.{Selected}
@@ -44,8 +44,8 @@ use Rattle.commands.specs.declared.test.Tested.{Tested}
 use Rattle.commands.specs.Settling.{integerMeaning}
 use Rattle.commands.specs.Setting.{setMeaning}
 use Rattle.commands.specs.Testing.{zeroMeaning, testMeaning}
-use Rattle.commands.specs.Contracts as C
-use Rattle.commands.specs.Contracts.{Runs, SetsVariable, TestsZero, Tests, TakesIntegerValue}
+use Rattle.commands.specs.inner.Contracts as C
+use Rattle.commands.specs.inner.Contracts.{Runs, SetsVariable, TestsZero, Tests, TakesIntegerValue}
 use Rattle.commands.specs.Looping.{openOf, loopingOf, AtMostOpen, parameterIn, BeginsTable, EndsTable, beginMeaning, endMeaning}
 use Rattle.commands.specs.Fetching.{TakesRecords, TakesEntries, recordsMeaning, entriesMeaning}
 use Rattle.commands.specs.Selecting.{Selects, datasourceMeaning}
@@ -55,19 +55,20 @@ use Rattle.pages.specs.declared.heading.Heading.{Heading}
 use Rattle.pages.specs.declared.step.Paged.{Paged}
 use Rattle.pages.specs.Heading.{noHeading, headingIn, headingsOf, Small}
 use Rattle.pages.specs.Page.{headLine, headFrom, highestOf, breakMeaning, lineStep}
-use Rattle.pages.specs.Pass.{lent}
-use Rattle.pages.specs.Paging.{AllFit, headFields, TurnReady, StepReady, Steps}
+use Rattle.pages.specs.inner.Pass.{lent}
+use Rattle.pages.specs.inner.Paging.{AllFit, headFields, TurnReady, StepReady, Steps}
 use Rattle.lines.proofs.Accepted as parsed
 use Rattle.texts.proofs.FieldLaws.{fields-few}
 use Rattle.pages.proofs.Turning.{highest-most}
 use Rattle.execution.specs.declared.state.Flow.{Flow}
 use Rattle.execution.specs.declared.state.Lined.{Lined}
-use Rattle.execution.specs.State.{State, seen, withMachine, withDatasource, withHeadings, withPage, cleared, Held}
+use Rattle.execution.specs.inner.Held.{Held}
+use Rattle.execution.specs.State.{State, seen, withMachine, withDatasource, withHeadings, withPage, cleared}
 use Rattle.execution.specs.Line.{jumped, branched, tableBegun, tableEnded, breaking, breakingFor, newPageMeaning, headed, formMeaning}
-use Rattle.execution.specs.Sound.{Fit}
-use Rattle.execution.specs.Going.{sceneOf, datasourceIn, feedsIn, pageIn, jumpedIn}
-use Rattle.execution.specs.Executing.{sourceOf, Kept, stateAt, machineIn, Executes, endedIn, held, FormReady, NewPageReady, NewPages}
-use Rattle.execution.specs.Arms.{Jumpable, Follows, branchedIn, begunIn, overIn, Clears, Heads, BreaksLine, PagesLine}
+use Rattle.execution.specs.inner.Sound.{Fit}
+use Rattle.execution.specs.inner.Going.{sceneOf, datasourceIn, feedsIn, pageIn, jumpedIn}
+use Rattle.execution.specs.inner.Executing.{sourceOf, Kept, stateAt, machineIn, Executes, endedIn, held, FormReady, NewPageReady, NewPages}
+use Rattle.execution.specs.inner.Arms.{Jumpable, Follows, branchedIn, begunIn, overIn, Clears, Heads, BreaksLine, PagesLine}
 
 -- ---- a command that only asks, and what follows from what it yields
 

@@ -26,12 +26,12 @@ use Rattle.commands.specs.Setting.{setNumbered}
 use Rattle.pages.specs.declared.heading.Heading.{Heading}
 use Rattle.pages.specs.declared.page.Turned.{Turned}
 use Rattle.pages.specs.Heading.{headingIn, headingsOf}
-use Rattle.pages.specs.Paging.{Breaks}
+use Rattle.pages.specs.inner.Paging.{Breaks}
 use Rattle.execution.specs.declared.state.Flow.{Flow}
 use Rattle.execution.specs.declared.state.Lined.{Lined}
-use Rattle.execution.specs.Going.{sceneOf, placedAt, pageIn, tablesIn, jumpedIn, againIn}
-use Rattle.execution.specs.Executing.{endedIn}
-use Rattle.execution.specs.Arms.{Jumpable, Follows, branchedIn, begunIn, overIn, Heads, BreaksLine, PagesLine}
+use Rattle.execution.specs.inner.Going.{sceneOf, placedAt, pageIn, tablesIn, jumpedIn, againIn}
+use Rattle.execution.specs.inner.Executing.{endedIn}
+use Rattle.execution.specs.inner.Arms.{Jumpable, Follows, branchedIn, begunIn, overIn, Heads, BreaksLine, PagesLine}
 
 -- ---- the flow
 

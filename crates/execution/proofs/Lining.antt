@@ -10,7 +10,7 @@ use Rattle.nesting.specs.declared.Shape.the-variants.{Table}
 use Rattle.arguments.specs.declared.argument.Argument.{Argument}
 use Rattle.lines.specs.declared.command.Line.{Line}
 use Rattle.lines.specs.declared.command.Line.the-variants.{BeginTable}
-use Rattle.lines.specs.Command.{parseLine}
+use Rattle.lines.specs.readers.Command.{parseLine}
 use Rattle.template.specs.Form.{shapeIn, shapeOf}
 use Rattle.template.proofs.Opening.{checks-short, opens-line}
 use Rattle.values.specs.declared.scene.Scene.{Scene}
@@ -24,11 +24,11 @@ use Rattle.lines.specs.Known.{formOf}
 use Rattle.lines.proofs.KnownLaws.{form-known}
 use Rattle.execution.specs.declared.state.Flow.{Flow}
 use Rattle.execution.specs.declared.state.Lined.{Lined}
-use Rattle.execution.specs.State.{Held}
+use Rattle.execution.specs.inner.Held.{Held}
 use Rattle.execution.specs.Line.{formMeaning, lineMeaning}
-use Rattle.execution.specs.Sound.{Nested}
-use Rattle.execution.specs.Going.{sceneOf, placedAt}
-use Rattle.execution.specs.Executing.{sourceOf, stateAt, Executes, LineReady, FormReady}
+use Rattle.execution.specs.inner.Sound.{Nested}
+use Rattle.execution.specs.inner.Going.{sceneOf, placedAt}
+use Rattle.execution.specs.inner.Executing.{sourceOf, stateAt, Executes, LineReady, FormReady}
 use Rattle.execution.proofs.Places.{nested-few, nested-line, nested-room}
 
 pub texts-length : (rows : List (List ℕ)) (k : ℕ) (ns : List ℕ) → length (texts rows k ns) ≡ length ns

@@ -12,7 +12,7 @@ use Rattle.lines.specs.declared.command.Optional.{Optional}
 use Rattle.lines.specs.declared.command.Optional.the-variants.{Given, Absent}
 use Rattle.lines.specs.declared.command.Line.{Line}
 use Rattle.lines.specs.declared.command.Line.the-variants as form
-use Rattle.lines.specs.Command.{parseLine}
+use Rattle.lines.specs.readers.Command.{parseLine}
 use Rattle.lines.proofs.Accepted.{Bounded, parsed-bounded}
 use Rattle.meaning.specs.Each.{Each}
 use Rattle.meaning.specs.Answer.{Answer}
@@ -39,7 +39,7 @@ use Rattle.pages.specs.declared.page.Page.{Page}
 use Rattle.pages.specs.Page.{breakMeaning, lineStep}
 use Rattle.execution.specs.State.{State, seen, withPlace, withMachine, withDatasource, withTables, withFeeds, withPage, cleared}
 use Rattle.execution.specs.Line.{past, jumped, setting, branched, testing, tableBegun, tableEnded, breaking, breakingFor, newPageMeaning, headed, formMeaning, lineMeaning}
-use Rattle.execution.specs.Sound.{Sound}
+use Rattle.execution.specs.inner.Sound.{Sound}
 use Rattle.execution.proofs.Sounds.{each-same}
 
 -- Every IV within ±2,000,000,000, every FV within ±2×10^15 millionths, every SV of at most 16 bytes, R and T's answers within

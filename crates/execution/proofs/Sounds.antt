@@ -18,7 +18,7 @@ use Rattle.lines.specs.declared.command.Optional.{Optional}
 use Rattle.lines.specs.declared.command.Optional.the-variants.{Given, Absent}
 use Rattle.lines.specs.declared.command.Line.{Line}
 use Rattle.lines.specs.declared.command.Line.the-variants as form
-use Rattle.lines.specs.Command.{parseLine}
+use Rattle.lines.specs.readers.Command.{parseLine}
 use Rattle.template.specs.declared.seek.Sought.the-variants.{Branch, TestEnd, TableEnd}
 use Rattle.template.specs.Form.{shapeIn, shapeOf}
 use Rattle.template.specs.Opening.{Checks}
@@ -49,7 +49,7 @@ use Rattle.lines.proofs.Accepted.{heading-accepted}
 use Rattle.pages.proofs.Sixty as P
 use Rattle.execution.specs.State.{State, seen, withPlace, withMachine, withDatasource, withTables, withFeeds, withPage, cleared}
 use Rattle.execution.specs.Line.{past, jumped, setting, branched, testing, tableBegun, tableEnded, breaking, breakingFor, newPageMeaning, headed, formMeaning, lineMeaning}
-use Rattle.execution.specs.Sound.{Nested, Fit, Sound}
+use Rattle.execution.specs.inner.Sound.{Nested, Fit, Sound}
 use Rattle.execution.proofs.Places.{nested-plain, nested-remark, nested-section, nested-end-test, nested-test, nested-failed, nested-else, nested-begun, nested-skipped, nested-ended, nested-again}
 
 -- LINENUM is one more than the lines on the page

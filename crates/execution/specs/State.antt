@@ -1,20 +1,16 @@
 -- What stands between two lines of a run.
 use mathlib.Core.Bool.{Bool, true}
-use mathlib.Core.List.{List, [], map}
+use mathlib.Core.List.{List, []}
 use Prim.Native.Nat.{ℕ}
 use lib.IntN.{ℤ, pos}
 use lib.ListN.{replicate}
 use Rattle.meaning.specs.Answer.{Answer}
-use Rattle.meaning.specs.declared.question.Question.{Question}
-use Rattle.values.specs.declared.fetch.Along.the-variants.{Records, Entries}
 use Rattle.values.specs.Machine.{Machine}
-use Rattle.values.specs.State.{texts, fetched}
 use Rattle.commands.specs.declared.table.Table.{Table}
-use Rattle.commands.specs.Looping.{loop, openOf}
+use Rattle.commands.specs.Looping.{loop}
 use Rattle.pages.specs.declared.page.Page.{Page}
 use Rattle.pages.specs.declared.heading.Heading.{Heading}
-use Rattle.pages.specs.Heading.{noHeading, headingsOf}
-use Rattle.execution.specs.declared.state.Flow.{Flow}
+use Rattle.pages.specs.Heading.{noHeading}
 
 pub record State : Type 0 where
   -- the line due, by its place in the template and its number
@@ -74,33 +70,3 @@ withPage s p = record { at = s .at; line = s .line; integers = s .integers; deci
 -- "Each executed $SEC sets IV and FV to 0, SV to empty, clears R, T and headings, ends $NOFF. Page and datasource go on."
 abbrev pub cleared : State → State
 cleared s = record { at = s .at; line = s .line; integers = replicate 99 (pos 0); decimals = replicate 99 (pos 0); strings = replicate 99 []; records = replicate 10 []; entries = replicate 10 []; datasource = s .datasource; tables = s .tables; headings = replicate 9 noHeading; feeds = true; page = s .page }
-
--- ---- what the code holds
-
--- the rows that are lent: IV and FV; SV by its bytes and lengths; R, T and headings, each as one number
-pub record Held : Type 0 where
-  pub integers : List ℤ
-  pub decimals : List ℤ
-  pub rows : List (List ℕ)
-  pub lengths : List ℕ
-  pub records : List ℕ
-  pub entries : List ℕ
-  pub headings : List ℕ
-
--- from the code's state to the definition's, with the source that R and T were answered by
-abbrev pub stateOf : (Question → Answer) → Held → Flow → State
-stateOf source h f =
-    record {
-      at = f .at;
-      line = f .line;
-      integers = h .integers;
-      decimals = h .decimals;
-      strings = texts (h .rows) 0 (h .lengths);
-      records = map (fetched source Records) (h .records);
-      entries = map (fetched source Entries) (h .entries);
-      datasource = f .datasource;
-      tables = openOf (f .tables);
-      headings = headingsOf (h .headings);
-      feeds = f .feeds;
-      page = f .page;
-    }

@@ -23,10 +23,10 @@ ghost use Rattle.template.specs.declared.seek.Sought.the-variants.{TestEnd};
 ghost use Rattle.meaning.specs.declared.end.Ended.the-variants.{Finished};
 ghost use Rattle.commands.specs.Setting.{setNumbered};
 ghost use Rattle.pages.specs.Heading.{noHeading, Small};
-ghost use Rattle.pages.specs.Paging.{TurnReady};
-ghost use Rattle.execution.specs.Going.{datasourceIn, pageIn, jumpedIn};
-ghost use Rattle.execution.specs.Executing.{endedIn};
-ghost use Rattle.execution.specs.Arms.{Jumpable, Follows, branchedIn, begunIn, overIn, Clears, Heads, BreaksLine, PagesLine};
+ghost use Rattle.pages.specs.inner.Paging.{TurnReady};
+ghost use Rattle.execution.specs.inner.Going.{datasourceIn, pageIn, jumpedIn};
+ghost use Rattle.execution.specs.inner.Executing.{endedIn};
+ghost use Rattle.execution.specs.inner.Arms.{Jumpable, Follows, branchedIn, begunIn, overIn, Clears, Heads, BreaksLine, PagesLine};
 
 // A line that does no more than go on.
 pub fn went(flow: Flow, printed: usize, asked: usize) -> Lined

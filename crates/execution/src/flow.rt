@@ -8,8 +8,8 @@ use template::seek::Sought;
 use values::scene::Scene;
 ghost use mathlib.Core.Path.{_≡_};
 ghost use Prim.Native.Nat.{_+_, _≤_};
-ghost use Rattle.execution.specs.Arms.{Jumpable};
-ghost use Rattle.execution.specs.Going.{sceneOf, placedAt, datasourceIn, tablesIn, feedsIn, pageIn, jumpedIn, againIn};
+ghost use Rattle.execution.specs.inner.Arms.{Jumpable};
+ghost use Rattle.execution.specs.inner.Going.{sceneOf, placedAt, datasourceIn, tablesIn, feedsIn, pageIn, jumpedIn, againIn};
 
 // What a line is executed in.
 pub fn scene_of(flow: Flow, number: u32) -> Scene

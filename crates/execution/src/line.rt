@@ -16,7 +16,7 @@ use pages::heading::Heading;
 use pages::step;
 use values::scene::Scene;
 ghost use Rattle.execution.specs.Line.{formMeaning, lineMeaning};
-ghost use Rattle.execution.specs.Executing.{held, stateAt, LineReady, FormReady, Executes, NewPageReady, NewPages};
+ghost use Rattle.execution.specs.inner.Executing.{held, stateAt, LineReady, FormReady, Executes, NewPageReady, NewPages};
 
 // $NP
 fn new_page<'a>(

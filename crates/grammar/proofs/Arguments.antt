@@ -20,8 +20,9 @@ use Rattle.arguments.specs.declared.argument.Filter.the-variants.{Unfiltered, A
 use Rattle.arguments.specs.declared.argument.Argument.{Argument}
 use Rattle.arguments.specs.declared.argument.ArgumentRead.{ArgumentRead}
 use Rattle.arguments.specs.declared.argument.ArgumentRead.the-variants.{ArgumentTo, NoArgument}
-use Rattle.arguments.specs.Operand.{operandAt}
-use Rattle.arguments.specs.Argument.{countOf, admits, filteredAt, filters, argumentOf, argumentAt}
+use Rattle.arguments.specs.readers.Operand.{operandAt}
+use Rattle.arguments.specs.Admitted.{countOf, admits}
+use Rattle.arguments.specs.readers.Argument.{filteredAt, filters, argumentOf, argumentAt}
 use Rattle.grammar.specs.Number.{point}
 use Rattle.grammar.specs.Argument.{OperandSpelled, filterBytes, ArgumentSpelled, filtered}
 use Rattle.grammar.proofs.Standing.{tested, Found, byte-is, onward, past, byte-stands, stands-says, EachWord, no-more, _or_, found-word}

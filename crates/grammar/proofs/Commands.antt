@@ -14,7 +14,7 @@ use Rattle.scan.specs.declared.digits.Numeral.the-variants.{Value, NoNumeral}
 use Rattle.scan.specs.Ascii.{ascii}
 use Rattle.scan.specs.Run.{belongs, span}
 use Rattle.scan.specs.Line.{byteAt, byteIs}
-use Rattle.scan.specs.Digits.{digitsAt, numberAt}
+use Rattle.scan.specs.readers.Digits.{digitsAt, numberAt}
 use Rattle.scan.specs.Words.{begins, standsAt, firstOf}
 use Rattle.arguments.specs.declared.index.Index.{Index}
 use Rattle.arguments.specs.declared.index.IndexRead.the-variants.{IndexTo}
@@ -23,11 +23,12 @@ use Rattle.arguments.specs.declared.operand.Operand.the-variants.{IntegerVariab
 use Rattle.arguments.specs.declared.operand.OperandRead.the-variants.{OperandTo}
 use Rattle.arguments.specs.declared.argument.Argument.{Argument}
 use Rattle.arguments.specs.declared.argument.ArgumentRead.the-variants.{ArgumentTo}
-use Rattle.arguments.specs.Index.{indexAt}
-use Rattle.arguments.specs.Operand.{operandAt}
-use Rattle.arguments.specs.Argument.{argumentAt}
+use Rattle.arguments.specs.readers.Index.{indexAt}
+use Rattle.arguments.specs.readers.Operand.{operandAt}
+use Rattle.arguments.specs.readers.Argument.{argumentAt}
 use Rattle.texts.specs.declared.text.Piece.{Piece}
-use Rattle.texts.specs.Text.{totalWidth, textPieces, fitsBehind, textFits}
+use Rattle.texts.specs.Width.{totalWidth}
+use Rattle.texts.specs.readers.Text.{textPieces, fitsBehind, textFits}
 use Rattle.lines.specs.declared.command.Operation.{Operation}
 use Rattle.lines.specs.declared.command.Operation.the-variants.{Assign, Add, Subtract, Multiply, Divide}
 use Rattle.lines.specs.declared.command.Target.{Target}
@@ -41,13 +42,13 @@ use Rattle.lines.specs.declared.command.Line.{Line}
 use Rattle.lines.specs.declared.command.Line.the-variants.{NoForm, Text, Section, Set, IfZero, IfNonZero, Compare, Else, EndIf, BeginTable, EndTable, Records, Entries, Datasource, NoFormFeed, NewPage, Heading, NoHeading, Remark}
 use Rattle.lines.specs.declared.set.TargetRead.the-variants.{TargetIs}
 use Rattle.lines.specs.declared.fetch.FetchRead.the-variants.{FetchTo}
-use Rattle.lines.specs.Behind.{behindSpace}
-use Rattle.lines.specs.Set.{stringTarget, targetOf, setAt, datasourceAt}
-use Rattle.lines.specs.Compare.{compareAt}
-use Rattle.lines.specs.Simple.{singleAt, bareAt, optionalAt}
-use Rattle.lines.specs.Fetch.{parameterAt, fetchedAt, fetchAt}
-use Rattle.lines.specs.Title.{nameAt, sectionAt, headingOf, headingAt, remarkAt}
-use Rattle.lines.specs.Command.{commands, parseLine}
+use Rattle.lines.specs.readers.Behind.{behindSpace}
+use Rattle.lines.specs.readers.Set.{stringTarget, targetOf, setAt, datasourceAt}
+use Rattle.lines.specs.readers.Compare.{compareAt}
+use Rattle.lines.specs.readers.Simple.{singleAt, bareAt, optionalAt}
+use Rattle.lines.specs.readers.Fetch.{parameterAt, fetchedAt, fetchAt}
+use Rattle.lines.specs.readers.Title.{nameAt, sectionAt, headingOf, headingAt, remarkAt}
+use Rattle.lines.specs.readers.Command.{commands, parseLine}
 use Rattle.grammar.specs.Number.{Row, Numbered, IndexSpelled}
 use Rattle.grammar.specs.Argument.{OperandSpelled, ArgumentSpelled, integer-variable, decimal-variable, string-variable}
 use Rattle.grammar.specs.Text.{TextSpelled}

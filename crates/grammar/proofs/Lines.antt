@@ -15,7 +15,7 @@ use Rattle.scan.specs.declared.digits.Numeral.the-variants.{Value, NoNumeral}
 use Rattle.scan.specs.Ascii.{ascii}
 use Rattle.scan.specs.Run.{belongs, span}
 use Rattle.scan.specs.Line.{byteAt, byteIs}
-use Rattle.scan.specs.Digits.{numberAt}
+use Rattle.scan.specs.readers.Digits.{numberAt}
 use Rattle.scan.specs.Words.{standsAt, firstOf}
 use Rattle.scan.proofs.RunLaws.{length-span}
 use Rattle.arguments.specs.declared.index.Index.{Index}
@@ -27,11 +27,12 @@ use Rattle.arguments.specs.declared.operand.OperandRead.the-variants.{OperandTo
 use Rattle.arguments.specs.declared.argument.Argument.{Argument}
 use Rattle.arguments.specs.declared.argument.ArgumentRead.{ArgumentRead}
 use Rattle.arguments.specs.declared.argument.ArgumentRead.the-variants.{ArgumentTo, NoArgument}
-use Rattle.arguments.specs.Index.{indexAt}
-use Rattle.arguments.specs.Operand.{operandAt}
-use Rattle.arguments.specs.Argument.{argumentAt}
+use Rattle.arguments.specs.readers.Index.{indexAt}
+use Rattle.arguments.specs.readers.Operand.{operandAt}
+use Rattle.arguments.specs.readers.Argument.{argumentAt}
 use Rattle.texts.specs.declared.text.Piece.{Piece}
-use Rattle.texts.specs.Text.{totalWidth, piecesWithin, textPieces, fitsBehind, textFits}
+use Rattle.texts.specs.Width.{totalWidth}
+use Rattle.texts.specs.readers.Text.{piecesWithin, textPieces, fitsBehind, textFits}
 use Rattle.lines.specs.declared.command.Operation.{Operation}
 use Rattle.lines.specs.declared.command.Operation.the-variants.{Assign, Add, Subtract, Multiply, Divide}
 use Rattle.lines.specs.declared.command.Target.{Target}
@@ -47,14 +48,14 @@ use Rattle.lines.specs.declared.set.TargetRead.{TargetRead}
 use Rattle.lines.specs.declared.set.TargetRead.the-variants.{TargetIs, NoTarget}
 use Rattle.lines.specs.declared.fetch.FetchRead.{FetchRead}
 use Rattle.lines.specs.declared.fetch.FetchRead.the-variants.{FetchTo, NoFetch}
-use Rattle.lines.specs.Reading.{argumentOr, indexOr, numeralOr}
-use Rattle.lines.specs.Behind.{behindSpace, ending}
-use Rattle.lines.specs.Set.{stringTarget, targetOf, operandOr, targetOr, setAt, datasourceAt}
-use Rattle.lines.specs.Compare.{compareAt}
-use Rattle.lines.specs.Simple.{singleAt, bareAt, optionalAt}
-use Rattle.lines.specs.Fetch.{parameterAt, fetchedAt, fetchOr, fetchAt}
-use Rattle.lines.specs.Title.{nameAt, sectionAt, headingOf, headingAt, remarkAt}
-use Rattle.lines.specs.Command.{commands, parseLine}
+use Rattle.lines.specs.readers.Reading.{argumentOr, indexOr, numeralOr}
+use Rattle.lines.specs.readers.Behind.{behindSpace, ending}
+use Rattle.lines.specs.readers.Set.{stringTarget, targetOf, operandOr, targetOr, setAt, datasourceAt}
+use Rattle.lines.specs.readers.Compare.{compareAt}
+use Rattle.lines.specs.readers.Simple.{singleAt, bareAt, optionalAt}
+use Rattle.lines.specs.readers.Fetch.{parameterAt, fetchedAt, fetchOr, fetchAt}
+use Rattle.lines.specs.readers.Title.{nameAt, sectionAt, headingOf, headingAt, remarkAt}
+use Rattle.lines.specs.readers.Command.{commands, parseLine}
 use Rattle.lines.proofs.EndLaws.{no-number, no-parameter, no-index, no-operand, no-argument, no-name}
 use Rattle.grammar.specs.Number.{Row, Numbered, IndexSpelled}
 use Rattle.grammar.specs.Argument.{OperandSpelled, literal, string, integer-variable, decimal-variable, string-variable, page-number, line-number, loop-counter, record-element, entry-element, parameter, record-of, entry-of, ArgumentSpelled}

@@ -17,7 +17,8 @@ use Rattle.scan.specs.declared.digits.Numeral.the-variants.{Value, NoNumeral}
 use Rattle.scan.specs.Ascii.{ascii}
 use Rattle.scan.specs.Run.{belongs, span}
 use Rattle.scan.specs.Line.{byteAt, byteIs}
-use Rattle.scan.specs.Digits.{valueFrom, valueOf, digitsAt, numberAt}
+use Rattle.scan.specs.Value.{valueFrom, valueOf}
+use Rattle.scan.specs.readers.Digits.{digitsAt, numberAt}
 use Rattle.scan.specs.Words.{begins, standsAt}
 use Rattle.scan.proofs.RunLaws.{length-span}
 use Rattle.scan.proofs.DigitLaws.{digit-bounds}
@@ -27,9 +28,9 @@ use Rattle.arguments.specs.declared.index.IndexRead.{IndexRead}
 use Rattle.arguments.specs.declared.index.IndexRead.the-variants.{IndexTo, NoIndex}
 use Rattle.arguments.specs.declared.literal.LiteralRead.{LiteralRead}
 use Rattle.arguments.specs.declared.literal.LiteralRead.the-variants.{LiteralTo, NoLiteral}
-use Rattle.arguments.specs.Literal as L
-use Rattle.arguments.specs.Literal.{fractionAt, unsignedAt, literalAt}
-use Rattle.arguments.specs.Index.{loopWord, variableWord, variableIndex, indexAt}
+use Rattle.arguments.specs.readers.Literal as L
+use Rattle.arguments.specs.readers.Literal.{fractionAt, unsignedAt, literalAt}
+use Rattle.arguments.specs.readers.Index.{loopWord, variableWord, variableIndex, indexAt}
 use Rattle.grammar.specs.Number.{point, All, Row, Numbered, sign, inMillionths, LiteralSpelled, integer, decimal, IndexSpelled, fixed, variable, loop}
 use Rattle.grammar.proofs.Standing.{tested, Found, byte-is, onward, past, byte-stands, stands, stands-says, other-word, Stops, span-all, span-exact, span-here}
 use Rattle.grammar.proofs.Numbers.{digits-read, first-byte, number-read, number-spelled}

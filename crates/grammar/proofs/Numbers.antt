@@ -14,7 +14,8 @@ use Rattle.scan.specs.declared.digits.Numeral.{Numeral}
 use Rattle.scan.specs.declared.digits.Numeral.the-variants.{Value, NoNumeral}
 use Rattle.scan.specs.Run.{belongs, span}
 use Rattle.scan.specs.Line.{byteAt, byteIs}
-use Rattle.scan.specs.Digits.{valueFrom, valueOf, digitsOf, digitsAt, numberAt}
+use Rattle.scan.specs.Value.{valueFrom, valueOf}
+use Rattle.scan.specs.readers.Digits.{digitsOf, digitsAt, numberAt}
 use Rattle.scan.proofs.RunLaws.{length-span}
 use Rattle.scan.proofs.DigitLaws.{digit-bounds}
 use Rattle.scan.proofs.NumberLaws.{Within, number-within}

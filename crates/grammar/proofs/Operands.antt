@@ -14,7 +14,7 @@ use Rattle.scan.specs.declared.digits.Numeral.the-variants.{Value, NoNumeral}
 use Rattle.scan.specs.Ascii.{ascii}
 use Rattle.scan.specs.Run.{belongs, span}
 use Rattle.scan.specs.Line.{byteAt, byteIs}
-use Rattle.scan.specs.Digits.{numberAt}
+use Rattle.scan.specs.readers.Digits.{numberAt}
 use Rattle.scan.specs.Words.{begins, standsAt, firstOf}
 use Rattle.scan.proofs.RunLaws.{length-span}
 use Rattle.scan.proofs.DigitLaws.{digit-bounds}
@@ -27,9 +27,9 @@ use Rattle.arguments.specs.declared.operand.Operand.{Operand}
 use Rattle.arguments.specs.declared.operand.Operand.the-variants.{Number, Text, IntegerVariable, DecimalVariable, StringVariable, PageNumber, LineNumber, LoopCounter, RecordElement, EntryElement, Parameter, Record, Entry}
 use Rattle.arguments.specs.declared.operand.OperandRead.{OperandRead}
 use Rattle.arguments.specs.declared.operand.OperandRead.the-variants.{OperandTo, NoOperand}
-use Rattle.arguments.specs.Literal.{unsignedAt, literalAt}
-use Rattle.arguments.specs.Index.{indexAt}
-use Rattle.arguments.specs.Operand.{stringEnd, stringAt, entryOf, recordOf, cellOf, cellAt, wholeAt, numberedOf, numberedAt, names, namedAt, numberOr, operandAt}
+use Rattle.arguments.specs.readers.Literal.{unsignedAt, literalAt}
+use Rattle.arguments.specs.readers.Index.{indexAt}
+use Rattle.arguments.specs.readers.Operand.{stringEnd, stringAt, entryOf, recordOf, cellOf, cellAt, wholeAt, numberedOf, numberedAt, names, namedAt, numberOr, operandAt}
 use Rattle.grammar.specs.Number.{point, All, Row, Numbered, LiteralSpelled, integer, decimal, IndexSpelled}
 use Rattle.grammar.specs.Argument.{quote, OperandSpelled, literal, string, integer-variable, decimal-variable, string-variable, page-number, line-number, loop-counter, record-element, entry-element, parameter, record-of, entry-of}
 use Rattle.grammar.proofs.Standing.{tested, Found, byte-is, onward, past, byte-stands, stands, stands-says, Stops, span-all, span-exact, span-here, EachWord, no-more, _or_, found-word}

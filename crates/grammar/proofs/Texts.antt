@@ -17,11 +17,12 @@ use Rattle.scan.specs.declared.digits.Numeral.the-variants.{Value, NoNumeral}
 use Rattle.scan.specs.Ascii.{ascii}
 use Rattle.scan.specs.Run.{belongs, span}
 use Rattle.scan.specs.Line.{byteAt, byteIs}
-use Rattle.scan.specs.Digits.{valueOf, digitsAt, numberAt}
+use Rattle.scan.specs.Value.{valueOf}
+use Rattle.scan.specs.readers.Digits.{digitsAt, numberAt}
 use Rattle.arguments.specs.declared.argument.Argument.{Argument}
 use Rattle.arguments.specs.declared.argument.ArgumentRead.{ArgumentRead}
 use Rattle.arguments.specs.declared.argument.ArgumentRead.the-variants.{ArgumentTo, NoArgument}
-use Rattle.arguments.specs.Argument.{argumentAt}
+use Rattle.arguments.specs.readers.Argument.{argumentAt}
 use Rattle.texts.specs.declared.text.Places.{Places}
 use Rattle.texts.specs.declared.text.Places.the-variants.{Unsaid, Said}
 use Rattle.texts.specs.declared.text.PlacesRead.{PlacesRead}
@@ -32,7 +33,7 @@ use Rattle.texts.specs.declared.text.Piece.{Piece}
 use Rattle.texts.specs.declared.text.Piece.the-variants.{Plain, Placed}
 use Rattle.texts.specs.declared.text.PieceRead.{PieceRead}
 use Rattle.texts.specs.declared.text.PieceRead.the-variants.{PieceTo, NoPiece}
-use Rattle.texts.specs.Text.{placesAt, placesOf, widthNext, fieldOf, fieldAt, placed, pieceAt, before, piecesWithin}
+use Rattle.texts.specs.readers.Text.{placesAt, placesOf, widthNext, fieldOf, fieldAt, placed, pieceAt, before, piecesWithin}
 use Rattle.grammar.specs.Number.{point, Row, Numbered}
 use Rattle.grammar.specs.Argument.{ArgumentSpelled}
 use Rattle.grammar.specs.Text.{PlacesSpelled, unsaid, said, PieceSpelled, plain, field, TextSpelled, end, piece}

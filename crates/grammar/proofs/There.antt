@@ -9,7 +9,7 @@ use Rattle.scan.specs.declared.run.Class.the-variants.{InName, InString}
 use Rattle.scan.specs.Ascii.{ascii}
 use Rattle.arguments.specs.declared.operand.Operand.the-variants.{Text}
 use Rattle.texts.specs.declared.text.Piece.{Piece}
-use Rattle.texts.specs.Text.{totalWidth}
+use Rattle.texts.specs.Width.{totalWidth}
 use Rattle.lines.specs.declared.command.Line.the-variants.{Section, Heading}
 use Rattle.grammar.specs.Number.{Row}
 use Rattle.grammar.specs.Argument.{quote, OperandSpelled, string}

@@ -15,7 +15,7 @@ use Rattle.arguments.specs.declared.operand.Operand.the-variants.{Number, Text,
 use Rattle.arguments.specs.declared.argument.Filter.{Filter}
 use Rattle.arguments.specs.declared.argument.Filter.the-variants.{Unfiltered, Absolute, Truncated, UpperCase, Length, RecordCount, EntryCount}
 use Rattle.arguments.specs.declared.argument.Argument.{Argument}
-use Rattle.arguments.specs.Argument.{countOf, admits}
+use Rattle.arguments.specs.Admitted.{countOf, admits}
 use Rattle.grammar.specs.Number.{point, Row, Numbered, LiteralSpelled, IndexSpelled}
 
 abbrev pub quote : ℕ

@@ -11,7 +11,7 @@ use Rattle.scan.specs.Line.{byteAt}
 use Rattle.arguments.specs.declared.index.Index.{Index}
 use Rattle.arguments.specs.declared.argument.Argument.{Argument}
 use Rattle.texts.specs.declared.text.Piece.{Piece}
-use Rattle.texts.specs.Text.{totalWidth}
+use Rattle.texts.specs.Width.{totalWidth}
 use Rattle.lines.specs.declared.command.Operation.{Operation}
 use Rattle.lines.specs.declared.command.Operation.the-variants.{Assign, Add, Subtract, Multiply, Divide}
 use Rattle.lines.specs.declared.command.Target.{Target}

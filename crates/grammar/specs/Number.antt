@@ -14,7 +14,7 @@ use Rattle.scan.specs.declared.run.Class.the-variants.{Digit}
 use Rattle.scan.specs.Ascii.{ascii}
 use Rattle.scan.specs.Run.{belongs}
 use Rattle.scan.specs.Line.{byteAt}
-use Rattle.scan.specs.Digits.{valueOf}
+use Rattle.scan.specs.Value.{valueOf}
 use Rattle.arguments.specs.declared.index.Index.{Index}
 use Rattle.arguments.specs.declared.index.Index.the-variants.{Fixed, Variable, Loop}
 

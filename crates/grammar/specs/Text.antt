@@ -6,7 +6,7 @@ use Prim.Native.Nat.{ℕ, _+_, _≤_}
 use lib.ListN.{length}
 use Rattle.scan.specs.declared.run.Class.the-variants.{Digit}
 use Rattle.scan.specs.Ascii.{ascii}
-use Rattle.scan.specs.Digits.{valueOf}
+use Rattle.scan.specs.Value.{valueOf}
 use Rattle.arguments.specs.declared.argument.Argument.{Argument}
 use Rattle.texts.specs.declared.text.Places.{Places}
 use Rattle.texts.specs.declared.text.Places.the-variants.{Unsaid, Said}

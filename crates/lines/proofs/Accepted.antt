@@ -10,16 +10,16 @@ use Rattle.scan.proofs.WordLaws.{EachForm, all, _besides_, found-form}
 use Rattle.arguments.specs.declared.argument.Argument.{Argument}
 use Rattle.arguments.specs.Parameter.{parameterOf}
 use Rattle.arguments.proofs.Parsed.{Between, IndexWithin, ArgumentWithin, small-parameter}
-use Rattle.texts.specs.Text.{textFits}
+use Rattle.texts.specs.readers.Text.{textFits}
 use Rattle.lines.specs.declared.command.Operation.{Operation}
 use Rattle.lines.specs.declared.command.Comparison.{Comparison}
 use Rattle.lines.specs.declared.command.Optional.{Optional}
 use Rattle.lines.specs.declared.command.Optional.the-variants.{Given, Absent}
 use Rattle.lines.specs.declared.command.Line.{Line}
 use Rattle.lines.specs.declared.command.Line.the-variants.{NoForm, Text, Section, Set, IfZero, IfNonZero, Compare, Else, EndIf, BeginTable, EndTable, Records, Entries, Datasource, NoFormFeed, NewPage, Heading, NoHeading, Remark}
-use Rattle.lines.specs.Set.{setAt}
-use Rattle.lines.specs.Compare.{compareAt}
-use Rattle.lines.specs.Command.{commands, parseLine}
+use Rattle.lines.specs.readers.Set.{setAt}
+use Rattle.lines.specs.readers.Compare.{compareAt}
+use Rattle.lines.specs.readers.Command.{commands, parseLine}
 use Rattle.lines.proofs.Makes.{set-makes, datasource-makes, compare-makes, single-makes, bare-makes, optional-makes, fetch-makes, section-makes, heading-makes, remark-makes}
 pub use Rattle.lines.proofs.Makes.{TargetWithin, OptionalWithin, FetchWithin, HeadingWithin}
 

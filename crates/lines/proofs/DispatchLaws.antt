@@ -10,9 +10,9 @@ use Rattle.scan.specs.Words.{wordIn, firstOf, wordOr}
 use Rattle.scan.proofs.WordLaws.{tabled, by-number}
 use Rattle.lines.specs.declared.set.TargetRead.the-variants.{NoTarget}
 use Rattle.lines.specs.declared.command.Line.the-variants.{NoForm}
-use Rattle.lines.specs.Set.{stringTarget}
-use Rattle.lines.specs.Command.{commands}
-use Rattle.lines.specs.Dispatch.{commandWords, commandWord, operationOf, comparisonOf, singleOf, bareOf, optionalOf, fetchOf, otherAt, commandAt}
+use Rattle.lines.specs.readers.Set.{stringTarget}
+use Rattle.lines.specs.readers.Command.{commands}
+use Rattle.lines.specs.inner.Dispatch.{commandWords, commandWord, operationOf, comparisonOf, singleOf, bareOf, optionalOf, fetchOf, otherAt, commandAt}
 
 all-words : tabled commandWords commandAt 27 0 ≡ commands
 unfolding tabled commands belongs span wordIn operationOf comparisonOf singleOf bareOf optionalOf fetchOf otherAt commandAt

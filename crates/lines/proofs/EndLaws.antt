@@ -6,18 +6,18 @@ use lib.ListN.{length, drop-of-length-le, List·getD-eq-default}
 use Rattle.scan.specs.declared.digits.Numeral.the-variants.{NoNumeral}
 use Rattle.scan.specs.Run.{span}
 use Rattle.scan.specs.Line.{byteAt}
-use Rattle.scan.specs.Digits.{digitsAt, numberAt}
+use Rattle.scan.specs.readers.Digits.{digitsAt, numberAt}
 use Rattle.scan.specs.Words.{begins, standsAt, firstOf}
 use Rattle.arguments.specs.declared.index.IndexRead.the-variants.{NoIndex}
 use Rattle.arguments.specs.declared.operand.OperandRead.the-variants.{NoOperand}
 use Rattle.arguments.specs.declared.argument.ArgumentRead.the-variants.{NoArgument}
-use Rattle.arguments.specs.Literal.{unsignedAt, literalAt}
-use Rattle.arguments.specs.Index.{indexAt}
-use Rattle.arguments.specs.Operand.{names, namedAt, numberOr, operandAt}
-use Rattle.arguments.specs.Argument.{argumentOf, argumentAt}
+use Rattle.arguments.specs.readers.Literal.{unsignedAt, literalAt}
+use Rattle.arguments.specs.readers.Index.{indexAt}
+use Rattle.arguments.specs.readers.Operand.{names, namedAt, numberOr, operandAt}
+use Rattle.arguments.specs.readers.Argument.{argumentOf, argumentAt}
 use Rattle.lines.specs.declared.command.Line.the-variants.{NoForm}
-use Rattle.lines.specs.Fetch.{parameterAt}
-use Rattle.lines.specs.Title.{nameAt}
+use Rattle.lines.specs.readers.Fetch.{parameterAt}
+use Rattle.lines.specs.readers.Title.{nameAt}
 
 module _ (l : List ℕ) (at : ℕ) (h : length l ≤ at) where
   no-byte : byteAt l at ≡ 0

@@ -8,16 +8,16 @@ use lib.Dec.{leb, eqb}
 use lib.ListN.{length, drop}
 use Rattle.scan.specs.Ascii.{ascii}
 use Rattle.scan.specs.Line.{byteAt, byteIs}
-use Rattle.scan.specs.Digits.{numberAt}
+use Rattle.scan.specs.readers.Digits.{numberAt}
 use Rattle.scan.specs.declared.digits.Numeral.{Numeral}
 use Rattle.scan.specs.declared.digits.Numeral.the-variants.{Value, NoNumeral}
 use Rattle.scan.specs.Words.{begins, standsAt, firstOf}
-use Rattle.texts.specs.Text.{textFits}
+use Rattle.texts.specs.readers.Text.{textFits}
 use Rattle.lines.specs.declared.command.Line.{Line}
 use Rattle.lines.specs.declared.command.Line.the-variants.{NoForm, Text, Heading, NoHeading}
-use Rattle.lines.specs.Reading.{numeralOr}
-use Rattle.lines.specs.Title.{headingOf, headingAt}
-use Rattle.lines.specs.Command.{commands, parseLine}
+use Rattle.lines.specs.readers.Reading.{numeralOr}
+use Rattle.lines.specs.readers.Title.{headingOf, headingAt}
+use Rattle.lines.specs.readers.Command.{commands, parseLine}
 use Rattle.lines.specs.Known.{knownOf, knownHeading, formOf}
 
 -- what is not NoForm wasn't tested for nothing

@@ -11,7 +11,7 @@ use lib.ListN.{length}
 use Rattle.scan.specs.declared.digits.Numeral.{Numeral}
 use Rattle.scan.specs.declared.digits.Numeral.the-variants.{Value, NoNumeral}
 use Rattle.scan.specs.Line.{byteIs}
-use Rattle.scan.specs.Digits.{numberAt}
+use Rattle.scan.specs.readers.Digits.{numberAt}
 use Rattle.scan.proofs.OnwardLaws.{picked}
 use Rattle.scan.proofs.NumberLaws.{Within, number-within}
 use Rattle.arguments.specs.declared.argument.Argument.{Argument}
@@ -24,11 +24,11 @@ use Rattle.arguments.specs.declared.operand.Operand.{Operand}
 use Rattle.arguments.specs.declared.operand.Operand.the-variants as O
 use Rattle.arguments.specs.declared.operand.OperandRead.{OperandRead}
 use Rattle.arguments.specs.declared.operand.OperandRead.the-variants.{OperandTo, NoOperand}
-use Rattle.arguments.specs.Index.{indexAt}
-use Rattle.arguments.specs.Operand.{operandAt}
-use Rattle.arguments.specs.Argument.{argumentAt}
+use Rattle.arguments.specs.readers.Index.{indexAt}
+use Rattle.arguments.specs.readers.Operand.{operandAt}
+use Rattle.arguments.specs.readers.Argument.{argumentAt}
 use Rattle.arguments.proofs.Parsed.{Between, IndexWithin, OperandWithin, ArgumentWithin, index-bounded, operand-bounded, argument-bounded}
-use Rattle.texts.specs.Text.{textFits}
+use Rattle.texts.specs.readers.Text.{textFits}
 use Rattle.lines.specs.declared.command.Operation.{Operation}
 use Rattle.lines.specs.declared.command.Operation.the-variants.{Assign, Add, Subtract, Multiply, Divide}
 use Rattle.lines.specs.declared.command.Comparison.{Comparison}
@@ -42,13 +42,13 @@ use Rattle.lines.specs.declared.command.Optional.{Optional}
 use Rattle.lines.specs.declared.command.Optional.the-variants.{Given, Absent}
 use Rattle.lines.specs.declared.command.Line.{Line}
 use Rattle.lines.specs.declared.command.Line.the-variants.{NoForm, Section, Set, Compare, Datasource, Heading, NoHeading, Remark}
-use Rattle.lines.specs.Reading.{argumentOr, indexOr, numeralOr}
-use Rattle.lines.specs.Behind.{behindSpace, ending}
-use Rattle.lines.specs.Set.{stringTarget, targetOf, operandOr, targetOr, setAt, datasourceAt}
-use Rattle.lines.specs.Compare.{compareAt}
-use Rattle.lines.specs.Simple.{singleAt, bareAt, optionalAt}
-use Rattle.lines.specs.Fetch.{parameterAt, fetchedAt, fetchOr, fetchAt}
-use Rattle.lines.specs.Title.{nameLength, nameAt, sectionAt, headingOf, headingAt, remarkAt}
+use Rattle.lines.specs.readers.Reading.{argumentOr, indexOr, numeralOr}
+use Rattle.lines.specs.readers.Behind.{behindSpace, ending}
+use Rattle.lines.specs.readers.Set.{stringTarget, targetOf, operandOr, targetOr, setAt, datasourceAt}
+use Rattle.lines.specs.readers.Compare.{compareAt}
+use Rattle.lines.specs.readers.Simple.{singleAt, bareAt, optionalAt}
+use Rattle.lines.specs.readers.Fetch.{parameterAt, fetchedAt, fetchOr, fetchAt}
+use Rattle.lines.specs.readers.Title.{nameLength, nameAt, sectionAt, headingOf, headingAt, remarkAt}
 
 abbrev pub OptionalWithin : List ℕ → Optional → Type 0
 OptionalWithin l (Given a) = ArgumentWithin l a

@@ -16,16 +16,16 @@ use Rattle.scan.specs.Line.{byteAt, byteIs}
 use Rattle.scan.specs.Words.{begins, standsAt, Spelled, firstOf}
 use Rattle.scan.proofs.RunLaws.{window-end, run-within}
 use Rattle.scan.proofs.OnwardLaws.{picked}
-use Rattle.texts.specs.Text.{textFits}
+use Rattle.texts.specs.readers.Text.{textFits}
 use Rattle.lines.specs.declared.command.Operation.{Operation}
 use Rattle.lines.specs.declared.command.Comparison.{Comparison}
 use Rattle.lines.specs.declared.command.Line.{Line}
 use Rattle.lines.specs.declared.command.Line.the-variants.{NoForm, Text, Section, Set, IfZero, IfNonZero, Compare, Else, EndIf, BeginTable, EndTable, Records, Entries, Datasource, NoFormFeed, NewPage, Heading, NoHeading, Remark}
-use Rattle.lines.specs.Behind.{behindSpace}
-use Rattle.lines.specs.Set.{setAt}
-use Rattle.lines.specs.Compare.{compareAt}
-use Rattle.lines.specs.Title.{nameLength, nameAt, sectionAt}
-use Rattle.lines.specs.Command.{commands, parseLine}
+use Rattle.lines.specs.readers.Behind.{behindSpace}
+use Rattle.lines.specs.readers.Set.{setAt}
+use Rattle.lines.specs.readers.Compare.{compareAt}
+use Rattle.lines.specs.readers.Title.{nameLength, nameAt, sectionAt}
+use Rattle.lines.specs.readers.Command.{commands, parseLine}
 use Rattle.lines.proofs.Makes.{set-makes, datasource-makes, compare-makes, single-makes, bare-makes, optional-makes, fetch-makes, heading-makes, remark-makes}
 
 -- ---- the other forms

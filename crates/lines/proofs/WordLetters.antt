@@ -10,7 +10,7 @@ use Rattle.scan.specs.Run.{belongs, span}
 use Rattle.scan.specs.Line.{byteAt}
 use Rattle.scan.specs.Words.{wordIn, wordElse}
 use Rattle.scan.proofs.LetterLaws.{Letter, letter, Known, fits, fitsAll, none, _and_, tried, wordAmong, by-letters}
-use Rattle.lines.specs.Dispatch.{commandWords, commandWord}
+use Rattle.lines.specs.inner.Dispatch.{commandWords, commandWord}
 
 -- the words of a table from the k-th on
 wordsOf : List ℕ → ℕ → ℕ → List (List ℕ)

@@ -6,12 +6,12 @@ use Prim.Native.Nat.{ℕ, _+_}
 use lib.Dec.{leb}
 use lib.ListN.{length}
 use Rattle.scan.specs.Line.{byteIs}
-use Rattle.scan.specs.Digits.{numberAt}
+use Rattle.scan.specs.readers.Digits.{numberAt}
 use Rattle.scan.specs.Words.{firstOf}
 use Rattle.lines.specs.declared.command.Line.{Line}
 use Rattle.lines.specs.declared.command.Line.the-variants.{NoForm, Text, Heading, NoHeading}
-use Rattle.lines.specs.Reading.{numeralOr}
-use Rattle.lines.specs.Command.{commands}
+use Rattle.lines.specs.readers.Reading.{numeralOr}
+use Rattle.lines.specs.readers.Command.{commands}
 
 unfoldable pub knownOf : List ℕ → ℕ → ℕ → Line
 knownOf l at n = cond (leb (length l) at) (NoHeading n) (Heading n (at + 1))

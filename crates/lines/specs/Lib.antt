@@ -1,11 +1,4 @@
-pub mod Reading
-pub mod Behind
-pub mod Set
-pub mod Compare
-pub mod Simple
-pub mod Fetch
-pub mod Title
-pub mod Command
-pub mod Dispatch
+pub mod readers
+pub mod inner
 pub mod Known
 pub mod Rows

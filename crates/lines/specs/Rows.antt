@@ -8,7 +8,8 @@ use Rattle.numbers.specs.declared.Quantity.the-variants.{Integer, Decimal}
 use Rattle.scan.specs.Ascii.{ascii}
 use Rattle.scan.specs.Run.{belongs, span}
 use Rattle.scan.specs.Line.{byteAt}
-use Rattle.scan.specs.Digits.{valueFrom, digitsAt, numberAt}
+use Rattle.scan.specs.Value.{valueFrom}
+use Rattle.scan.specs.readers.Digits.{digitsAt, numberAt}
 use Rattle.scan.specs.Words.{begins, standsAt, wordIn, wordFrom, wordAt, firstOf}
 use Rattle.arguments.specs.declared.index.Index.the-variants.{Fixed, Variable, Loop}
 use Rattle.arguments.specs.declared.operand.Operand.{Operand}
@@ -17,24 +18,26 @@ use Rattle.arguments.specs.declared.operand.Operand.the-variants as operand
 use Rattle.arguments.specs.declared.argument.Argument.{Argument}
 use Rattle.arguments.specs.declared.argument.Filter.{Filter}
 use Rattle.arguments.specs.declared.argument.Filter.the-variants.{Unfiltered, Absolute, Truncated, UpperCase, Length, RecordCount, EntryCount}
-use Rattle.arguments.specs.Literal.{inMillionths, fractionAt, unsignedAt, literalAt}
-use Rattle.arguments.specs.Index.{variableIndex, indexAt}
-use Rattle.arguments.specs.Operand.{stringAt, entryOf, recordOf, cellOf, cellAt, wholeAt, numberedOf, numberedAt, names, namedAt, numberOr, operandAt}
-use Rattle.arguments.specs.Argument.{countOf, admits, filteredAt, filters, argumentOf, argumentAt}
-use Rattle.texts.specs.Text.{placesAt, placesOf, widthNext, fieldOf, fieldAt, placed, pieceAt, widthOf, totalWidth, before, piecesWithin, textPieces, fitsBehind, textFits}
+use Rattle.arguments.specs.readers.Literal.{inMillionths, fractionAt, unsignedAt, literalAt}
+use Rattle.arguments.specs.readers.Index.{variableIndex, indexAt}
+use Rattle.arguments.specs.readers.Operand.{stringAt, entryOf, recordOf, cellOf, cellAt, wholeAt, numberedOf, numberedAt, names, namedAt, numberOr, operandAt}
+use Rattle.arguments.specs.Admitted.{countOf, admits}
+use Rattle.arguments.specs.readers.Argument.{filteredAt, filters, argumentOf, argumentAt}
+use Rattle.texts.specs.Width.{widthOf, totalWidth}
+use Rattle.texts.specs.readers.Text.{placesAt, placesOf, widthNext, fieldOf, fieldAt, placed, pieceAt, before, piecesWithin, textPieces, fitsBehind, textFits}
 use Rattle.lines.specs.declared.command.Operation.the-variants.{Assign, Add, Subtract, Multiply, Divide}
 use Rattle.lines.specs.declared.command.Target.the-variants.{IntegerTarget, DecimalTarget, StringTarget}
 use Rattle.lines.specs.declared.command.Comparison.the-variants.{SameString, SameLetters, Equal, NotEqual, Less, AtMost, Greater, AtLeast}
 use Rattle.lines.specs.declared.command.Optional.the-variants.{Given, Absent}
 use Rattle.lines.specs.declared.command.Line.{Line}
 use Rattle.lines.specs.declared.command.Line.the-variants.{NoForm, Text, Section, Set, IfZero, IfNonZero, Compare, Else, EndIf, BeginTable, EndTable, Records, Entries, Datasource, NoFormFeed, NewPage, Heading, NoHeading, Remark}
-use Rattle.lines.specs.Behind.{behindSpace}
-use Rattle.lines.specs.Set.{stringTarget, targetOf, setAt, datasourceAt}
-use Rattle.lines.specs.Compare.{compareAt}
-use Rattle.lines.specs.Simple.{singleAt, bareAt, optionalAt}
-use Rattle.lines.specs.Fetch.{parameterAt, fetchedAt, fetchAt}
-use Rattle.lines.specs.Title.{nameAt, sectionAt, headingOf, headingAt, remarkAt}
-use Rattle.lines.specs.Command.{commands, parseLine}
+use Rattle.lines.specs.readers.Behind.{behindSpace}
+use Rattle.lines.specs.readers.Set.{stringTarget, targetOf, setAt, datasourceAt}
+use Rattle.lines.specs.readers.Compare.{compareAt}
+use Rattle.lines.specs.readers.Simple.{singleAt, bareAt, optionalAt}
+use Rattle.lines.specs.readers.Fetch.{parameterAt, fetchedAt, fetchAt}
+use Rattle.lines.specs.readers.Title.{nameAt, sectionAt, headingOf, headingAt, remarkAt}
+use Rattle.lines.specs.readers.Command.{commands, parseLine}
 
 -- what a line is, and what is expected
 pub record Row : Type 0 where

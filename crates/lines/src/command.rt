@@ -12,8 +12,8 @@ use scan::words::WordRead;
 ghost use mathlib.Core.Path.{_≡_};
 ghost use Rattle.scan.specs.Words.{firstOf};
 ghost use Rattle.lines.specs.declared.command.Line.the-variants.{NoForm};
-ghost use Rattle.lines.specs.Command.{commands, parseLine};
-ghost use Rattle.lines.specs.Dispatch.{otherAt, commandAt};
+ghost use Rattle.lines.specs.readers.Command.{commands, parseLine};
+ghost use Rattle.lines.specs.inner.Dispatch.{otherAt, commandAt};
 ghost use Rattle.lines.specs.Known.{formOf};
 
 // $SETE, $SETA, $SETS, $SETM, $SETD

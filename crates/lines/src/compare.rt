@@ -5,8 +5,8 @@ use crate::command::Line;
 use arguments::argument;
 use arguments::argument::ArgumentRead;
 ghost use mathlib.Core.Path.{_≡_};
-ghost use Rattle.lines.specs.Dispatch.{comparisonOf};
-ghost use Rattle.lines.specs.Compare.{compareAt};
+ghost use Rattle.lines.specs.inner.Dispatch.{comparisonOf};
+ghost use Rattle.lines.specs.readers.Compare.{compareAt};
 
 fn comparison_of(k: usize) -> Comparison
     ensures { λ r. ⌜ r ≡ comparisonOf k ⌝ }

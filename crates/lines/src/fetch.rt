@@ -8,8 +8,8 @@ use scan::bytes;
 use scan::digits;
 use scan::digits::Numeral;
 ghost use mathlib.Core.Path.{_≡_};
-ghost use Rattle.lines.specs.Dispatch.{fetchOf};
-ghost use Rattle.lines.specs.Fetch.{parameterAt, fetchedAt, fetchAt};
+ghost use Rattle.lines.specs.inner.Dispatch.{fetchOf};
+ghost use Rattle.lines.specs.readers.Fetch.{parameterAt, fetchedAt, fetchAt};
 
 // What is fetched, and the place behind its words.
 pub enum FetchRead {

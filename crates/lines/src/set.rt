@@ -11,8 +11,8 @@ use arguments::operand;
 use arguments::operand::Operand;
 use arguments::operand::OperandRead;
 ghost use mathlib.Core.Path.{_≡_};
-ghost use Rattle.lines.specs.Dispatch.{operationOf};
-ghost use Rattle.lines.specs.Set.{targetOf, setAt, datasourceAt};
+ghost use Rattle.lines.specs.inner.Dispatch.{operationOf};
+ghost use Rattle.lines.specs.readers.Set.{targetOf, setAt, datasourceAt};
 
 pub enum TargetRead {
     TargetIs(Target),

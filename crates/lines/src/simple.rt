@@ -5,8 +5,8 @@ use crate::command::Optional;
 use arguments::argument;
 use arguments::argument::ArgumentRead;
 ghost use mathlib.Core.Path.{_≡_};
-ghost use Rattle.lines.specs.Dispatch.{singleOf, bareOf, optionalOf};
-ghost use Rattle.lines.specs.Simple.{singleAt, bareAt, optionalAt};
+ghost use Rattle.lines.specs.inner.Dispatch.{singleOf, bareOf, optionalOf};
+ghost use Rattle.lines.specs.readers.Simple.{singleAt, bareAt, optionalAt};
 
 // $IFNOT, $IF, $BT
 pub fn single_at(line: &[u8], at: usize, k: usize) -> Line

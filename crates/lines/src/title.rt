@@ -7,7 +7,7 @@ use scan::digits::Numeral;
 use scan::run;
 use scan::run::Class;
 ghost use mathlib.Core.Path.{_≡_};
-ghost use Rattle.lines.specs.Title.{sectionAt, headingOf, headingAt, remarkAt};
+ghost use Rattle.lines.specs.readers.Title.{sectionAt, headingOf, headingAt, remarkAt};
 ghost use Rattle.lines.specs.Known.{knownOf, knownHeading};
 
 // "name: 1–16 of A–Z, 0–9"

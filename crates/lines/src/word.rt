@@ -4,7 +4,7 @@ use scan::words;
 use scan::words::WordRead;
 ghost use mathlib.Core.Path.{_≡_};
 ghost use Rattle.scan.specs.Line.{byteAt};
-ghost use Rattle.lines.specs.Dispatch.{commandWord};
+ghost use Rattle.lines.specs.inner.Dispatch.{commandWord};
 
 // Any of the words. Apart from its callers, since the table is built with each call.
 fn any_word(line: &[u8]) -> WordRead

@@ -11,7 +11,7 @@ use lib.ListN.{length}
 use Rattle.nesting.specs.declared.Shape.the-variants.{Section, Test, Else, EndTest, Table, EndTable, Plain}
 use Rattle.nesting.specs.declared.Step.the-variants.{Went, Wrong}
 use Rattle.nesting.specs.Nest.{Mark, section, test, other, table, tests, tables, behind, allClosed, sectionBegun, testTurned, testEnded, tableEnded, inSection}
-use Rattle.nesting.specs.Open.{digit, code, Holds, Follows}
+use Rattle.nesting.specs.inner.Open.{digit, code, Holds, Follows}
 
 -- ---- the number of what is open fits
 

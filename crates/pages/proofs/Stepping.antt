@@ -18,17 +18,17 @@ use Rattle.meaning.specs.declared.end.Ended.the-variants.{Finished, Halted}
 use Rattle.meaning.proofs.Doing.{then-does, then-over, does-done}
 use Rattle.meaning.proofs.Looping.{Leads, leads-start, leads-next, leads-over}
 use Rattle.values.specs.declared.scene.Scene.{Scene}
-use Rattle.values.specs.Word.{questions}
+use Rattle.values.specs.inner.Word.{questions}
 use Rattle.values.specs.State.{answers}
 use Rattle.pages.specs.declared.page.Page.{Page}
 use Rattle.pages.specs.declared.page.Turned.{Turned}
 use Rattle.pages.specs.declared.heading.Heading.{Heading}
 use Rattle.pages.specs.declared.step.Paged.{Paged}
 use Rattle.texts.specs.Pieces.{piecesOf, fieldCount}
-use Rattle.pages.specs.Pass.{Lent, machineOf, Sourced}
+use Rattle.pages.specs.inner.Pass.{Lent, machineOf, Sourced}
 use Rattle.pages.specs.Heading.{noHeading}
 use Rattle.pages.specs.Page.{sayMeaning, headLine, headFrom, headNumber, headMeaning, headsMeaning, highestOf, topMeaning, lineStep}
-use Rattle.pages.specs.Paging.{TurnReady, Turns, SayReady, Says, AllFit, headFields, HeadsReady, Heads, Tops, StepReady, Steps}
+use Rattle.pages.specs.inner.Paging.{TurnReady, Turns, SayReady, Says, AllFit, headFields, HeadsReady, Heads, Tops, StepReady, Steps}
 use Rattle.pages.proofs.Turning.{head-short, blank-fits, blank-fields, highest-most, highest-inside}
 
 -- ---- where the loop stands: the rest of the headings, from a page and what is filled there

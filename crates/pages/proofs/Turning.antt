@@ -17,9 +17,10 @@ use Rattle.meaning.specs.declared.end.Halt.{Halt}
 use Rattle.meaning.specs.declared.end.Halt.the-variants.{Cut}
 use Rattle.meaning.specs.declared.end.Ended.the-variants.{Finished, Halted}
 use Rattle.meaning.proofs.Doing.{then-does, then-over, does-done, does-print, does-print-cut}
-use Rattle.texts.specs.Text.{piecesWithin, textPieces, totalWidth, fitsBehind, textFits}
+use Rattle.texts.specs.Width.{totalWidth}
+use Rattle.texts.specs.readers.Text.{piecesWithin, textPieces, fitsBehind, textFits}
 use Rattle.values.specs.declared.scene.Scene.{Scene}
-use Rattle.values.specs.Word.{questions}
+use Rattle.values.specs.inner.Word.{questions}
 use Rattle.values.specs.State.{answers}
 use Rattle.pages.specs.declared.text.Told.{Told}
 use Rattle.pages.specs.declared.page.Page.{Page}
@@ -27,10 +28,10 @@ use Rattle.pages.specs.declared.page.Turned.{Turned}
 use Rattle.pages.specs.declared.heading.Heading.{Heading}
 use Rattle.pages.specs.declared.step.Paged.{Paged}
 use Rattle.texts.specs.Pieces.{read, piecesOf, fieldCount}
-use Rattle.pages.specs.Pass.{Lent, Sayable, Tells}
+use Rattle.pages.specs.inner.Pass.{Lent, Sayable, Tells}
 use Rattle.pages.specs.Page.{brokenOf, advancedOf, sayMeaning, headLine, headFrom, headNumber, highestOf, breakMeaning, turnMeaning}
 use Rattle.pages.specs.Heading.{noHeading}
-use Rattle.pages.specs.Paging.{sceneOn, TurnReady, Breaks, Turns, SayReady, Says}
+use Rattle.pages.specs.inner.Paging.{sceneOn, TurnReady, Breaks, Turns, SayReady, Says}
 
 -- ---- the break
 

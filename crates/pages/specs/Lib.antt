@@ -1,7 +1,6 @@
 pub mod Shown
 pub mod Text
-pub mod Pass
+pub mod inner
 pub mod Heading
 pub mod Page
-pub mod Paging
 pub mod Rows

@@ -13,7 +13,7 @@ use Rattle.meaning.specs.declared.question.Question.{Question}
 use Rattle.meaning.specs.declared.refusal.Refusal.{Refusal}
 use Rattle.meaning.specs.declared.refusal.Overflow.the-variants.{Output}
 use Rattle.scan.specs.Ascii.{ascii}
-use Rattle.texts.specs.Text.{piecesWithin, textPieces}
+use Rattle.texts.specs.readers.Text.{piecesWithin, textPieces}
 use Rattle.values.specs.Machine.{Machine}
 use Rattle.pages.specs.declared.page.Page.{Page}
 use Rattle.pages.specs.declared.heading.Heading.{Heading}

@@ -5,7 +5,7 @@ use meaning::refusal::Overflow;
 ghost use mathlib.Core.Path.{_≡_};
 ghost use Prim.Native.Nat.{_≤_, _<_};
 ghost use Rattle.pages.specs.Page.{newPage, brokenOf, advancedOf};
-ghost use Rattle.pages.specs.Paging.{TurnReady, Breaks, Turns};
+ghost use Rattle.pages.specs.inner.Paging.{TurnReady, Breaks, Turns};
 
 // PAGENUM and LINENUM, which is the next line.
 pub struct Page {

@@ -11,8 +11,8 @@ ghost use mathlib.Core.Path.{_≡_};
 ghost use Prim.Native.Nat.{_≤_};
 ghost use Rattle.pages.specs.Heading.{headingsOf};
 ghost use Rattle.pages.specs.Page.{highestOf, headLine, headFrom, headNumber};
-ghost use Rattle.pages.specs.Pass.{lent};
-ghost use Rattle.pages.specs.Paging.{sceneOn, SayReady, Says, HeadsReady, Heads, StepReady, Tops, Steps};
+ghost use Rattle.pages.specs.inner.Pass.{lent};
+ghost use Rattle.pages.specs.inner.Paging.{sceneOn, SayReady, Says, HeadsReady, Heads, StepReady, Tops, Steps};
 
 // How many headings are printed: up to the highest defined.
 fn highest(headings: &[u64]) -> usize

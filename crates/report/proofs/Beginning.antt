@@ -9,7 +9,7 @@ use Rattle.template.specs.declared.Checked.{Checked}
 use Rattle.template.specs.declared.Checked.the-variants.{Accepted, Refused}
 use Rattle.template.specs.Order.{templateChecked}
 use Rattle.cells.specs.Store.{held}
-use Rattle.cells.specs.Index.{Indexes}
+use Rattle.cells.specs.inner.Index.{Indexes}
 use Rattle.cells.specs.declared.index.Indexed.{Indexed}
 use Rattle.cells.specs.declared.index.Indexed.the-variants.{Count, BadStore}
 use Rattle.cells.proofs.Replies.{not-held}
@@ -19,8 +19,8 @@ use Rattle.meaning.specs.declared.refusal.Refusal.{Refusal}
 use Rattle.meaning.specs.declared.refusal.Refusal.the-variants as refusal
 use Rattle.report.specs.declared.state.Stretch.{Stretch}
 use Rattle.report.specs.Report.{refusedWith, checkedOutcome, reportOf}
-use Rattle.report.specs.Start.{startFlow, startSaved, refusedAt, startedAt}
-use Rattle.report.specs.Stretch.{Begun}
+use Rattle.report.specs.inner.Start.{startFlow, startSaved, refusedAt, startedAt}
+use Rattle.report.specs.inner.Stretch.{Begun}
 use Rattle.report.proofs.Starting.{starts-at}
 use Rattle.report.proofs.Stored.{Serving, part-kept}
 

@@ -20,14 +20,15 @@ use Rattle.meaning.specs.declared.end.Ended.the-variants.{Finished, Halted}
 use Rattle.meaning.proofs.Doing.{text-kept}
 use Rattle.meaning.proofs.Looping.{Leads, leads-start, leads-next}
 use Rattle.meaning.proofs.Moving.{asked-most, moved}
-use Rattle.values.specs.Word.{unpacked, questions}
+use Rattle.values.specs.inner.Word.{unpacked, questions}
 use Rattle.report.specs.declared.Report.{Report}
 use Rattle.report.specs.declared.state.Saved.{Saved}
 use Rattle.report.specs.declared.state.Stretch.{Stretch}
 use Rattle.execution.specs.State.{State}
 use Rattle.report.specs.Report.{runFrom, startOf, runMeaning, ranTo, checkedOutcome, reportOf}
-use Rattle.report.specs.Stretch.{stretch, stateIn, storeOf, Standing, RunReady, fresh, Ran, Begun, HandsBack, Reported}
-use Rattle.execution.specs.Executing.{sourceOf, Kept}
+use Rattle.report.specs.Reported.{HandsBack, Reported}
+use Rattle.report.specs.inner.Stretch.{stretch, stateIn, storeOf, Standing, RunReady, fresh, Ran, Begun}
+use Rattle.execution.specs.inner.Executing.{sourceOf, Kept}
 use Rattle.report.proofs.Splitting.{run-split}
 use Rattle.template.proofs.Accepted.{accepted-runs}
 use Rattle.report.proofs.Sounding.{start-standing}

@@ -22,7 +22,7 @@ use Rattle.meaning.proofs.Runs.{asked-fits, text-fits}
 use Rattle.values.specs.State.{answers}
 use Rattle.report.specs.declared.Report.{Report}
 use Rattle.report.specs.Report.{runMeaning, Outcome, textIn, refusedWith, ranTo, checkedOutcome, reportOf, reportIn}
-use Rattle.report.specs.Stretch.{HandsBack, Reported}
+use Rattle.report.specs.Reported.{HandsBack, Reported}
 
 -- the report on a store
 abbrev pub reportOn : List ℕ → List ℕ → ℕ → ℕ → history.State → Outcome

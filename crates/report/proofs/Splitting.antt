@@ -10,7 +10,7 @@ use Rattle.meaning.proofs.Binding.{bind-assoc, bind-same}
 use Rattle.execution.specs.State.{State}
 use Rattle.execution.specs.Line.{lineMeaning}
 use Rattle.report.specs.Report.{runFrom}
-use Rattle.report.specs.Stretch.{stretch}
+use Rattle.report.specs.inner.Stretch.{stretch}
 
 module _ (t : List ℕ) (end : ℕ) where
   -- no line is due

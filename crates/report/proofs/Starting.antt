@@ -8,10 +8,10 @@ use Rattle.meaning.specs.declared.question.Question.{Question}
 use Rattle.values.specs.State.{texts, wordsFrom, fetched}
 use Rattle.commands.specs.Looping.{opened}
 use Rattle.pages.specs.Heading.{headingIn}
-use Rattle.execution.specs.State.{stateOf}
+use Rattle.execution.specs.inner.Held.{stateOf}
 use Rattle.report.specs.Report.{startOf}
-use Rattle.report.specs.Start.{startFlow, startSaved}
-use Rattle.report.specs.Stretch.{heldIn}
+use Rattle.report.specs.inner.Start.{startFlow, startSaved}
+use Rattle.report.specs.inner.Stretch.{heldIn}
 
 pub starts-at : (run : Run) (len count places : ℕ) (rows : List (List ℕ)) (source : Question → Answer) → stateOf source (heldIn (startSaved run len count places) rows) (startFlow run) ≡ startOf run
 unfolding startSaved startFlow texts wordsFrom fetched opened headingIn

@@ -10,7 +10,7 @@ use lib.Seq.{take-all, length-take-le}
 use Rattle.cells.specs.Cell.{Cell}
 use Rattle.cells.specs.Store.{held, cells}
 use Rattle.cells.specs.Asking.{replied, askOf}
-use Rattle.cells.specs.Index as I
+use Rattle.cells.specs.inner.Index as I
 use Rattle.cells.specs.declared.index.Indexed.{Indexed}
 use Rattle.cells.specs.declared.index.Indexed.the-variants.{Count}
 use Rattle.cells.proofs.Locating.{held-some}
@@ -18,8 +18,8 @@ use Rattle.cells.proofs.Replies.{index-ready}
 use Rattle.meaning.specs.Answer.{Answer}
 use Rattle.meaning.specs.declared.question.Question.{Question}
 use Rattle.values.specs.State.{answers}
-use Rattle.report.specs.Stretch.{}
-use Rattle.execution.specs.Executing.{sourceOf, Kept}
+use Rattle.report.specs.inner.Stretch.{}
+use Rattle.execution.specs.inner.Executing.{sourceOf, Kept}
 
 module _ (b : List ℕ) (n : ℕ) (h : n ≤ length b) where
   part-long : length (take n b) ≡ n

@@ -24,21 +24,22 @@ use Rattle.meaning.specs.declared.end.Ended.the-variants.{Finished, Halted}
 use Rattle.meaning.proofs.Doing.{then-does, then-over, does-done, does-stop, room-kept, left-kept, text-kept}
 use Rattle.meaning.proofs.Looping.{Leads, leads-start, leads-next, leads-end}
 use Rattle.meaning.proofs.Keeping.{keeps-end}
-use Rattle.values.specs.Word.{questions}
+use Rattle.values.specs.inner.Word.{questions}
 use Rattle.values.specs.State.{texts, fetched}
 use Rattle.values.specs.declared.fetch.Along.the-variants.{Records, Entries}
 use Rattle.pages.specs.Heading.{headingIn}
 use Rattle.execution.specs.declared.state.Flow.{Flow}
 use Rattle.execution.specs.declared.state.Lined.{Lined}
-use Rattle.execution.specs.State.{State, Held, stateOf}
+use Rattle.execution.specs.inner.Held.{Held, stateOf}
+use Rattle.execution.specs.State.{State}
 use Rattle.execution.specs.Line.{lineMeaning}
-use Rattle.execution.specs.Executing.{sourceOf, stateAt, LineReady, Executes}
+use Rattle.execution.specs.inner.Executing.{sourceOf, stateAt, LineReady, Executes}
 use Rattle.execution.proofs.Sounds.{On, sound-more, line-keeps}
 use Rattle.report.specs.declared.state.Saved.{Saved}
 use Rattle.report.specs.declared.state.Stretch.{Stretch}
 use Rattle.report.specs.Report.{runFrom}
-use Rattle.report.specs.Start.{overAt, fullAt}
-use Rattle.report.specs.Stretch.{stretch, heldIn, storeOf, stateIn, Standing, RunReady, fresh, Ran}
+use Rattle.report.specs.inner.Start.{overAt, fullAt}
+use Rattle.report.specs.inner.Stretch.{stretch, heldIn, storeOf, stateIn, Standing, RunReady, fresh, Ran}
 use Rattle.report.proofs.Splitting.{run-split}
 
 module _ (t : List ℕ) (end : ℕ) where

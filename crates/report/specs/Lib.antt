@@ -1,4 +1,4 @@
+pub mod Reported
 pub mod Report
-pub mod Start
-pub mod Stretch
+pub mod inner
 pub mod Rows

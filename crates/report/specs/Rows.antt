@@ -9,7 +9,8 @@ use Rattle.scan.specs.Ascii.{ascii}
 use Rattle.scan.specs.Run.{belongs, span}
 use Rattle.scan.specs.Line.{byteAt, allAllowed}
 use Rattle.scan.specs.Words.{begins as scanBegins, standsAt, firstOf as scanFirstOf}
-use Rattle.scan.specs.Digits.{valueFrom, digitsAt, numberAt}
+use Rattle.scan.specs.Value.{valueFrom}
+use Rattle.scan.specs.readers.Digits.{digitsAt, numberAt}
 use Rattle.numbers.specs.Range.{within}
 use Rattle.numbers.specs.Arithmetic.{checked, absoluteOf, inMillionths as numbersInMillionths, operands, decimalProduct, dividedBy, decimalQuotient, integerProduct, integerQuotient}
 use Rattle.numbers.specs.Rounding.{rounded}
@@ -17,16 +18,18 @@ use Rattle.numbers.specs.Places.{roundedTo}
 use Rattle.numbers.specs.Sign.{opposed}
 use Rattle.fields.specs.Field.{leftIn, negative, placesOf as fieldsPlacesOf, minus, rightIn, fraction, unsigned as fieldsUnsigned, roundedField, shown, widthAllowed, fieldOf as fieldsFieldOf}
 use Rattle.fields.specs.Digits.{countWithin, digitCount, digits}
-use Rattle.arguments.specs.Argument.{admits, filteredAt, filters, argumentOf, argumentAt}
-use Rattle.arguments.specs.Literal.{inMillionths as argumentsInMillionths, fractionAt, unsignedAt, literalAt}
-use Rattle.arguments.specs.Operand.{numberedOf, numberedAt, wholeAt, names, namedAt, numberOr, stringAt, operandAt}
-use Rattle.texts.specs.Text.{before as textsBefore, placesAt, placesOf as textsPlacesOf, widthNext, fieldOf as textsFieldOf, fieldAt, placed, pieceAt, piecesWithin, textPieces, widthOf, totalWidth, fitsBehind, textFits}
-use Rattle.lines.specs.Simple.{bareAt, optionalAt, singleAt}
-use Rattle.lines.specs.Behind.{behindSpace}
-use Rattle.lines.specs.Compare.{compareAt}
-use Rattle.lines.specs.Set.{stringTarget, targetOf, setAt}
-use Rattle.lines.specs.Title.{nameAt, sectionAt}
-use Rattle.lines.specs.Command.{commands, parseLine}
+use Rattle.arguments.specs.Admitted.{admits}
+use Rattle.arguments.specs.readers.Argument.{filteredAt, filters, argumentOf, argumentAt}
+use Rattle.arguments.specs.readers.Literal.{inMillionths as argumentsInMillionths, fractionAt, unsignedAt, literalAt}
+use Rattle.arguments.specs.readers.Operand.{numberedOf, numberedAt, wholeAt, names, namedAt, numberOr, stringAt, operandAt}
+use Rattle.texts.specs.Width.{widthOf, totalWidth}
+use Rattle.texts.specs.readers.Text.{before as textsBefore, placesAt, placesOf as textsPlacesOf, widthNext, fieldOf as textsFieldOf, fieldAt, placed, pieceAt, piecesWithin, textPieces, fitsBehind, textFits}
+use Rattle.lines.specs.readers.Simple.{bareAt, optionalAt, singleAt}
+use Rattle.lines.specs.readers.Behind.{behindSpace}
+use Rattle.lines.specs.readers.Compare.{compareAt}
+use Rattle.lines.specs.readers.Set.{stringTarget, targetOf, setAt}
+use Rattle.lines.specs.readers.Title.{nameAt, sectionAt}
+use Rattle.lines.specs.readers.Command.{commands, parseLine}
 use Rattle.nesting.specs.Nest.{allClosed, inSection, sectionBegun, tableEnded as nestingTableEnded, tables, testEnded, testTurned, tests, behind}
 use Rattle.names.specs.Name.{nameOf}
 use Rattle.cells.specs.Store.{above, rising, ordered, before as cellsBefore, run as cellsRun, cells, held}

@@ -4,7 +4,7 @@ use crate::reads;
 use crate::run;
 use crate::start;
 use meaning::question::Question;
-ghost use Rattle.report.specs.Stretch.{Reported};
+ghost use Rattle.report.specs.Reported.{Reported};
 
 // The report of a template on a store: the text and the questions asked, each from its buffer's start, and how it ended.
 pub fn report<'a>(

@@ -10,8 +10,8 @@ use meaning::end::Halt;
 use meaning::refusal::Refusal;
 ghost use mathlib.Core.Path.{_≡_};
 ghost use Prim.Native.Nat.{_+_, _<_, _^_};
-ghost use Rattle.report.specs.Stretch.{RunReady, Ran};
-ghost use Rattle.report.specs.Start.{overAt, fullAt};
+ghost use Rattle.report.specs.inner.Stretch.{RunReady, Ran};
+ghost use Rattle.report.specs.inner.Start.{overAt, fullAt};
 
 // The run is over: how it ended, and what it left.
 fn over(

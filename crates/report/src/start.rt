@@ -15,8 +15,8 @@ use template::Run;
 ghost use mathlib.Core.Path.{_≡_};
 ghost use Prim.Native.Nat.{_≤_};
 ghost use lib.ListN.{length};
-ghost use Rattle.report.specs.Start.{noLog, startFlow, startSaved, nothingSaved, refusedAt, startedAt};
-ghost use Rattle.report.specs.Stretch.{Begun};
+ghost use Rattle.report.specs.inner.Start.{noLog, startFlow, startSaved, nothingSaved, refusedAt, startedAt};
+ghost use Rattle.report.specs.inner.Stretch.{Begun};
 
 // A log without questions.
 fn no_log() -> Log

@@ -12,7 +12,8 @@ use lib.ListN.{length, getD, take, drop, length-take}
 use Rattle.scan.specs.declared.run.Class.the-variants.{Digit}
 use Rattle.scan.specs.declared.digits.Digits.{Digits}
 use Rattle.scan.specs.Run.{belongs, span}
-use Rattle.scan.specs.Digits.{valueFrom, digitsAt}
+use Rattle.scan.specs.Value.{valueFrom}
+use Rattle.scan.specs.readers.Digits.{digitsAt}
 use Rattle.scan.proofs.RunLaws.{span-end, span-stop, span-more, run-within, length-span}
 
 digit-range : (b : ℕ) (p q : Bool) → leb 48 b ≡ p → leb b 57 ≡ q → (p && q) ≡ true → (48 ≤ b) × (b ≤ 57)

@@ -14,7 +14,8 @@ use Rattle.scan.specs.declared.digits.Numeral.the-variants.{Value, NoNum
 use Rattle.scan.specs.declared.run.Class.the-variants.{Digit}
 use Rattle.scan.specs.Run.{belongs, span}
 use Rattle.scan.specs.Line.{byteAt}
-use Rattle.scan.specs.Digits.{valueFrom, valueOf, digitsAt, numberAt}
+use Rattle.scan.specs.Value.{valueFrom, valueOf}
+use Rattle.scan.specs.readers.Digits.{digitsAt, numberAt}
 use Rattle.scan.proofs.DigitLaws.{digit-bounds}
 
 value-grows : (s : List ℕ) (v : ℕ) → v ≤ valueFrom v s

@@ -1,5 +1,6 @@
+pub mod Value
 pub mod Ascii
 pub mod Run
 pub mod Line
-pub mod Digits
+pub mod readers
 pub mod Words

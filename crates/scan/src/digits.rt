@@ -5,7 +5,7 @@ use crate::run::Class;
 ghost use mathlib.Core.Path.{_≡_};
 ghost use Prim.Native.Nat.{_≤_};
 ghost use lib.ListN.{length};
-ghost use Rattle.scan.specs.Digits.{digitsOf, digitsAt, numberAt};
+ghost use Rattle.scan.specs.readers.Digits.{digitsOf, digitsAt, numberAt};
 
 pub struct Digits {
     pub count: usize,

@@ -23,7 +23,7 @@ use Rattle.cells.specs.declared.index.Indexed.{Indexed}
 use Rattle.cells.specs.declared.index.Indexed.the-variants.{Count, BadStore}
 use Rattle.cells.specs.Cell.{Cell, integerKind, decimalKind, stringKind}
 use Rattle.cells.specs.Asking.{Reply, reply, meant, InStore}
-use Rattle.cells.specs.Index.{Indexes, Answers, counted}
+use Rattle.cells.specs.inner.Index.{Indexes, Answers, counted}
 use Rattle.meaning.specs.declared.refusal.Refusal.{Refusal}
 use Rattle.template.specs.declared.Run.{Run}
 use Rattle.template.specs.declared.Checked.{Checked}

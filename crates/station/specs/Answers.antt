@@ -13,7 +13,7 @@ use Rattle.cells.specs.declared.Answered.{Answered}
 use Rattle.cells.specs.declared.Answered.the-variants.{Missing, Integer, Decimal, Text, Highest}
 use Rattle.cells.specs.Cell.{Cell, integerKind, decimalKind, stringKind}
 use Rattle.cells.specs.Asking.{Reply, questionAllowed, answer}
-use Rattle.cells.specs.Index.{Ready, Filled}
+use Rattle.cells.specs.inner.Index.{Ready, Filled}
 use Rattle.store.specs.Edit.{Edit}
 
 -- a question by its five numbers

@@ -3,7 +3,7 @@ use meaning::question::Question;
 use report::Report;
 use report::reporting;
 ghost use mathlib.Core.Path.{_≡_};
-ghost use Rattle.report.specs.Stretch.{Reported};
+ghost use Rattle.report.specs.Reported.{Reported};
 ghost use Rattle.station.specs.Reports.{reportFrom};
 
 // The number of a report is returned, its other numbers go out.

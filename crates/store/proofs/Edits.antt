@@ -18,15 +18,15 @@ use Rattle.cells.specs.declared.request.Request.the-variants as R
 use Rattle.cells.specs.Cell.{Key, Cell, number, numberOf, cellBytes, wholeCell, wholeKey}
 use Rattle.cells.specs.Store.{encode, held}
 use Rattle.cells.specs.Asking.{lookup}
-use Rattle.cells.specs.Index.{Indexes}
-use Rattle.cells.specs.Request.{requested, requestedKey, CellAsked, KeyAsked}
+use Rattle.cells.specs.inner.Index.{Indexes}
+use Rattle.cells.specs.inner.Request.{requested, requestedKey, CellAsked, KeyAsked}
 use Rattle.cells.proofs.Walking.{encode-append}
 use Rattle.cells.proofs.Locating.{HeldAs, held-some}
 use Rattle.cells.proofs.Requests.{whole-some}
 use Rattle.cells.proofs.Replies.{not-held, index-ready, built}
 use Rattle.store.specs.declared.Slot.{Slot}
 use Rattle.store.specs.Edit.{lower, higher, with, without, refusedEdit, refusedOn, doneOn, written, writtenBy, writtenOut, fits, putOn, takenOut, removeOn, checked, putOf, removeOf}
-use Rattle.store.specs.Slot.{replaced, Stretch, SlotOf}
+use Rattle.store.specs.inner.Slot.{replaced, Stretch, SlotOf}
 
 -- ---- what the request tells
 

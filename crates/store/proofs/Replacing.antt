@@ -8,7 +8,7 @@ use lib.ListN.{length, take, drop, set, replicate, length-replicate, take-append
 use lib.Seq.{sets, sets-eq, length-sets, length-take-le}
 use Rattle.buffers.specs.Buffer.{part, shifted, Stored, Shifted}
 use Rattle.buffers.proofs.Laws.{sets-append, sets-before, stored-in, room-true, length-part}
-use Rattle.store.specs.Slot.{replaced}
+use Rattle.store.specs.inner.Slot.{replaced}
 
 -- stretches that do not meet may be stored in either order
 sets-comm : {A : Type 0} (v w b : List A) (i n : ℕ) → i + length v ≤ n → sets (sets b n w) i v ≡ sets (sets b i v) n w

@@ -11,12 +11,12 @@ use lib.ListN.{length, getD, take, drop, length-append, take-append-drop, List·
 use lib.Seq.{take-append-seam, drop-append-seam, getD-append-add, length-take-le, take-at}
 use Rattle.cells.specs.Cell.{Cell, number, numberOf, keyAt, cellBytes}
 use Rattle.cells.specs.Store.{encode, rising}
-use Rattle.cells.specs.Index.{Ready, Position, SizeAt}
+use Rattle.cells.specs.inner.Index.{Ready, Position, SizeAt}
 use Rattle.cells.proofs.Walking.{encode-append}
 use Rattle.cells.proofs.Locating.{keys, length-keys, keys-append, keys-rise, key-here, HeldAs, held-some, Located, locate, sorted, lower-keys, higher-keys}
 use Rattle.cells.proofs.Answering.{lookup-none, lookup-here, split-at}
 use Rattle.cells.proofs.Runs.{cell-some}
-use Rattle.store.specs.Slot.{Stretch, SlotOf}
+use Rattle.store.specs.inner.Slot.{Stretch, SlotOf}
 use Rattle.store.specs.Edit.{lower, higher}
 
 module _ (k : ℕ) where

@@ -1,3 +1,3 @@
 pub mod Edit
-pub mod Slot
+pub mod inner
 pub mod Rows

@@ -17,7 +17,7 @@ ghost use mathlib.Core.Path.{_≡_};
 ghost use Prim.Native.Nat.{_+_, _<_};
 ghost use lib.ListN.{length};
 ghost use Rattle.store.specs.Edit.{putOf, removeOf, edit};
-ghost use Rattle.store.specs.Slot.{SlotOf};
+ghost use Rattle.store.specs.inner.Slot.{SlotOf};
 
 // How an edit ended, and the store's length after it.
 pub struct Edited {

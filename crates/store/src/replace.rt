@@ -2,7 +2,7 @@
 ghost use mathlib.Core.Path.{_≡_};
 ghost use Prim.Native.Nat.{_+_, _-_, _≤_};
 ghost use lib.ListN.{length};
-ghost use Rattle.store.specs.Slot.{replaced};
+ghost use Rattle.store.specs.inner.Slot.{replaced};
 
 // How far `end` lies before `len`, 0 where it doesn't.
 fn excess(len: usize, end: usize) -> usize

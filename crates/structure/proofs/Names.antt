@@ -16,7 +16,7 @@ use Rattle.scan.specs.Line.{window}
 use Rattle.scan.specs.Words.{begins}
 use Rattle.lines.specs.declared.command.Line.{Line}
 use Rattle.lines.specs.declared.command.Line.the-variants.{NoForm, Text, Section, Set, IfZero, IfNonZero, Compare, Else, EndIf, BeginTable, EndTable, Records, Entries, Datasource, NoFormFeed, NewPage, Heading, NoHeading, Remark}
-use Rattle.lines.specs.Command.{parseLine}
+use Rattle.lines.specs.readers.Command.{parseLine}
 use Rattle.lines.proofs.SectionLaws.{section-begins, begins-section}
 use Rattle.names.specs.Name as name
 use Rattle.names.specs.Name.{sectionWord, sameBytes}

@@ -7,7 +7,7 @@ use lib.Dec.{eqb}
 use lib.ListN.{length, take, drop}
 use Rattle.lines.specs.declared.command.Line.{Line}
 use Rattle.lines.specs.declared.command.Line.the-variants.{NoForm, Text, Section, Set, IfZero, IfNonZero, Compare, Else, EndIf, BeginTable, EndTable, Records, Entries, Datasource, NoFormFeed, NewPage, Heading, NoHeading, Remark}
-use Rattle.lines.specs.Command.{parseLine}
+use Rattle.lines.specs.readers.Command.{parseLine}
 use Rattle.names.specs.Name.{sameBytes}
 use Rattle.template.specs.declared.Verdict.{Verdict}
 use Rattle.template.specs.declared.Verdict.the-variants.{Fine, Fault}

@@ -11,7 +11,7 @@ use lib.ListN.{length, drop, length-take}
 use Rattle.scan.specs.Line.{lineAt, nextLine, window}
 use Rattle.scan.specs.Words.{begins}
 use Rattle.lines.proofs.SectionLaws.{begins-section}
-use Rattle.lines.specs.Command.{parseLine}
+use Rattle.lines.specs.readers.Command.{parseLine}
 use Rattle.meaning.specs.declared.refusal.Refusal.{Refusal}
 use Rattle.meaning.specs.declared.refusal.Refusal.the-variants.{BadTemplate, BadLine, BadNesting, RepeatedSection}
 use Rattle.meaning.specs.Number.{refusalNumber}

@@ -8,7 +8,7 @@ use lib.ListN.{length}
 use Rattle.scan.specs.Line.{window}
 use Rattle.scan.specs.Words.{begins}
 use Rattle.lines.specs.declared.command.Line.the-variants.{NoForm, Section}
-use Rattle.lines.specs.Command.{parseLine}
+use Rattle.lines.specs.readers.Command.{parseLine}
 use Rattle.lines.proofs.SectionLaws.{section-begins, begins-section}
 use Rattle.names.specs.Name.{sectionWord, nameOf}
 use Rattle.template.specs.Form.{shapeIn, shapeOf, hasForm, isFormed}

@@ -16,7 +16,7 @@ use Rattle.template.specs.Lines.{linesOf}
 use Rattle.template.specs.Walk.{walk}
 use Rattle.template.specs.Form.{shapeOf}
 use Rattle.nesting.specs.Nest.{Mark, tests, tables, behind}
-use Rattle.nesting.specs.Open.{code, HoldsOpen, Follows, Steps, Ends}
+use Rattle.nesting.specs.inner.Open.{code, HoldsOpen, Follows, Steps, Ends}
 use Rattle.template.specs.Checks.{nestStep, nestEnd, nestCheck}
 use Rattle.template.proofs.WalkLaws.{walk-end, walk-here, walk-later}
 

@@ -14,7 +14,7 @@ use Rattle.names.specs.Name.{nameOf, sameBytes, keyOf}
 use Rattle.names.proofs.NameLaws.{key-bound, other-key}
 use Rattle.template.specs.Lines.{linesOf}
 use Rattle.template.specs.Checks.{hasName}
-use Rattle.template.specs.Notes.{placeOf, printOf, notedWith, RuledOut}
+use Rattle.template.specs.inner.Notes.{placeOf, printOf, notedWith, RuledOut}
 use Rattle.template.proofs.LineLaws.{lines-more}
 
 -- ---- the lines before, and one more: a name that none of them has

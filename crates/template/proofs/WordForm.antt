@@ -9,10 +9,10 @@ use Rattle.scan.specs.Ascii.{ascii}
 use Rattle.scan.specs.Run.{belongs, span}
 use Rattle.scan.specs.Words.{begins, standsAt, wordIn, wordAt, Spelled, firstOf, wordOr}
 use Rattle.scan.proofs.WordLaws.{tabled, by-number}
-use Rattle.texts.specs.Text.{textFits}
+use Rattle.texts.specs.readers.Text.{textFits}
 use Rattle.lines.specs.declared.command.Line.{Line}
 use Rattle.lines.specs.declared.command.Line.the-variants as form
-use Rattle.lines.specs.Command.{commands, parseLine}
+use Rattle.lines.specs.readers.Command.{commands, parseLine}
 use Rattle.lines.proofs.Makes.{set-makes, datasource-makes, compare-makes, single-makes, bare-makes, optional-makes, fetch-makes, section-makes, heading-makes, remark-makes}
 use Rattle.lines.proofs.SectionLaws.{begins-says}
 use Rattle.nesting.specs.declared.Shape.{Shape}

@@ -7,7 +7,7 @@ use Rattle.scan.specs.Line.{byteIs}
 use Rattle.scan.specs.Words.{Spelled, _takes_, firstOf}
 use Rattle.lines.specs.declared.command.Line.{Line}
 use Rattle.lines.specs.declared.command.Line.the-variants as form
-use Rattle.lines.specs.Command.{parseLine}
+use Rattle.lines.specs.readers.Command.{parseLine}
 use Rattle.nesting.specs.declared.Shape.{Shape}
 use Rattle.nesting.specs.declared.Shape.the-variants.{Section, Remark, Test, Else, EndTest, Table, EndTable, Plain, NoForm}
 

@@ -3,7 +3,7 @@ pub mod Verdicts
 pub mod Walk
 pub mod Form
 pub mod Checks
-pub mod Notes
+pub mod inner
 pub mod Sections
 pub mod Order
 pub mod Seek

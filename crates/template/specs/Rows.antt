@@ -7,20 +7,23 @@ use lib.ListN.{replicate}
 use Rattle.scan.specs.Ascii.{ascii}
 use Rattle.scan.specs.Run.{belongs, span}
 use Rattle.scan.specs.Line.{allAllowed, byteAt}
-use Rattle.scan.specs.Digits.{valueFrom, digitsAt, numberAt}
+use Rattle.scan.specs.Value.{valueFrom}
+use Rattle.scan.specs.readers.Digits.{digitsAt, numberAt}
 use Rattle.scan.specs.Words.{begins, standsAt, wordIn, wordFrom, wordAt, firstOf}
-use Rattle.arguments.specs.Literal.{inMillionths, fractionAt, unsignedAt, literalAt}
-use Rattle.arguments.specs.Index.{variableIndex, indexAt}
-use Rattle.arguments.specs.Operand.{stringAt, entryOf, recordOf, cellOf, cellAt, wholeAt, numberedOf, numberedAt, names, namedAt, numberOr, operandAt}
-use Rattle.arguments.specs.Argument.{countOf, admits, filteredAt, filters, argumentOf, argumentAt}
-use Rattle.texts.specs.Text.{placesAt, placesOf, widthNext, fieldOf, fieldAt, placed, pieceAt, widthOf, totalWidth, before, piecesWithin, textPieces, fitsBehind, textFits}
-use Rattle.lines.specs.Behind.{behindSpace}
-use Rattle.lines.specs.Set.{stringTarget, targetOf, setAt, datasourceAt}
-use Rattle.lines.specs.Compare.{compareAt}
-use Rattle.lines.specs.Simple.{singleAt, bareAt, optionalAt}
-use Rattle.lines.specs.Fetch.{parameterAt, fetchedAt, fetchAt}
-use Rattle.lines.specs.Title.{nameAt, sectionAt, headingOf, headingAt, remarkAt}
-use Rattle.lines.specs.Command.{commands, parseLine}
+use Rattle.arguments.specs.readers.Literal.{inMillionths, fractionAt, unsignedAt, literalAt}
+use Rattle.arguments.specs.readers.Index.{variableIndex, indexAt}
+use Rattle.arguments.specs.readers.Operand.{stringAt, entryOf, recordOf, cellOf, cellAt, wholeAt, numberedOf, numberedAt, names, namedAt, numberOr, operandAt}
+use Rattle.arguments.specs.Admitted.{countOf, admits}
+use Rattle.arguments.specs.readers.Argument.{filteredAt, filters, argumentOf, argumentAt}
+use Rattle.texts.specs.Width.{widthOf, totalWidth}
+use Rattle.texts.specs.readers.Text.{placesAt, placesOf, widthNext, fieldOf, fieldAt, placed, pieceAt, before, piecesWithin, textPieces, fitsBehind, textFits}
+use Rattle.lines.specs.readers.Behind.{behindSpace}
+use Rattle.lines.specs.readers.Set.{stringTarget, targetOf, setAt, datasourceAt}
+use Rattle.lines.specs.readers.Compare.{compareAt}
+use Rattle.lines.specs.readers.Simple.{singleAt, bareAt, optionalAt}
+use Rattle.lines.specs.readers.Fetch.{parameterAt, fetchedAt, fetchAt}
+use Rattle.lines.specs.readers.Title.{nameAt, sectionAt, headingOf, headingAt, remarkAt}
+use Rattle.lines.specs.readers.Command.{commands, parseLine}
 use Rattle.meaning.specs.declared.refusal.Refusal.{Refusal}
 use Rattle.meaning.specs.declared.refusal.Refusal.the-variants.{BadTemplate, BadLine, BadNesting, RepeatedSection, NoSection}
 use Rattle.nesting.specs.Nest.{tests, tables, sectionBegun, testTurned, testEnded, tableEnded, inSection, behind, allClosed}

@@ -12,7 +12,7 @@ use lib.ListN.{length}
 use Rattle.scan.specs.declared.digits.Numeral.{Numeral}
 use Rattle.scan.specs.declared.digits.Numeral.the-variants.{Value, NoNumeral}
 use Rattle.scan.specs.Line.{byteAt}
-use Rattle.scan.specs.Digits.{digitsAt, numberAt}
+use Rattle.scan.specs.readers.Digits.{digitsAt, numberAt}
 use Rattle.scan.proofs.OnwardLaws.{picked, tested}
 use Rattle.scan.proofs.RunLaws.{byte-within}
 use Rattle.scan.proofs.NumberLaws.{Within, number-within}
@@ -21,7 +21,7 @@ use Rattle.arguments.specs.declared.operand.Operand.the-variants as O
 use Rattle.arguments.specs.declared.argument.Argument.{Argument}
 use Rattle.arguments.specs.declared.argument.ArgumentRead.{ArgumentRead}
 use Rattle.arguments.specs.declared.argument.ArgumentRead.the-variants.{ArgumentTo, NoArgument}
-use Rattle.arguments.specs.Argument.{argumentAt}
+use Rattle.arguments.specs.readers.Argument.{argumentAt}
 use Rattle.arguments.specs.Parameter.{parameterOf}
 use Rattle.arguments.proofs.Parsed.{ArgumentWithin, questionsOf, small-parameter, argument-bounded, argument-bytes}
 use Rattle.texts.specs.declared.text.Places.{Places}
@@ -35,7 +35,7 @@ use Rattle.texts.specs.declared.text.Piece.{Piece}
 use Rattle.texts.specs.declared.text.Piece.the-variants.{Plain, Placed}
 use Rattle.texts.specs.declared.text.PieceRead.{PieceRead}
 use Rattle.texts.specs.declared.text.PieceRead.the-variants.{PieceTo, NoPiece}
-use Rattle.texts.specs.Text.{placesAt, placesOf, widthNext, fieldOf, fieldAt, placed, pieceAt, before, piecesWithin, textPieces}
+use Rattle.texts.specs.readers.Text.{placesAt, placesOf, widthNext, fieldOf, fieldAt, placed, pieceAt, before, piecesWithin, textPieces}
 use Rattle.texts.specs.Pieces.{read, piecesOf, fieldCount}
 
 -- "d 0–6"

@@ -9,7 +9,7 @@ use lib.ListN.{length}
 use Rattle.texts.specs.declared.text.Piece.{Piece}
 use Rattle.texts.specs.declared.text.PieceRead.{PieceRead}
 use Rattle.texts.specs.declared.text.PieceRead.the-variants.{PieceTo, NoPiece}
-use Rattle.texts.specs.Text.{pieceAt, before, piecesWithin, textPieces}
+use Rattle.texts.specs.readers.Text.{pieceAt, before, piecesWithin, textPieces}
 pub use Rattle.texts.proofs.FieldLaws.{piece-ends}
 
 -- one count of pieces gives what another does, where both reach the end of the line

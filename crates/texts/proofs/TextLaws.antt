@@ -9,7 +9,8 @@ use borrow.Author.Tests.{le-leb, lt-leb}
 use lib.ListN.{length}
 use Rattle.texts.specs.declared.text.Piece.{Piece}
 use Rattle.texts.specs.declared.text.PieceRead.the-variants.{PieceTo, NoPiece}
-use Rattle.texts.specs.Text.{pieceAt, widthOf, totalWidth, before, textPieces, fitsBehind}
+use Rattle.texts.specs.Width.{widthOf, totalWidth}
+use Rattle.texts.specs.readers.Text.{pieceAt, before, textPieces, fitsBehind}
 use Rattle.texts.proofs.PieceLaws.{pieces-end, pieces-refused, pieces-more}
 
 -- what stands behind more than 132 bytes doesn't fit

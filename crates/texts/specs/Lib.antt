@@ -1,3 +1,4 @@
-pub mod Text
+pub mod Width
+pub mod readers
 pub mod Pieces
 pub mod Rows

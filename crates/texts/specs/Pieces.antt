@@ -7,7 +7,7 @@ use Rattle.scan.specs.declared.run.Class.the-variants.{Unbraced}
 use Rattle.scan.specs.Run.{span}
 use Rattle.texts.specs.declared.text.Piece.{Piece}
 use Rattle.texts.specs.declared.text.Piece.the-variants.{Plain, Placed}
-use Rattle.texts.specs.Text.{textPieces}
+use Rattle.texts.specs.readers.Text.{textPieces}
 
 -- the pieces of an accepted text, which always has some
 unfoldable pub read : Option (List Piece) → List Piece

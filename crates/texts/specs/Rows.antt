@@ -6,18 +6,20 @@ use Rattle.numbers.specs.declared.Quantity.the-variants.{Integer}
 use Rattle.scan.specs.Ascii.{ascii}
 use Rattle.scan.specs.Run.{belongs, span}
 use Rattle.scan.specs.Line.{byteAt}
-use Rattle.scan.specs.Digits.{valueFrom, digitsAt, numberAt}
+use Rattle.scan.specs.Value.{valueFrom}
+use Rattle.scan.specs.readers.Digits.{digitsAt, numberAt}
 use Rattle.arguments.specs.declared.operand.Operand.the-variants as operand
 use Rattle.arguments.specs.declared.argument.Argument.{Argument}
 use Rattle.arguments.specs.declared.argument.Filter.the-variants.{Unfiltered}
-use Rattle.arguments.specs.Literal.{unsignedAt, literalAt}
-use Rattle.arguments.specs.Operand.{stringAt, numberOr, operandAt}
-use Rattle.arguments.specs.Argument.{argumentOf, argumentAt}
+use Rattle.arguments.specs.readers.Literal.{unsignedAt, literalAt}
+use Rattle.arguments.specs.readers.Operand.{stringAt, numberOr, operandAt}
+use Rattle.arguments.specs.readers.Argument.{argumentOf, argumentAt}
 use Rattle.texts.specs.declared.text.Places.the-variants.{Unsaid, Said}
 use Rattle.texts.specs.declared.text.FieldRead.the-variants.{FieldTo, NoField}
 use Rattle.texts.specs.declared.text.Piece.the-variants.{Placed}
 use Rattle.texts.specs.declared.text.PieceRead.the-variants.{PieceTo}
-use Rattle.texts.specs.Text.{placesAt, placesOf, widthNext, fieldOf, fieldAt, placed, pieceAt, widthOf, totalWidth, before, piecesWithin, textPieces, fitsBehind, textFits}
+use Rattle.texts.specs.Width.{widthOf, totalWidth}
+use Rattle.texts.specs.readers.Text.{placesAt, placesOf, widthNext, fieldOf, fieldAt, placed, pieceAt, before, piecesWithin, textPieces, fitsBehind, textFits}
 
 -- the integer 1
 abbrev one : Argument

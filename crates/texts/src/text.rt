@@ -8,7 +8,8 @@ use scan::digits::Numeral;
 use scan::run;
 use scan::run::Class;
 ghost use mathlib.Core.Path.{_≡_};
-ghost use Rattle.texts.specs.Text.{placesAt, fieldAt, pieceAt, widthOf, textFits};
+ghost use Rattle.texts.specs.Width.{widthOf};
+ghost use Rattle.texts.specs.readers.Text.{placesAt, fieldAt, pieceAt, textFits};
 ghost use Rattle.texts.specs.Pieces.{plainRun};
 
 // `{argument,w}` says no places, `{argument,w.d}` says d.

@@ -24,7 +24,7 @@ use Rattle.arguments.specs.declared.index.Index.{Index}
 use Rattle.arguments.specs.declared.index.Index.the-variants.{Fixed}
 use Rattle.arguments.specs.declared.operand.Operand.{Operand}
 use Rattle.arguments.specs.declared.operand.Operand.the-variants.{Number, Text, IntegerVariable, DecimalVariable, StringVariable, PageNumber, LineNumber, LoopCounter, RecordElement, EntryElement, Parameter, Record, Entry}
-use Rattle.arguments.specs.Argument.{entries, neither, countOf, admits}
+use Rattle.arguments.specs.Admitted.{entries, neither, countOf, admits}
 use Rattle.arguments.proofs.Parsed.{Between, OperandWithin, ArgumentWithin}
 use Rattle.values.specs.declared.fetch.Along.{Along}
 use Rattle.values.specs.declared.fetch.Along.the-variants.{Records, Entries}

@@ -8,7 +8,7 @@ ghost use Rattle.values.specs.Letters as L;
 ghost use Rattle.values.specs.Letters.{equalStrings};
 ghost use Rattle.values.specs.State.{cased, textOf};
 ghost use Rattle.values.specs.State as S;
-ghost use Rattle.values.specs.Yielding.{Sized};
+ghost use Rattle.values.specs.inner.Yielding.{Sized};
 
 // "A string argument lies in the template, in a cell or in an SV."
 pub enum Source {

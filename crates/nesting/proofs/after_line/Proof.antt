@@ -1,7 +1,7 @@
 -- Each shape has a function of its own; a $REM changes nothing.
 use Rattle.nesting.specs.Nest.{behind}
 use mathlib.Core.Path.{refl}
-use Rattle.nesting.specs.Open.{Follows, stepIn}
+use Rattle.nesting.specs.inner.Open.{Follows, stepIn}
 use borrow.Author.Needs.{needs}
 use Rattle.nesting.proofs.after_line.Statement.{statement}
 use Rattle.nesting.proofs.after_line.Tie as tie

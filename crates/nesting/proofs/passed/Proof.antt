@@ -1,5 +1,5 @@
 use borrow.Author.Tests.{eq-eqb, ne-eqb}
-use Rattle.nesting.specs.Open.{stepIn}
+use Rattle.nesting.specs.inner.Open.{stepIn}
 use Rattle.nesting.proofs.OpenLaws.{early-line, same-line}
 use Rattle.nesting.proofs.passed.Statement.{statement}
 use Rattle.nesting.proofs.passed.Tie as tie

@@ -1,5 +1,5 @@
 use borrow.Author.Tests.{eq-eqb, ne-eqb}
-use Rattle.nesting.specs.Open.{stepIn}
+use Rattle.nesting.specs.inner.Open.{stepIn}
 use Rattle.nesting.proofs.OpenLaws.{first-section, next-section, open-at-section}
 use Rattle.nesting.proofs.section_begun.Statement.{statement}
 use Rattle.nesting.proofs.section_begun.Tie as tie

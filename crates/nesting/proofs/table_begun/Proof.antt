@@ -1,6 +1,6 @@
 use native.Mathlib.Omega.{arith}
 use borrow.Author.Tests.{eq-eqb, ne-eqb, le-leb, lt-leb}
-use Rattle.nesting.specs.Open.{stepIn, deeper}
+use Rattle.nesting.specs.inner.Open.{stepIn, deeper}
 use Rattle.nesting.proofs.OpenLaws.{early-table, deep-table, one-more-table, marks-fit}
 use borrow.Author.Needs.{needs}
 use Rattle.nesting.proofs.table_begun.Statement.{statement}

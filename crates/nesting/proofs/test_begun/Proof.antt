@@ -1,6 +1,6 @@
 use native.Mathlib.Omega.{arith}
 use borrow.Author.Tests.{eq-eqb, ne-eqb, le-leb, lt-leb}
-use Rattle.nesting.specs.Open.{stepIn, deeper}
+use Rattle.nesting.specs.inner.Open.{stepIn, deeper}
 use Rattle.nesting.proofs.OpenLaws.{early-test, deep-test, one-more-test, marks-fit}
 use borrow.Author.Needs.{needs}
 use Rattle.nesting.proofs.test_begun.Statement.{statement}

@@ -1,6 +1,6 @@
 use borrow.Author.Needs.{needs}
 use borrow.Author.Tests.{eq-eqb, ne-eqb}
-use Rattle.nesting.specs.Open.{stepIn}
+use Rattle.nesting.specs.inner.Open.{stepIn}
 use Rattle.nesting.proofs.OpenLaws.{no-test, test-left, other-left, no-test-left}
 use Rattle.nesting.proofs.test_ended.Statement.{statement}
 use Rattle.nesting.proofs.test_ended.Tie as tie

@@ -1,5 +1,5 @@
 use borrow.Author.Tests.{eq-eqb, ne-eqb}
-use Rattle.nesting.specs.Open.{stepIn}
+use Rattle.nesting.specs.inner.Open.{stepIn}
 use Rattle.nesting.proofs.OpenLaws.{turned, not-turned}
 use borrow.Author.Needs.{needs}
 use Rattle.nesting.proofs.test_turned.Statement.{statement}

@@ -3,8 +3,8 @@ use mathlib.Core.Path.{sym, _∙_}
 use borrow.Author.Tests.{eq-eqb, ne-eqb, not-true, not-false}
 use native.Mathlib.Omega.{arith}
 use Rattle.scan.proofs.RunLaws.{byte-within}
-use Rattle.arguments.specs.Argument.{argumentAt, argumentOf}
-use Rattle.arguments.specs.Filtered.{filterAt}
+use Rattle.arguments.specs.readers.Argument.{argumentAt, argumentOf}
+use Rattle.arguments.specs.inner.Filtered.{filterAt}
 use Rattle.arguments.proofs.FilterLaws.{filter-by-number}
 use borrow.Author.Needs.{needs}
 use Rattle.arguments.proofs.argument.argument_at.Statement.{statement}

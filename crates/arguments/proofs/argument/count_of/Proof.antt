@@ -1,6 +1,6 @@
 -- The definition makes the code's tests in the code's order.
-use Rattle.arguments.specs.Argument.{countOf}
-use Rattle.arguments.specs.Filtered.{countNumber}
+use Rattle.arguments.specs.Admitted.{countOf}
+use Rattle.arguments.specs.inner.Filtered.{countNumber}
 use borrow.Author.Needs.{needs}
 use Rattle.arguments.proofs.argument.count_of.Statement.{statement}
 use Rattle.arguments.proofs.argument.count_of.Tie as tie

@@ -1,6 +1,6 @@
 -- The definition makes the code's tests in the code's order.
 use borrow.Author.Tests.{eq-eqb, ne-eqb}
-use Rattle.arguments.specs.Filtered.{filterOf}
+use Rattle.arguments.specs.inner.Filtered.{filterOf}
 use Rattle.arguments.proofs.argument.filter_of.Statement.{statement}
 use Rattle.arguments.proofs.argument.filter_of.Tie as tie
 

@@ -2,7 +2,7 @@
 use Rattle.scan.proofs.WordLaws.{word-within}
 use Rattle.scan.proofs.DigitLaws.{digits-within}
 use borrow.Author.Tests.{eq-eqb, ne-eqb}
-use Rattle.arguments.specs.Index.{indexAt, variableIndex}
+use Rattle.arguments.specs.readers.Index.{indexAt, variableIndex}
 use mathlib.Core.Path.{sym, _∙_}
 use borrow.Author.Tests.{eq-eqb, ne-eqb}
 use native.Mathlib.Omega.{arith}

@@ -4,7 +4,7 @@ use Rattle.scan.proofs.DigitLaws.{digits-within, digits-count, digits-below}
 use Rattle.arguments.proofs.ScaleLaws.{scale-power, product-below, magnitude-fits}
 use borrow.Author.Tests.{le-ltb, lt-ltb, eq-eqb, ne-eqb}
 use native.Mathlib.Omega.{arith}
-use Rattle.arguments.specs.Literal.{fractionAt, inMillionths}
+use Rattle.arguments.specs.readers.Literal.{fractionAt, inMillionths}
 use borrow.Author.Needs.{needs}
 use Rattle.arguments.proofs.literal.fraction_at.Statement.{statement}
 use Rattle.arguments.proofs.literal.fraction_at.Tie as tie

@@ -2,7 +2,7 @@
 use Rattle.scan.proofs.RunLaws.{byte-within}
 use borrow.Author.Tests.{eq-eqb, ne-eqb}
 use native.Mathlib.Omega.{arith}
-use Rattle.arguments.specs.Literal.{literalAt}
+use Rattle.arguments.specs.readers.Literal.{literalAt}
 use borrow.Author.Needs.{needs}
 use Rattle.arguments.proofs.literal.literal_at.Statement.{statement}
 use Rattle.arguments.proofs.literal.literal_at.Tie as tie

@@ -4,7 +4,7 @@ use Rattle.scan.proofs.DigitLaws.{digits-within, digits-below}
 use Rattle.scan.proofs.RunLaws.{byte-within}
 use borrow.Author.Tests.{le-ltb, lt-ltb, eq-eqb, ne-eqb}
 use native.Mathlib.Omega.{arith}
-use Rattle.arguments.specs.Literal.{unsignedAt}
+use Rattle.arguments.specs.readers.Literal.{unsignedAt}
 use borrow.Author.Needs.{needs}
 use Rattle.arguments.proofs.literal.unsigned_at.Statement.{statement}
 use Rattle.arguments.proofs.literal.unsigned_at.Tie as tie

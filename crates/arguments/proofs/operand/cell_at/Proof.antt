@@ -3,7 +3,7 @@ use mathlib.Core.Path.{sym, _∙_}
 use borrow.Author.Tests.{eq-eqb, ne-eqb}
 use native.Mathlib.Omega.{arith}
 use Rattle.scan.proofs.RunLaws.{byte-within}
-use Rattle.arguments.specs.Operand.{cellAt, cellOf, recordOf, entryOf}
+use Rattle.arguments.specs.readers.Operand.{cellAt, cellOf, recordOf, entryOf}
 use borrow.Author.Needs.{needs}
 use Rattle.arguments.proofs.operand.cell_at.Statement.{statement}
 use Rattle.arguments.proofs.operand.cell_at.Tie as tie

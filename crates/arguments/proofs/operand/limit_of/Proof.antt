@@ -1,6 +1,6 @@
 -- The definition makes the code's tests in the code's order.
 use borrow.Author.Tests.{le-ltb, lt-ltb}
-use Rattle.arguments.specs.Named.{limitOf}
+use Rattle.arguments.specs.inner.Named.{limitOf}
 use Rattle.arguments.proofs.operand.limit_of.Statement.{statement}
 use Rattle.arguments.proofs.operand.limit_of.Tie as tie
 

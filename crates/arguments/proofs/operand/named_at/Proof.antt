@@ -1,7 +1,7 @@
 -- The definition makes the code's tests in the code's order.
 use mathlib.Core.Path.{sym, _∙_}
 use borrow.Author.Tests.{eq-eqb, ne-eqb}
-use Rattle.arguments.specs.Named.{nameAt}
+use Rattle.arguments.specs.inner.Named.{nameAt}
 use Rattle.arguments.proofs.NameLaws.{name-by-number}
 use borrow.Author.Needs.{needs}
 use Rattle.arguments.proofs.operand.named_at.Statement.{statement}

@@ -1,6 +1,6 @@
 -- The definition makes the code's tests in the code's order.
 use mathlib.Core.Path.{sym, _∙_}
-use Rattle.arguments.specs.Operand.{numberedAt, numberedOf}
+use Rattle.arguments.specs.readers.Operand.{numberedAt, numberedOf}
 use borrow.Author.Needs.{needs}
 use Rattle.arguments.proofs.operand.numbered_at.Statement.{statement}
 use Rattle.arguments.proofs.operand.numbered_at.Tie as tie

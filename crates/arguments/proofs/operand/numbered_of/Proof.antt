@@ -1,6 +1,6 @@
 -- The definition makes the code's tests in the code's order.
 use borrow.Author.Tests.{eq-eqb, ne-eqb}
-use Rattle.arguments.specs.Named.{numbered}
+use Rattle.arguments.specs.inner.Named.{numbered}
 use Rattle.arguments.proofs.operand.numbered_of.Statement.{statement}
 use Rattle.arguments.proofs.operand.numbered_of.Tie as tie
 

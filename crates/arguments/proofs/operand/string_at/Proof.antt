@@ -3,7 +3,7 @@ use borrow.Author.Tests.{eq-eqb, ne-eqb}
 use native.Mathlib.Omega.{arith}
 use Rattle.scan.proofs.RunLaws.{byte-within, run-room}
 use Rattle.scan.specs.declared.run.Class.the-variants.{InString}
-use Rattle.arguments.specs.Operand.{stringAt}
+use Rattle.arguments.specs.readers.Operand.{stringAt}
 use borrow.Author.Needs.{needs}
 use Rattle.arguments.proofs.operand.string_at.Statement.{statement}
 use Rattle.arguments.proofs.operand.string_at.Tie as tie

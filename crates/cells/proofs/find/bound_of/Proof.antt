@@ -1,6 +1,6 @@
 -- By the test.
 use borrow.Author.Tests.{lt-ltb, le-ltb}
-use Rattle.cells.specs.Index.{boundOf}
+use Rattle.cells.specs.inner.Index.{boundOf}
 use borrow.Author.Needs.{needs}
 use Rattle.cells.proofs.find.bound_of.Statement.{statement}
 use Rattle.cells.proofs.find.bound_of.Tie as tie

@@ -1,6 +1,6 @@
 -- By the test.
 use borrow.Author.Tests.{eq-eqb, ne-eqb}
-use Rattle.cells.specs.Index.{offsetOf}
+use Rattle.cells.specs.inner.Index.{offsetOf}
 use Rattle.cells.proofs.question.offset_of.Statement.{statement}
 use Rattle.cells.proofs.question.offset_of.Tie as tie
 

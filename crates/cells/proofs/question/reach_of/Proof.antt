@@ -1,6 +1,6 @@
 -- By the test.
 use borrow.Author.Tests.{eq-eqb, ne-eqb}
-use Rattle.cells.specs.Index.{reachOf}
+use Rattle.cells.specs.inner.Index.{reachOf}
 use Rattle.cells.proofs.question.reach_of.Statement.{statement}
 use Rattle.cells.proofs.question.reach_of.Tie as tie
 

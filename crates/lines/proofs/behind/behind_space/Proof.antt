@@ -2,7 +2,7 @@
 use borrow.Author.Tests.{eq-eqb, ne-eqb}
 use native.Mathlib.Omega.{arith}
 use Rattle.scan.proofs.RunLaws.{byte-within}
-use Rattle.lines.specs.Behind.{behindSpace}
+use Rattle.lines.specs.readers.Behind.{behindSpace}
 use borrow.Author.Needs.{needs}
 use Rattle.lines.proofs.behind.behind_space.Statement.{statement}
 use Rattle.lines.proofs.behind.behind_space.Tie as tie

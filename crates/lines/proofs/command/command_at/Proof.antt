@@ -1,6 +1,6 @@
 -- The definition makes the code's tests in the code's order.
 use borrow.Author.Tests.{le-ltb, lt-ltb, eq-eqb, ne-eqb}
-use Rattle.lines.specs.Dispatch.{commandAt}
+use Rattle.lines.specs.inner.Dispatch.{commandAt}
 use borrow.Author.Needs.{needs}
 use Rattle.lines.proofs.command.command_at.Statement.{statement}
 use Rattle.lines.proofs.command.command_at.Tie as tie

@@ -1,6 +1,6 @@
 -- The definition makes the code's tests in the code's order.
 use borrow.Author.Tests.{le-ltb, lt-ltb, eq-eqb, ne-eqb}
-use Rattle.lines.specs.Dispatch.{otherAt}
+use Rattle.lines.specs.inner.Dispatch.{otherAt}
 use borrow.Author.Needs.{needs}
 use Rattle.lines.proofs.command.other_at.Statement.{statement}
 use Rattle.lines.proofs.command.other_at.Tie as tie

@@ -1,7 +1,7 @@
 -- The definition makes the code's tests in the code's order.
 use mathlib.Core.Path.{sym, _∙_}
 use borrow.Author.Tests.{eq-eqb, ne-eqb}
-use Rattle.lines.specs.Command.{parseLine}
+use Rattle.lines.specs.readers.Command.{parseLine}
 use borrow.Author.Needs.{needs}
 use Rattle.lines.proofs.command.parse_line.Statement.{statement}
 use Rattle.lines.proofs.command.parse_line.Tie as tie

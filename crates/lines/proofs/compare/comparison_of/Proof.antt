@@ -1,6 +1,6 @@
 -- The definition makes the code's tests in the code's order.
 use borrow.Author.Tests.{eq-eqb, ne-eqb}
-use Rattle.lines.specs.Dispatch.{comparisonOf}
+use Rattle.lines.specs.inner.Dispatch.{comparisonOf}
 use Rattle.lines.proofs.compare.comparison_of.Statement.{statement}
 use Rattle.lines.proofs.compare.comparison_of.Tie as tie
 

@@ -1,8 +1,8 @@
 -- The definition makes the code's tests in the code's order.
 use mathlib.Core.Path.{sym, _∙_}
 use borrow.Author.Tests.{le-ltb, lt-ltb, eq-eqb, ne-eqb}
-use Rattle.lines.specs.Dispatch.{fetchOf}
-use Rattle.lines.specs.Fetch.{fetchAt}
+use Rattle.lines.specs.inner.Dispatch.{fetchOf}
+use Rattle.lines.specs.readers.Fetch.{fetchAt}
 use borrow.Author.Needs.{needs}
 use Rattle.lines.proofs.fetch.fetch_at.Statement.{statement}
 use Rattle.lines.proofs.fetch.fetch_at.Tie as tie

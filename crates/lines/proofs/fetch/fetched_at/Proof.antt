@@ -1,6 +1,6 @@
 -- The definition makes the code's tests in the code's order.
 use mathlib.Core.Path.{sym, _∙_}
-use Rattle.lines.specs.Fetch.{fetchedAt}
+use Rattle.lines.specs.readers.Fetch.{fetchedAt}
 use borrow.Author.Needs.{needs}
 use Rattle.lines.proofs.fetch.fetched_at.Statement.{statement}
 use Rattle.lines.proofs.fetch.fetched_at.Tie as tie

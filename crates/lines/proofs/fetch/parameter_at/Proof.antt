@@ -2,7 +2,7 @@
 use borrow.Author.Tests.{eq-eqb, ne-eqb}
 use native.Mathlib.Omega.{arith}
 use Rattle.scan.proofs.RunLaws.{byte-within}
-use Rattle.lines.specs.Fetch.{parameterAt}
+use Rattle.lines.specs.readers.Fetch.{parameterAt}
 use borrow.Author.Needs.{needs}
 use Rattle.lines.proofs.fetch.parameter_at.Statement.{statement}
 use Rattle.lines.proofs.fetch.parameter_at.Tie as tie

@@ -1,7 +1,7 @@
 -- The definition makes the code's tests in the code's order.
 use mathlib.Core.Path.{sym, _∙_}
 use borrow.Author.Tests.{le-ltb, lt-ltb}
-use Rattle.lines.specs.Set.{datasourceAt}
+use Rattle.lines.specs.readers.Set.{datasourceAt}
 use borrow.Author.Needs.{needs}
 use Rattle.lines.proofs.set.datasource_at.Statement.{statement}
 use Rattle.lines.proofs.set.datasource_at.Tie as tie

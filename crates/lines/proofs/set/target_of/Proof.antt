@@ -1,8 +1,8 @@
 -- The definition makes the code's tests in the code's order.
 use mathlib.Core.Path.{sym}
 use borrow.Author.Tests.{eq-eqb}
-use Rattle.lines.specs.Dispatch.{operationOf}
-use Rattle.lines.specs.Set.{stringTarget, targetOf}
+use Rattle.lines.specs.inner.Dispatch.{operationOf}
+use Rattle.lines.specs.readers.Set.{stringTarget, targetOf}
 use Rattle.lines.proofs.DispatchLaws.{not-assigned}
 use borrow.Author.Needs.{needs}
 use Rattle.lines.proofs.set.target_of.Statement.{statement}

@@ -1,7 +1,7 @@
 -- The definition makes the code's tests in the code's order.
 use borrow.Author.Tests.{le-ltb, lt-ltb, eq-eqb, ne-eqb}
-use Rattle.lines.specs.Dispatch.{bareOf}
-use Rattle.lines.specs.Simple.{bareAt}
+use Rattle.lines.specs.inner.Dispatch.{bareOf}
+use Rattle.lines.specs.readers.Simple.{bareAt}
 use Rattle.lines.proofs.simple.bare_at.Statement.{statement}
 use Rattle.lines.proofs.simple.bare_at.Tie as tie
 

@@ -1,7 +1,7 @@
 -- The definition makes the code's tests in the code's order.
 use mathlib.Core.Path.{sym, _∙_}
 use borrow.Author.Tests.{le-leb, lt-leb, le-ltb, lt-ltb}
-use Rattle.lines.specs.Simple.{optionalAt}
+use Rattle.lines.specs.readers.Simple.{optionalAt}
 use borrow.Author.Needs.{needs}
 use Rattle.lines.proofs.simple.optional_at.Statement.{statement}
 use Rattle.lines.proofs.simple.optional_at.Tie as tie

@@ -1,8 +1,8 @@
 -- The definition makes the code's tests in the code's order.
 use mathlib.Core.Path.{sym, _∙_}
 use borrow.Author.Tests.{le-ltb, lt-ltb, eq-eqb, ne-eqb}
-use Rattle.lines.specs.Dispatch.{singleOf}
-use Rattle.lines.specs.Simple.{singleAt}
+use Rattle.lines.specs.inner.Dispatch.{singleOf}
+use Rattle.lines.specs.readers.Simple.{singleAt}
 use borrow.Author.Needs.{needs}
 use Rattle.lines.proofs.simple.single_at.Statement.{statement}
 use Rattle.lines.proofs.simple.single_at.Tie as tie

@@ -1,6 +1,6 @@
 -- The definition makes the code's tests in the code's order.
 use mathlib.Core.Path.{sym, _∙_}
-use Rattle.lines.specs.Title.{headingAt}
+use Rattle.lines.specs.readers.Title.{headingAt}
 use borrow.Author.Needs.{needs}
 use Rattle.lines.proofs.title.heading_at.Statement.{statement}
 use Rattle.lines.proofs.title.heading_at.Tie as tie

@@ -1,7 +1,7 @@
 -- The definition makes the code's tests in the code's order.
 use mathlib.Core.Path.{sym, _∙_}
 use borrow.Author.Tests.{le-leb, lt-leb, eq-eqb, ne-eqb}
-use Rattle.lines.specs.Title.{headingOf}
+use Rattle.lines.specs.readers.Title.{headingOf}
 use borrow.Author.Needs.{needs}
 use Rattle.lines.proofs.title.heading_of.Statement.{statement}
 use Rattle.lines.proofs.title.heading_of.Tie as tie

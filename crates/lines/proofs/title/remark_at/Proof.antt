@@ -1,6 +1,6 @@
 -- The definition makes the code's tests in the code's order.
 use borrow.Author.Tests.{le-leb, lt-leb, eq-eqb, ne-eqb}
-use Rattle.lines.specs.Title.{remarkAt}
+use Rattle.lines.specs.readers.Title.{remarkAt}
 use borrow.Author.Needs.{needs}
 use Rattle.lines.proofs.title.remark_at.Statement.{statement}
 use Rattle.lines.proofs.title.remark_at.Tie as tie

@@ -3,7 +3,7 @@ use borrow.Author.Tests.{le-ltb, lt-ltb, eq-eqb, ne-eqb}
 use native.Mathlib.Omega.{arith}
 use Rattle.scan.specs.declared.run.Class.the-variants.{InName}
 use Rattle.scan.proofs.RunLaws.{run-room}
-use Rattle.lines.specs.Title.{sectionAt, nameAt}
+use Rattle.lines.specs.readers.Title.{sectionAt, nameAt}
 use borrow.Author.Needs.{needs}
 use Rattle.lines.proofs.title.section_at.Statement.{statement}
 use Rattle.lines.proofs.title.section_at.Tie as tie

@@ -1,5 +1,5 @@
 -- The table is the definition's.
-use Rattle.lines.specs.Dispatch.{commandWord}
+use Rattle.lines.specs.inner.Dispatch.{commandWord}
 use borrow.Author.Needs.{needs}
 use Rattle.lines.proofs.word.any_word.Statement.{statement}
 use Rattle.lines.proofs.word.any_word.Tie as tie

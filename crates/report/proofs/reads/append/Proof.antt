@@ -47,7 +47,7 @@ use denote.Triple.Clauses.{ensured, lasts}
 use denote.Triple.Table.{entered, cited}
 use denote.Triple.Walked.{says, needs, Stays, stay-slice, stay-none, walkOf, goes-slice, goes-none, Walks, ends-at, walked, walk-meets}
 use denote.Exit.{yes}
-use Rattle.values.specs.Word.{unpacked, questions}
+use Rattle.values.specs.inner.Word.{unpacked, questions}
 use Rattle.meaning.specs.declared.question.Question.{Question}
 use Rattle.report.specs.declared.state.Log.{Log}
 use Rattle.report.proofs.Rows.{Added, none, more, all, near, placed, fits-next, small-place, word-fits}

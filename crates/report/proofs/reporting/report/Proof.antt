@@ -49,11 +49,12 @@ use denote.Triple.Table.{entered, cited}
 use denote.Triple.Walked.{says, Stays, stay-slice, stay-none, stay-none-slice, walkOf, goes-slice, goes-none, goes-none-slice, Walks, ends-at, walked, walk-meets}
 use denote.Exit.{yes}
 use Rattle.meaning.specs.declared.question.Question.{Question}
-use Rattle.values.specs.Word.{questions}
+use Rattle.values.specs.inner.Word.{questions}
 use Rattle.report.specs.declared.Report.{Report}
 use Rattle.report.specs.declared.state.Log.{Log}
 use Rattle.report.specs.declared.state.Stretch.{Stretch}
-use Rattle.report.specs.Stretch.{RunReady, Ran, Begun, Reported}
+use Rattle.report.specs.Reported.{Reported}
+use Rattle.report.specs.inner.Stretch.{RunReady, Ran, Begun}
 use Rattle.report.proofs.Loan.{Slice, Kept, lent, back}
 use Rattle.report.proofs.Local.{arrayTy, is-repeat, lends-local, local-back}
 use Rattle.report.proofs.Walk.{tests}

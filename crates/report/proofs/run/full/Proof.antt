@@ -1,5 +1,5 @@
 use mathlib.Core.Path.{refl}
-use Rattle.report.specs.Start.{fullAt}
+use Rattle.report.specs.inner.Start.{fullAt}
 use Rattle.report.proofs.run.full.Statement.{statement}
 use Rattle.report.proofs.run.full.Tie as tie
 use Rattle.report.proofs.run.full.Reads as reads

@@ -1,4 +1,4 @@
-use Rattle.report.specs.Start.{overAt}
+use Rattle.report.specs.inner.Start.{overAt}
 use borrow.Author.Needs.{needs}
 use Rattle.report.proofs.run.over.Statement.{statement}
 use Rattle.report.proofs.run.over.Tie as tie

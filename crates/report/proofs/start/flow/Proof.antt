@@ -1,4 +1,4 @@
-use Rattle.report.specs.Start.{startFlow}
+use Rattle.report.specs.inner.Start.{startFlow}
 use borrow.Author.Needs.{needs}
 use Rattle.report.proofs.start.flow.Statement.{statement}
 use Rattle.report.proofs.start.flow.Tie as tie

@@ -1,4 +1,4 @@
-use Rattle.report.specs.Start.{nothingSaved}
+use Rattle.report.specs.inner.Start.{nothingSaved}
 use borrow.Author.Needs.{needs}
 use Rattle.report.proofs.start.nothing.Statement.{statement}
 use Rattle.report.proofs.start.nothing.Tie as tie

@@ -1,4 +1,4 @@
-use Rattle.report.specs.Start.{refusedAt}
+use Rattle.report.specs.inner.Start.{refusedAt}
 use borrow.Author.Needs.{needs}
 use Rattle.report.proofs.start.refused.Statement.{statement}
 use Rattle.report.proofs.start.refused.Tie as tie

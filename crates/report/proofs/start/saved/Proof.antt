@@ -1,4 +1,4 @@
-use Rattle.report.specs.Start.{startSaved}
+use Rattle.report.specs.inner.Start.{startSaved}
 use borrow.Author.Needs.{needs}
 use Rattle.report.proofs.start.saved.Statement.{statement}
 use Rattle.report.proofs.start.saved.Tie as tie

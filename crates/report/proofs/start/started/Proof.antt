@@ -1,4 +1,4 @@
-use Rattle.report.specs.Start.{startedAt}
+use Rattle.report.specs.inner.Start.{startedAt}
 use borrow.Author.Needs.{needs}
 use Rattle.report.proofs.start.started.Statement.{statement}
 use Rattle.report.proofs.start.started.Tie as tie

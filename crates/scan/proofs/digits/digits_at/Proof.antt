@@ -2,7 +2,7 @@
 use native.Mathlib.Omega.{arith}
 use borrow.Author.Tests.{le-ltb, lt-ltb}
 use lib.ListN.{length-take, drop}
-use Rattle.scan.specs.Digits.{digitsAt}
+use Rattle.scan.specs.readers.Digits.{digitsAt}
 use borrow.Author.Needs.{needs}
 use Rattle.scan.proofs.digits.digits_at.Statement.{statement}
 use Rattle.scan.proofs.digits.digits_at.Tie as tie

@@ -6,7 +6,7 @@ use Prim.Native.Nat.{_+_, _-_, _^_, _<_, _≤_}
 use lib.ListN.{length, drop}
 use Rattle.scan.specs.declared.run.Class.the-variants.{Digit}
 use Rattle.scan.specs.Run.{span}
-use Rattle.scan.specs.Digits.{valueFrom}
+use Rattle.scan.specs.Value.{valueFrom}
 use Rattle.scan.proofs.RunLaws.{counted-end, counted-stop, counted-more}
 use Rattle.scan.proofs.DigitLaws.{digit-bounds, value-end, value-stop, value-more, bound-more, bound-ten}
 use borrow.Author.Needs.{needs}

@@ -1,6 +1,6 @@
 -- The definition makes the code's tests in the code's order.
 use Rattle.scan.proofs.DigitLaws.{digits-within}
-use Rattle.scan.specs.Digits.{numberAt}
+use Rattle.scan.specs.readers.Digits.{numberAt}
 use borrow.Author.Tests.{le-leb, lt-leb, eq-eqb, ne-eqb}
 use native.Mathlib.Omega.{arith}
 use borrow.Author.Needs.{needs}

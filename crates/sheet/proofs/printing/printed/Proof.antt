@@ -43,7 +43,7 @@ use denote.Triple.Walked.{says, Stays, stay-dropped, gave-slice, walkOf, goes-dr
 use denote.Exit.{yes}
 use Rattle.meaning.specs.declared.question.Question.{Question}
 use Rattle.report.specs.declared.Report.{Report}
-use Rattle.report.specs.Stretch.{Reported}
+use Rattle.report.specs.Reported.{Reported}
 use Rattle.sheet.specs.Sheet.{Printed}
 use Rattle.report.proofs.Local.{arrayTy, is-repeat}
 use Rattle.sheet.proofs.Row.{lends-row, row-back, literal}

@@ -40,7 +40,7 @@ use denote.Triple.Walked.{says, Stays, stay-dropped, gave-slice, gave-ref, walkO
 use denote.Exit.{yes}
 use Rattle.meaning.specs.declared.question.Question.{Question}
 use Rattle.report.specs.declared.Report.{Report}
-use Rattle.report.specs.Stretch.{Reported}
+use Rattle.report.specs.Reported.{Reported}
 use Rattle.station.specs.Reports.{reportFrom}
 use Rattle.meaning.proofs.question.Question as Q
 use Rattle.report.proofs.Report as O

@@ -1,5 +1,5 @@
 use borrow.Author.Tests.{eq-eqb, ne-eqb}
-use Rattle.template.specs.Notes.{notedWith}
+use Rattle.template.specs.inner.Notes.{notedWith}
 use Rattle.template.proofs.repeats.noted_with.Statement.{statement}
 use Rattle.template.proofs.repeats.noted_with.Tie as tie
 

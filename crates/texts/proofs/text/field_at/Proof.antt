@@ -3,7 +3,7 @@ use mathlib.Core.Path.{sym, _∙_}
 use borrow.Author.Tests.{eq-eqb, ne-eqb}
 use native.Mathlib.Omega.{arith}
 use Rattle.scan.proofs.RunLaws.{byte-within}
-use Rattle.texts.specs.Text.{fieldAt, fieldOf, widthNext, placesOf}
+use Rattle.texts.specs.readers.Text.{fieldAt, fieldOf, widthNext, placesOf}
 use borrow.Author.Needs.{needs}
 use Rattle.texts.proofs.text.field_at.Statement.{statement}
 use Rattle.texts.proofs.text.field_at.Tie as tie

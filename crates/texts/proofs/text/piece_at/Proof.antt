@@ -1,7 +1,7 @@
 -- The definition makes the code's tests in the code's order.
 use mathlib.Core.Path.{sym, _∙_}
 use borrow.Author.Tests.{le-leb, lt-leb, eq-eqb, ne-eqb}
-use Rattle.texts.specs.Text.{pieceAt, placed}
+use Rattle.texts.specs.readers.Text.{pieceAt, placed}
 use borrow.Author.Needs.{needs}
 use Rattle.texts.proofs.text.piece_at.Statement.{statement}
 use Rattle.texts.proofs.text.piece_at.Tie as tie

@@ -3,7 +3,7 @@ use borrow.Author.Tests.{le-ltb, lt-ltb, eq-eqb, ne-eqb}
 use native.Mathlib.Omega.{arith}
 use Rattle.scan.proofs.RunLaws.{byte-within}
 use Rattle.scan.proofs.DigitLaws.{digits-within}
-use Rattle.texts.specs.Text.{placesAt}
+use Rattle.texts.specs.readers.Text.{placesAt}
 use borrow.Author.Needs.{needs}
 use Rattle.texts.proofs.text.places_at.Statement.{statement}
 use Rattle.texts.proofs.text.places_at.Tie as tie

@@ -3,7 +3,7 @@ use mathlib.Core.Path.{_≡_, refl, sym, _∙_}
 use Prim.Native.Nat.{_≤_, _-_}
 use native.Mathlib.Omega.{arith}
 use lib.ListN.{length}
-use Rattle.texts.specs.Text.{textPieces, fitsBehind, textFits}
+use Rattle.texts.specs.readers.Text.{textPieces, fitsBehind, textFits}
 use Rattle.texts.proofs.PieceLaws.{piece-ends}
 use Rattle.texts.proofs.TextLaws.{too-wide, fits-end, fits-refused, fits-more}
 use borrow.Author.Needs.{needs}

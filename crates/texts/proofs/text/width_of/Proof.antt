@@ -1,5 +1,5 @@
 -- The definition makes the code's tests in the code's order.
-use Rattle.texts.specs.Text.{widthOf}
+use Rattle.texts.specs.Width.{widthOf}
 use borrow.Author.Needs.{needs}
 use Rattle.texts.proofs.text.width_of.Statement.{statement}
 use Rattle.texts.proofs.text.width_of.Tie as tie

@@ -1,0 +1,41 @@
+-- Which filters may follow an operand. Assumes nothing.
+use mathlib.Core.Bool.{Bool, true, false}
+use Rattle.arguments.specs.declared.operand.Operand.{Operand}
+use Rattle.arguments.specs.declared.operand.Operand.the-variants.{Number, Text, IntegerVariable, DecimalVariable, StringVariable, PageNumber, LineNumber, LoopCounter, RecordElement, EntryElement, Parameter, Record, Entry}
+use Rattle.arguments.specs.declared.argument.Filter.{Filter}
+use Rattle.arguments.specs.declared.argument.Filter.the-variants.{Unfiltered, Absolute, Truncated, UpperCase, Length, RecordCount, EntryCount}
+
+-- "|RECCNT on Pn, |ENTCNT on Pn.r": the count that may follow an operand
+pub data Count : Type 0 where
+  records : Count
+  entries : Count
+  neither : Count
+
+unfoldable pub countOf : Operand → Count
+countOf (Number q) = neither
+countOf (Text a e) = neither
+countOf (IntegerVariable n) = neither
+countOf (DecimalVariable n) = neither
+countOf (StringVariable n) = neither
+countOf PageNumber = neither
+countOf LineNumber = neither
+countOf LoopCounter = neither
+countOf (RecordElement n) = neither
+countOf (EntryElement n) = neither
+countOf (Parameter n) = records
+countOf (Record n r) = entries
+countOf (Entry n r e) = neither
+
+-- "RECCNT and ENTCNT elsewhere are 3. Other filters may stand after any argument"
+unfoldable pub admits : Filter → Count → Bool
+admits Unfiltered c = true
+admits Absolute c = true
+admits Truncated c = true
+admits UpperCase c = true
+admits Length c = true
+admits RecordCount records = true
+admits RecordCount entries = false
+admits RecordCount neither = false
+admits EntryCount records = false
+admits EntryCount entries = true
+admits EntryCount neither = false

@@ -1,0 +1,4 @@
+pub mod Literal
+pub mod Index
+pub mod Operand
+pub mod Argument

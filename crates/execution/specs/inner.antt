@@ -1,0 +1,5 @@
+pub mod Held
+pub mod Sound
+pub mod Going
+pub mod Executing
+pub mod Arms
