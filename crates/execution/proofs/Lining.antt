@@ -20,7 +20,7 @@ use Rattle.commands.specs.Looping.{openOf}
 use Rattle.commands.proofs.Tabling.{opened-length}
 use Rattle.pages.specs.Heading.{headingIn}
 use Rattle.lines.proofs.Accepted.{parsed-sound}
-use Rattle.lines.specs.Known.{formOf}
+use Rattle.lines.specs.inner.Known.{formOf}
 use Rattle.lines.proofs.KnownLaws.{form-known}
 use Rattle.execution.specs.declared.state.Flow.{Flow}
 use Rattle.execution.specs.declared.state.Lined.{Lined}

@@ -18,7 +18,7 @@ use Rattle.lines.specs.declared.command.Line.the-variants.{NoForm, Text,
 use Rattle.lines.specs.readers.Reading.{numeralOr}
 use Rattle.lines.specs.readers.Title.{headingOf, headingAt}
 use Rattle.lines.specs.readers.Command.{commands, parseLine}
-use Rattle.lines.specs.Known.{knownOf, knownHeading, formOf}
+use Rattle.lines.specs.inner.Known.{knownOf, knownHeading, formOf}
 
 -- what is not NoForm wasn't tested for nothing
 kept : (t : Bool) (f : Line) → (cond t f NoForm ≡ NoForm → ⊥) → f ≡ cond t f NoForm

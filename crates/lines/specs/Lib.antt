@@ -1,4 +1,3 @@
 pub mod readers
 pub mod inner
-pub mod Known
 pub mod Rows

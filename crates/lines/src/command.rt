@@ -14,7 +14,7 @@ ghost use Rattle.scan.specs.Words.{firstOf};
 ghost use Rattle.lines.specs.declared.command.Line.the-variants.{NoForm};
 ghost use Rattle.lines.specs.readers.Command.{commands, parseLine};
 ghost use Rattle.lines.specs.inner.Dispatch.{otherAt, commandAt};
-ghost use Rattle.lines.specs.Known.{formOf};
+ghost use Rattle.lines.specs.inner.Known.{formOf};
 
 // $SETE, $SETA, $SETS, $SETM, $SETD
 pub enum Operation {

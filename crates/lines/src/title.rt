@@ -8,7 +8,7 @@ use scan::run;
 use scan::run::Class;
 ghost use mathlib.Core.Path.{_≡_};
 ghost use Rattle.lines.specs.readers.Title.{sectionAt, headingOf, headingAt, remarkAt};
-ghost use Rattle.lines.specs.Known.{knownOf, knownHeading};
+ghost use Rattle.lines.specs.inner.Known.{knownOf, knownHeading};
 
 // "name: 1–16 of A–Z, 0–9"
 pub fn section_at(line: &[u8], at: usize) -> Line

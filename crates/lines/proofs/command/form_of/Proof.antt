@@ -1,6 +1,6 @@
 -- The definition makes the code's tests in the code's order.
 use borrow.Author.Tests.{eq-eqb, ne-eqb}
-use Rattle.lines.specs.Known.{formOf}
+use Rattle.lines.specs.inner.Known.{formOf}
 use borrow.Author.Needs.{needs}
 use Rattle.lines.proofs.command.form_of.Statement.{statement}
 use Rattle.lines.proofs.command.form_of.Tie as tie

@@ -1,6 +1,6 @@
 -- The definition makes the code's tests in the code's order.
 use mathlib.Core.Path.{sym, _∙_}
-use Rattle.lines.specs.Known.{knownHeading}
+use Rattle.lines.specs.inner.Known.{knownHeading}
 use borrow.Author.Needs.{needs}
 use Rattle.lines.proofs.title.known_heading.Statement.{statement}
 use Rattle.lines.proofs.title.known_heading.Tie as tie
