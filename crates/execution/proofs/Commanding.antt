@@ -60,15 +60,15 @@ use Rattle.pages.specs.inner.Paging.{AllFit, headFields, TurnReady, StepReady, 
 use Rattle.lines.proofs.Accepted as parsed
 use Rattle.texts.proofs.FieldLaws.{fields-few}
 use Rattle.pages.proofs.Turning.{highest-most}
-use Rattle.execution.specs.declared.state.Flow.{Flow}
-use Rattle.execution.specs.declared.state.Lined.{Lined}
+use Rattle.control.specs.declared.state.Flow.{Flow}
+use Rattle.control.specs.declared.state.Lined.{Lined}
 use Rattle.execution.specs.inner.Held.{Held}
 use Rattle.execution.specs.State.{State, seen, withMachine, withDatasource, withHeadings, withPage, cleared}
 use Rattle.execution.specs.Line.{jumped, branched, tableBegun, tableEnded, breaking, breakingFor, newPageMeaning, headed, formMeaning}
 use Rattle.execution.specs.inner.Sound.{Fit}
-use Rattle.execution.specs.inner.Going.{sceneOf, datasourceIn, feedsIn, pageIn, jumpedIn}
-use Rattle.execution.specs.inner.Executing.{sourceOf, Kept, stateAt, machineIn, Executes, endedIn, held, FormReady, NewPageReady, NewPages}
-use Rattle.execution.specs.inner.Arms.{Jumpable, Follows, branchedIn, begunIn, overIn, Clears, Heads, BreaksLine, PagesLine}
+use Rattle.control.specs.inner.Going.{endedIn, sceneOf, datasourceIn, feedsIn, pageIn, jumpedIn}
+use Rattle.execution.specs.inner.Executing.{sourceOf, Kept, stateAt, machineIn, Executes, held, FormReady, NewPageReady, NewPages}
+use Rattle.control.specs.inner.Arms.{Jumpable, Follows, branchedIn, begunIn, overIn, Clears, Heads, BreaksLine, PagesLine}
 
 -- ---- a command that only asks, and what follows from what it yields
 

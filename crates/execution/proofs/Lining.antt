@@ -22,12 +22,12 @@ use Rattle.pages.specs.Heading.{headingIn}
 use Rattle.lines.proofs.Accepted.{parsed-sound}
 use Rattle.lines.specs.inner.Known.{formOf}
 use Rattle.lines.proofs.KnownLaws.{form-known}
-use Rattle.execution.specs.declared.state.Flow.{Flow}
-use Rattle.execution.specs.declared.state.Lined.{Lined}
+use Rattle.control.specs.declared.state.Flow.{Flow}
+use Rattle.control.specs.declared.state.Lined.{Lined}
 use Rattle.execution.specs.inner.Held.{Held}
 use Rattle.execution.specs.Line.{formMeaning, lineMeaning}
 use Rattle.execution.specs.inner.Sound.{Nested}
-use Rattle.execution.specs.inner.Going.{sceneOf, placedAt}
+use Rattle.control.specs.inner.Going.{sceneOf, placedAt}
 use Rattle.execution.specs.inner.Executing.{sourceOf, stateAt, Executes, LineReady, FormReady}
 use Rattle.execution.proofs.Places.{nested-few, nested-line, nested-room}
 

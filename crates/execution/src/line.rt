@@ -1,14 +1,14 @@
 // One template line.
-use crate::arms;
-use crate::flow;
-use crate::state::Flow;
-use crate::state::Lined;
 use commands::datasource;
 use commands::fetching;
 use commands::set;
 use commands::table;
 use commands::taking;
 use commands::test;
+use control::arms;
+use control::flow;
+use control::state::Flow;
+use control::state::Lined;
 use lines::command;
 use lines::command::Line;
 use lines::command::Optional;

@@ -28,8 +28,8 @@ use Rattle.values.specs.inner.Word.{questions}
 use Rattle.values.specs.State.{texts, fetched}
 use Rattle.values.specs.declared.fetch.Along.the-variants.{Records, Entries}
 use Rattle.pages.specs.Heading.{headingIn}
-use Rattle.execution.specs.declared.state.Flow.{Flow}
-use Rattle.execution.specs.declared.state.Lined.{Lined}
+use Rattle.control.specs.declared.state.Flow.{Flow}
+use Rattle.control.specs.declared.state.Lined.{Lined}
 use Rattle.execution.specs.inner.Held.{Held, stateOf}
 use Rattle.execution.specs.State.{State}
 use Rattle.execution.specs.Line.{lineMeaning}

@@ -7,7 +7,7 @@ use cells::index;
 use cells::index::Indexed;
 use commands::table::Table;
 use commands::table::Tables;
-use execution::state::Flow;
+use control::state::Flow;
 use meaning::refusal::Refusal;
 use pages::page::Page;
 use template::Checked;

@@ -1,6 +1,6 @@
 // What stands between two stretches of lines.
 use crate::Report;
-use execution::state::Flow;
+use control::state::Flow;
 
 // The questions of a stretch, each as one number, and the place of the first of them on the read list.
 pub struct Log {

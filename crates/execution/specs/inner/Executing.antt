@@ -12,8 +12,6 @@ use Rattle.meaning.specs.Place.{at, Does}
 use Rattle.meaning.specs.Number.{endOf}
 use Rattle.meaning.specs.Meaning.{Meaning}
 use Rattle.meaning.specs.declared.question.Question.{Question}
-use Rattle.meaning.specs.declared.end.Ended.{Ended}
-use Rattle.meaning.specs.declared.end.Ended.the-variants.{Finished}
 use Rattle.values.specs.declared.scene.Scene.{Scene}
 use Rattle.values.specs.inner.Word.{questions}
 use Rattle.values.specs.Machine.{Machine}
@@ -28,9 +26,9 @@ use Rattle.pages.specs.Heading.{headingsOf}
 use Rattle.pages.specs.inner.Paging.{TurnReady}
 use Rattle.lines.proofs.Accepted as parsed
 use Rattle.execution.specs.Line.{newPageMeaning}
-use Rattle.execution.specs.inner.Going.{sceneOf}
-use Rattle.execution.specs.declared.state.Flow.{Flow}
-use Rattle.execution.specs.declared.state.Lined.{Lined}
+use Rattle.control.specs.inner.Going.{sceneOf}
+use Rattle.control.specs.declared.state.Flow.{Flow}
+use Rattle.control.specs.declared.state.Lined.{Lined}
 use Rattle.execution.specs.inner.Held.{Held, stateOf}
 use Rattle.execution.specs.State.{State}
 use Rattle.execution.specs.inner.Sound.{Fit, Sound}
@@ -56,12 +54,6 @@ pub record Executes (m : Meaning State) (b : List ℕ) (h : Held) (f : Flow) (T 
   pub does : Does (sourceOf b) m (at T u (questions log) a p (f .page .number)) (at T′ (r .printed) (questions log′) (r .asked) p (r .flow .page .number)) (endOf (stateAt b h′ (r .flow)) (r .end))
   pub few : r .asked ≤ a + 330
   pub rows : length (h′ .rows) ≡ length (h .rows)
-
-abbrev pub wentOn : Flow → ℕ → ℕ → Lined
-wentOn f u a = record { end = Finished; flow = f; printed = u; asked = a }
-
-abbrev pub endedIn : Ended → Flow → ℕ → ℕ → Lined
-endedIn e f u a = record { end = e; flow = f; printed = u; asked = a }
 
 -- the rows as they are lent
 abbrev pub held : List ℤ → List ℤ → List (List ℕ) → List ℕ → List ℕ → List ℕ → List ℕ → Held

@@ -8,7 +8,7 @@ use Rattle.values.specs.declared.fetch.Along.the-variants.{Records, Entries}
 use Rattle.values.specs.State.{texts, fetched}
 use Rattle.commands.specs.Looping.{openOf}
 use Rattle.pages.specs.Heading.{headingsOf}
-use Rattle.execution.specs.declared.state.Flow.{Flow}
+use Rattle.control.specs.declared.state.Flow.{Flow}
 use Rattle.execution.specs.State.{State}
 
 -- the rows that are lent: IV and FV; SV by its bytes and lengths; R, T and headings, each as one number

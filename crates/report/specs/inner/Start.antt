@@ -10,7 +10,7 @@ use Rattle.meaning.specs.Number.{refusalNumber, numberOf, lineOf, endOf}
 use Rattle.meaning.specs.declared.refusal.Refusal.{Refusal}
 use Rattle.meaning.specs.declared.end.Ended.{Ended}
 use Rattle.pages.specs.Page.{newPage}
-use Rattle.execution.specs.declared.state.Flow.{Flow}
+use Rattle.control.specs.declared.state.Flow.{Flow}
 use Rattle.report.specs.declared.state.Log.{Log}
 use Rattle.report.specs.declared.state.Saved.{Saved}
 use Rattle.report.specs.declared.state.Stretch.{Stretch}

@@ -4,8 +4,8 @@ use Rattle.execution.proofs.line.line.Statement.{statement}
 use Rattle.execution.proofs.line.line.Tie as tie
 use Rattle.execution.proofs.line.line.Reads as reads
 use Rattle.execution.proofs.line.line.Lts as lts
-use Rattle.execution.proofs.flow.past.Reads as past-reads
-use Rattle.execution.proofs.flow.scene_of.Reads as scene-of-reads
+use Rattle.control.proofs.flow.past.Reads as past-reads
+use Rattle.control.proofs.flow.scene_of.Reads as scene-of-reads
 use Rattle.execution.proofs.line.execute.Reads as execute-reads
 use Rattle.lines.proofs.command.form_of.Reads as form-of-reads
 use Rattle.scan.proofs.bytes.line_of.Reads as line-of-reads
