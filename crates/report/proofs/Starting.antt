@@ -6,7 +6,7 @@ use Rattle.template.specs.declared.Run.{Run}
 use Rattle.meaning.specs.Answer.{Answer}
 use Rattle.meaning.specs.declared.question.Question.{Question}
 use Rattle.values.specs.State.{texts, wordsFrom, fetched}
-use Rattle.commands.specs.Looping.{opened}
+use Rattle.tables.specs.Looping.{opened}
 use Rattle.pages.specs.Heading.{headingIn}
 use Rattle.execution.specs.inner.Held.{stateOf}
 use Rattle.report.specs.Report.{startOf}

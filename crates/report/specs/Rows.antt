@@ -49,10 +49,10 @@ use Rattle.values.specs.Worth.{ranged, absolute, filteredNumber, filteredString
 use Rattle.values.specs.Letters.{upper, alike}
 use Rattle.values.specs.Meanings.{operandMeaning, argumentMeaning}
 use Rattle.values.specs.Machine.{numbered}
-use Rattle.commands.specs.Looping.{begun, beginMeaning, exceeds, counting, counted, endMeaning, loop}
-use Rattle.commands.specs.Settling.{integerFrom, integerMeaning, resultOf, millionthsOf, quantityFrom, decimalFrom, stringFrom}
-use Rattle.commands.specs.Setting.{setNumbered, decimalOutcome, newFrom, integerOutcome, stored, stringNew, setOf, setMeaning}
-use Rattle.commands.specs.Testing.{ignoring, isMissing, numbersHold, ofNumbers, ofStrings, textual, compared, testMeaning, zeroTest, zeroJudged, zeroMeaning}
+use Rattle.tables.specs.Looping.{begun, beginMeaning, exceeds, counting, counted, endMeaning, loop}
+use Rattle.coercions.specs.Settling.{integerFrom, integerMeaning, resultOf, millionthsOf, quantityFrom, decimalFrom, stringFrom}
+use Rattle.assignments.specs.Setting.{setNumbered, decimalOutcome, newFrom, integerOutcome, stored, stringNew, setOf, setMeaning}
+use Rattle.conditions.specs.Testing.{ignoring, isMissing, numbersHold, ofNumbers, ofStrings, textual, compared, testMeaning, zeroTest, zeroJudged, zeroMeaning}
 use Rattle.texts.specs.Pieces.{read, piecesOf}
 use Rattle.pages.specs.Text.{textMeaning}
 use Rattle.pages.specs.Shown.{orStars, placesIn, valueOf as pagesValueOf, fieldBytes}

@@ -5,7 +5,7 @@ use Prim.Native.Nat.{ℕ, _+_}
 use lib.IntN.{pos}
 use lib.ListN.{replicate}
 use Rattle.template.specs.declared.Run.{Run}
-use Rattle.commands.specs.Looping.{noTable}
+use Rattle.tables.specs.Looping.{noTable}
 use Rattle.meaning.specs.Number.{refusalNumber, numberOf, lineOf, endOf}
 use Rattle.meaning.specs.declared.refusal.Refusal.{Refusal}
 use Rattle.meaning.specs.declared.end.Ended.{Ended}
