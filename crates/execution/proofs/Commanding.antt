@@ -57,7 +57,7 @@ use Rattle.pages.specs.declared.heading.Heading.{Heading}
 use Rattle.pages.specs.declared.step.Paged.{Paged}
 use Rattle.pages.specs.Heading.{noHeading, headingIn, headingsOf, Small}
 use Rattle.pages.specs.Page.{headLine, headFrom, highestOf, breakMeaning, lineStep}
-use Rattle.pages.specs.inner.Pass.{lent}
+use Rattle.rendering.specs.inner.Pass.{lent}
 use Rattle.pages.specs.inner.Paging.{AllFit, headFields, TurnReady, StepReady, Steps}
 use Rattle.lines.proofs.Accepted as parsed
 use Rattle.texts.proofs.FieldLaws.{fields-few}

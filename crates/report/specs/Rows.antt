@@ -54,8 +54,8 @@ use Rattle.coercions.specs.Settling.{integerFrom, integerMeaning, resultOf, mil
 use Rattle.assignments.specs.Setting.{setNumbered, decimalOutcome, newFrom, integerOutcome, stored, stringNew, setOf, setMeaning}
 use Rattle.conditions.specs.Testing.{ignoring, isMissing, numbersHold, ofNumbers, ofStrings, textual, compared, testMeaning, zeroTest, zeroJudged, zeroMeaning}
 use Rattle.texts.specs.Pieces.{read, piecesOf}
-use Rattle.pages.specs.Text.{textMeaning}
-use Rattle.pages.specs.Shown.{orStars, placesIn, valueOf as pagesValueOf, fieldBytes}
+use Rattle.rendering.specs.Text.{textMeaning}
+use Rattle.rendering.specs.Shown.{orStars, placesIn, valueOf as pagesValueOf, fieldBytes}
 use Rattle.pages.specs.Page.{sayMeaning, highestOf as pagesHighestOf, topMeaning, breakMeaning, turnMeaning, lineStep}
 use Rattle.execution.specs.Line.{breaking, breakingFor, newPageMeaning, tableBegun, tableEnded as executionTableEnded, branched, formMeaning, lineMeaning}
 use Rattle.report.specs.Report.{runFrom as reportRunFrom, checkedOutcome, reportOf, Outcome, textIn, reportIn}

@@ -24,11 +24,11 @@ use Rattle.values.specs.Worth.{Worth}
 use Rattle.values.specs.Machine.{Machine}
 use Rattle.values.specs.Meanings.{argumentMeaning}
 use Rattle.values.specs.State.{answers, machine}
-use Rattle.pages.specs.declared.text.Made.{Made}
-use Rattle.pages.specs.declared.text.Told.{Told}
-use Rattle.pages.specs.Shown.{fieldBytes}
+use Rattle.rendering.specs.declared.text.Made.{Made}
+use Rattle.rendering.specs.declared.text.Told.{Told}
+use Rattle.rendering.specs.Shown.{fieldBytes}
 use Rattle.texts.specs.Pieces.{piecesOf, fieldCount}
-use Rattle.pages.specs.Text.{isWrong, or, textMeaning}
+use Rattle.rendering.specs.Text.{isWrong, or, textMeaning}
 
 -- the bytes made so far, and whether a kind was wrong
 pub record Worked : Type 0 where
