@@ -15,7 +15,7 @@ use Rattle.buffers.proofs.Laws.{copied-more}
 use Rattle.values.specs.declared.part.Text.{Text}
 use Rattle.values.specs.declared.worth.Worth.{Worth}
 use Rattle.values.specs.Letters.{letter}
-use Rattle.values.specs.State.{zeros, rowFor, chosen, Strings, strings, cased, texts}
+use Rattle.values.specs.inner.State.{zeros, rowFor, chosen, Strings, strings, cased, texts}
 use Rattle.values.proofs.Keeping.{strings-kept}
 use Rattle.values.proofs.Texts.{text-is, length-cased}
 use Rattle.coercions.specs.declared.settle.Phrase.{Phrase}

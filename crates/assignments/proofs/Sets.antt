@@ -24,7 +24,7 @@ use Rattle.values.specs.declared.worth.Valued.{Valued}
 use Rattle.values.specs.Worth as D
 use Rattle.values.specs.Machine.{Machine, numbered}
 use Rattle.values.specs.Meanings.{argumentMeaning}
-use Rattle.values.specs.State.{Strings, strings, meant, machine}
+use Rattle.values.specs.inner.State.{Strings, strings, meant, machine}
 use Rattle.values.specs.inner.Yielding.{ArgumentValue}
 use Rattle.coercions.specs.declared.settle.Taken.{Taken}
 use Rattle.coercions.specs.declared.settle.Taken.the-variants.{Value, Refused}

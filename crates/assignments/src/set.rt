@@ -17,7 +17,7 @@ use values::value;
 use values::worth::Worth;
 ghost use mathlib.Core.Path.{_≡_};
 ghost use Rattle.numbers.specs.Outcome.{outcome};
-ghost use Rattle.arguments.specs.Parameter.{parameterOf};
+ghost use Rattle.arguments.specs.inner.Parameter.{parameterOf};
 ghost use Rattle.values.specs.inner.Yielding.{Askable, Sized};
 ghost use Rattle.assignments.specs.Setting.{integerOutcome, decimalOutcome, integerNew, decimalNew, setNumbered};
 ghost use Rattle.assignments.specs.Setting as S;

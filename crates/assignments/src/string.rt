@@ -8,7 +8,7 @@ use values::worth::Worth;
 ghost use mathlib.Core.Path.{_≡_};
 ghost use lib.ListN.{length, take};
 ghost use lib.Seq.{sets};
-ghost use Rattle.values.specs.State.{zeros, cased};
+ghost use Rattle.values.specs.inner.State.{zeros, cased};
 ghost use Rattle.assignments.specs.inner.Contracts.{Held, PutsString, StoresString};
 
 // The first 16 bytes, in upper case where the flag is set.

@@ -20,13 +20,14 @@ use Rattle.values.specs.declared.scene.Scene.{Scene}
 use Rattle.values.specs.declared.worth.Valued.{Valued}
 use Rattle.values.specs.inner.Word.{questions}
 use Rattle.values.specs.Worth.{Worth}
-use Rattle.values.specs.State.{answers, Strings, strings, meant, machine}
+use Rattle.values.specs.Source.{answers}
+use Rattle.values.specs.inner.State.{Strings, strings, meant, machine}
 use Rattle.values.specs.Meanings.{argumentMeaning}
 use Rattle.values.specs.inner.Yielding.{Yields, ArgumentValue}
 use Rattle.coercions.specs.declared.settle.Taken.{Taken}
 use Rattle.coercions.specs.declared.taking.Counted.{Counted}
-use Rattle.coercions.specs.Settling.{Settled, settled, against, andThen, concluded, endIn, integerFrom, integerMeaning}
-use Rattle.coercions.specs.inner.Contracts.{takenOf, Takes, Concludes, Runs, TakesIntegerValue}
+use Rattle.coercions.specs.Settling.{Settled, settled, against, andThen, concluded, integerFrom, integerMeaning}
+use Rattle.coercions.specs.inner.Contracts.{takenOf, endIn, Takes, Concludes, Runs, TakesIntegerValue}
 
 concluded-does : {A : Type 0} (source : Question → Answer) (P : Place Question) (line : ℕ) (x : Settled A) → Does source (concluded line x) P P (endIn line x)
 concluded-does source P line (settled a) = does-done source P a

@@ -15,7 +15,7 @@ use Rattle.numbers.specs.Arithmetic.{inMillionths}
 use Rattle.values.specs.declared.part.Text.{Text}
 use Rattle.values.specs.declared.worth.Worth.{Worth}
 use Rattle.values.specs.declared.worth.Worth.the-variants as W
-use Rattle.values.specs.State.{meant}
+use Rattle.values.specs.inner.State.{meant}
 use Rattle.coercions.specs.declared.settle.Taken.{Taken}
 use Rattle.coercions.specs.declared.settle.Taken.the-variants.{Value, Refused}
 use Rattle.coercions.specs.declared.settle.Amount.the-variants as A

@@ -4,7 +4,7 @@ use mathlib.Core.List.{List}
 use Prim.Native.Nat.{ℕ}
 use lib.Dec.{eqb}
 use lib.IntN.{ℤ}
-use Rattle.meaning.specs.Tree.{done, stop, bind, End, finished, halted, refused}
+use Rattle.meaning.specs.Tree.{done, stop, bind}
 use Rattle.meaning.specs.Meaning.{Meaning}
 use Rattle.meaning.specs.declared.refusal.Refusal.{Refusal}
 use Rattle.meaning.specs.declared.refusal.Refusal.the-variants.{MissingArgument, WrongKind, ZeroDivisor, OutOfRange}
@@ -29,11 +29,6 @@ andThen (against e) f = against e
 abbrev pub concluded : {A : Type 0} → ℕ → Settled A → Meaning A
 concluded line (settled a) = done a
 concluded line (against e) = stop e line
-
--- how such a line ends
-abbrev pub endIn : {A : Type 0} → ℕ → Settled A → End Refusal ℕ A
-endIn line (settled a) = finished a
-endIn line (against e) = halted (refused e) line
 
 -- 10: "A command's argument is missing." 11: "A value has the wrong kind."
 unfoldable pub integerFrom : Worth → Settled ℤ

@@ -7,7 +7,7 @@ use meaning::end::Halt;
 use values::scene::Scene;
 use values::value;
 ghost use mathlib.Core.Path.{_≡_};
-ghost use Rattle.arguments.specs.Parameter.{parameterOf};
+ghost use Rattle.arguments.specs.inner.Parameter.{parameterOf};
 ghost use Rattle.values.specs.inner.Yielding.{Askable, Sized};
 ghost use Rattle.coercions.specs.inner.Contracts.{takenOf, Concludes, TakesIntegerValue};
 

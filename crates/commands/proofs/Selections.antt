@@ -15,7 +15,8 @@ use Rattle.values.specs.declared.scene.Scene.{Scene}
 use Rattle.values.specs.Meanings.{indexNumber}
 use Rattle.values.specs.inner.Yielding.{placeOf}
 use Rattle.coercions.specs.Settling.{Settled, settled, against}
-use Rattle.commands.specs.Selecting.{datasourceFrom, datasourceMeaning, Selects}
+use Rattle.commands.specs.Selecting.{datasourceFrom, datasourceMeaning}
+use Rattle.commands.specs.inner.Selects.{Selects}
 use Rattle.coercions.proofs.Running.{runs-still}
 
 -- the same by a number from 0 to 999, or 1000

@@ -1,3 +1,4 @@
 pub mod Fetching
 pub mod Selecting
 pub mod Rows
+pub mod inner

@@ -40,7 +40,7 @@ use Rattle.values.specs.Fetching.{firstOf, elementQuestion, elementQuestions, a
 use Rattle.tables.specs.declared.table.Table.{Table}
 use Rattle.coercions.specs.Settling.{settled, integerFrom, quantityFrom, stringFrom, resultOf, millionthsOf, decimalFrom, integerMeaning}
 use Rattle.assignments.specs.Setting.{integerOutcome, decimalOutcome, setNumbered, stored, newFrom, stringNew, setOf, setMeaning}
-use Rattle.conditions.specs.Testing.{zeroTest, zeroJudged, textual, ignoring, numbersHold, ofNumbers, ofStrings, isMissing, compared, zeroMeaning, testMeaning}
+use Rattle.conditions.specs.Testing.{zeroTest, zeroJudged, ofNumbers, ofStrings, isMissing, compared, zeroMeaning, testMeaning, judged}
 use Rattle.commands.specs.Fetching.{recordsMeaning}
 use Rattle.tables.specs.Looping.{loop, Looping, looping, newTable, begun, beginMeaning, exceeds, countedTo, counting, counted, endMeaning}
 use Rattle.commands.specs.Selecting.{datasourceFrom, datasourceMeaning}
@@ -190,6 +190,6 @@ Rows =
     × (selects Loop ≡ halted (refused BadIndex) 7)
 
 pub rows : Rows
-unfolding run opposed within rounded checked operands dividedBy sumOf differenceOf integerProduct integerQuotient decimalProduct decimalQuotient inMillionths upper alike numbered answered ranged absolute filteredNumber filteredString filtered kindOf indexNumber limited indexValue asks cellMeaning worthOf operandMeaning argumentMeaning firstOf elementQuestion elementQuestions asksEach countValue asksElements fetchMeaning integerFrom quantityFrom stringFrom resultOf millionthsOf decimalFrom integerMeaning integerOutcome decimalOutcome setNumbered stored newFrom stringNew setOf setMeaning zeroTest zeroJudged textual ignoring numbersHold ofNumbers ofStrings isMissing compared zeroMeaning testMeaning recordsMeaning loop begun beginMeaning exceeds counting counted endMeaning datasourceFrom datasourceMeaning
+unfolding run opposed within rounded checked operands dividedBy sumOf differenceOf integerProduct integerQuotient decimalProduct decimalQuotient inMillionths upper alike numbered answered ranged absolute filteredNumber filteredString filtered kindOf indexNumber limited indexValue asks cellMeaning worthOf operandMeaning argumentMeaning firstOf elementQuestion elementQuestions asksEach countValue asksElements fetchMeaning integerFrom quantityFrom stringFrom resultOf millionthsOf decimalFrom integerMeaning integerOutcome decimalOutcome setNumbered stored newFrom stringNew setOf setMeaning zeroTest zeroJudged ofNumbers ofStrings isMissing compared zeroMeaning testMeaning recordsMeaning loop begun beginMeaning exceeds counting counted endMeaning datasourceFrom datasourceMeaning judged
 rows =
     (refl, refl, refl, refl, refl, refl, refl, refl, refl, refl, refl, refl, refl, refl, refl, refl, refl, refl, refl, refl, refl, refl, refl, refl, refl, refl, refl, refl, refl, refl, refl, refl, refl, refl, refl, refl, refl, refl, refl, refl, refl, refl, refl, refl, refl, refl, refl)

@@ -1,6 +1,6 @@
 -- Tests: one law for each return of the code.
-use mathlib.Core.Path.{_≡_, ap}
-use mathlib.Core.Bool.{Bool, true, false, not}
+use mathlib.Core.Path.{_≡_, refl, sym, ap, _∙_}
+use mathlib.Core.Bool.{Bool, true, false, not, false≢true}
 use mathlib.Core.List.{List}
 use Prim.Native.Nat.{ℕ, _+_, _≤_}
 use native.Mathlib.Omega.{arith}
@@ -17,6 +17,7 @@ use Rattle.numbers.specs.declared.Quantity.{Quantity}
 use Rattle.numbers.specs.Order.{isZero}
 use Rattle.arguments.specs.declared.argument.Argument.{Argument}
 use Rattle.lines.specs.declared.command.Comparison.{Comparison}
+use Rattle.lines.specs.declared.command.Comparison.the-variants.{SameString, SameLetters, Equal, NotEqual, Less, AtMost, Greater, AtLeast}
 use Rattle.values.specs.declared.part.Text.{Text}
 use Rattle.values.specs.declared.scene.Scene.{Scene}
 use Rattle.values.specs.declared.worth.Worth.{Worth}
@@ -25,7 +26,7 @@ use Rattle.values.specs.declared.worth.Valued.{Valued}
 use Rattle.values.specs.Letters.{equalStrings}
 use Rattle.values.specs.Worth as D
 use Rattle.values.specs.Meanings.{argumentMeaning}
-use Rattle.values.specs.State.{Strings, strings, textOf, meant, machine}
+use Rattle.values.specs.inner.State.{Strings, strings, textOf, meant, machine}
 use Rattle.values.specs.inner.Yielding.{Askable, ArgumentValue}
 use Rattle.coercions.specs.declared.settle.Amount.{Amount}
 use Rattle.coercions.specs.declared.settle.Amount.the-variants.{Number, NoNumber}
@@ -35,7 +36,8 @@ use Rattle.conditions.specs.declared.test.Judged.{Judged}
 use Rattle.conditions.specs.declared.test.Judged.the-variants.{Holds, Refused}
 use Rattle.conditions.specs.declared.test.Tested.{Tested}
 use Rattle.coercions.specs.Settling.{settled, against}
-use Rattle.conditions.specs.Testing.{zeroTest, zeroJudged, textual, ignoring, numbersHold, ofNumbers, ofStrings, isMissing, compared, zeroMeaning, testMeaning}
+use Rattle.conditions.specs.Testing.{zeroTest, zeroJudged, ofNumbers, ofStrings, judged, isMissing, compared, zeroMeaning, testMeaning}
+use Rattle.conditions.specs.inner.Kinds.{textual, ignoring, numbersHold}
 use Rattle.conditions.specs.inner.Contracts.{judgedOf, Lacks, JudgesNumbers, JudgesZero, TestsZero, Tests}
 use Rattle.coercions.specs.inner.Contracts.{TakesQuantity, TakesText, Concludes}
 use Rattle.coercions.proofs.Running.{value-over, value-follows, first-over, second-over, both-follow}
@@ -89,6 +91,29 @@ module _ (s : Strings) (i : Bool) (v w : Worth) (a : Phrase) (d : TakesText v a)
     unfolding ofStrings
     strings-both q r k e = rw (← (d .same s), ← (d′ .same s), h, k, e)
 
+-- a test of strings, and one of numbers, as the code has them
+judged-strings : (c : Comparison) (v w : D.Worth) → textual c ≡ true → judged c v w ≡ ofStrings (ignoring c) v w
+unfolding judged textual ignoring
+judged-strings SameString v w h = refl
+judged-strings SameLetters v w h = refl
+judged-strings Equal v w h = absurd (false≢true h)
+judged-strings NotEqual v w h = absurd (false≢true h)
+judged-strings Less v w h = absurd (false≢true h)
+judged-strings AtMost v w h = absurd (false≢true h)
+judged-strings Greater v w h = absurd (false≢true h)
+judged-strings AtLeast v w h = absurd (false≢true h)
+
+judged-numbers : (c : Comparison) (v w : D.Worth) → textual c ≡ false → judged c v w ≡ ofNumbers (numbersHold c) v w
+unfolding judged textual numbersHold
+judged-numbers SameString v w h = absurd (false≢true (sym h))
+judged-numbers SameLetters v w h = absurd (false≢true (sym h))
+judged-numbers Equal v w h = refl
+judged-numbers NotEqual v w h = refl
+judged-numbers Less v w h = refl
+judged-numbers AtMost v w h = refl
+judged-numbers Greater v w h = refl
+judged-numbers AtLeast v w h = refl
+
 module _ (s : Strings) (c : Comparison) (v w : Worth) (a : Bool) (d : Lacks v a) where
   pub compared-first : a ≡ true → against R.MissingArgument ≡ compared c (meant s v) (meant s w)
   unfolding compared
@@ -102,11 +127,11 @@ module _ (s : Strings) (c : Comparison) (v w : Worth) (a : Bool) (d : Lacks v a)
     module _ (k : b ≡ false) (t : Bool) (e : t ≡ textual c) (r : Judged) where
       pub compared-strings : t ≡ true → (i : Bool) → i ≡ ignoring c → judgedOf r ≡ ofStrings i (meant s v) (meant s w) → judgedOf r ≡ compared c (meant s v) (meant s w)
       unfolding compared
-      compared-strings j i g x = rw (← (d .same s), ← (d′ .same s), h, k, ← e, j, ← g) x
+      compared-strings j i g x = rw (← (d .same s), ← (d′ .same s), h, k, judged-strings c (meant s v) (meant s w) (sym e ∙ j), ← g) x
 
       pub compared-numbers : t ≡ false → JudgesNumbers c v w r → judgedOf r ≡ compared c (meant s v) (meant s w)
       unfolding compared
-      compared-numbers j x = rw (← (d .same s), ← (d′ .same s), h, k, ← e, j) (x .same s)
+      compared-numbers j x = rw (← (d .same s), ← (d′ .same s), h, k, judged-numbers c (meant s v) (meant s w) (sym e ∙ j)) (x .same s)
 
 module _ (zero : Bool) (w : Worth) (a : Amount) (d : TakesQuantity w a) where
   pub zero-refused : (e : Refusal) → a ≡ NoNumber e → JudgesZero zero w (Refused e)

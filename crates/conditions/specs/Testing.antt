@@ -27,44 +27,23 @@ zeroJudged zero w = andThen (quantityFrom w) (λ q. settled (zeroTest zero q))
 unfoldable pub zeroMeaning : Machine → List ℕ → ℕ → Bool → Argument → Meaning Bool
 zeroMeaning m s line zero a = bind (argumentMeaning m s line a) (λ w. concluded line (zeroJudged zero w))
 
--- "`$IFEQSS`, `$IFEQSI` (two strings ..; SI ignores ASCII case)"
-unfoldable pub textual : Comparison → Bool
-textual SameString = true
-textual SameLetters = true
-textual Equal = false
-textual NotEqual = false
-textual Less = false
-textual AtMost = false
-textual Greater = false
-textual AtLeast = false
-
-unfoldable pub ignoring : Comparison → Bool
-ignoring SameString = false
-ignoring SameLetters = true
-ignoring Equal = false
-ignoring NotEqual = false
-ignoring Less = false
-ignoring AtMost = false
-ignoring Greater = false
-ignoring AtLeast = false
-
--- "two numbers, by value"
-unfoldable pub numbersHold : Comparison → Quantity → Quantity → Bool
-numbersHold SameString p q = false
-numbersHold SameLetters p q = false
-numbersHold Equal p q = equalTo p q
-numbersHold NotEqual p q = not (equalTo p q)
-numbersHold Less p q = lessThan p q
-numbersHold AtMost p q = atMost p q
-numbersHold Greater p q = lessThan q p
-numbersHold AtLeast p q = atMost q p
-
 -- 11 over both
-unfoldable pub ofNumbers : Comparison → Worth → Worth → Settled Bool
-ofNumbers c v w = andThen (quantityFrom v) (λ p. andThen (quantityFrom w) (λ q. settled (numbersHold c p q)))
+unfoldable pub ofNumbers : (Quantity → Quantity → Bool) → Worth → Worth → Settled Bool
+ofNumbers holds v w = andThen (quantityFrom v) (λ p. andThen (quantityFrom w) (λ q. settled (holds p q)))
 
 unfoldable pub ofStrings : Bool → Worth → Worth → Settled Bool
-ofStrings same v w = andThen (stringFrom v) (λ s. andThen (stringFrom w) (λ t. settled (equalStrings same s t)))
+ofStrings ignoring v w = andThen (stringFrom v) (λ s. andThen (stringFrom w) (λ t. settled (equalStrings ignoring s t)))
+
+-- "(two numbers, by value)"; "(two strings, up to the shorter length; SI ignores ASCII case)"
+unfoldable pub judged : Comparison → Worth → Worth → Settled Bool
+judged Equal v w = ofNumbers equalTo v w
+judged NotEqual v w = ofNumbers (λ p q. not (equalTo p q)) v w
+judged Less v w = ofNumbers lessThan v w
+judged AtMost v w = ofNumbers atMost v w
+judged Greater v w = ofNumbers (λ p q. lessThan q p) v w
+judged AtLeast v w = ofNumbers (λ p q. atMost q p) v w
+judged SameString v w = ofStrings false v w
+judged SameLetters v w = ofStrings true v w
 
 unfoldable pub isMissing : Worth → Bool
 isMissing missing = true
@@ -75,7 +54,7 @@ isMissing (string s) = false
 -- 10 over both, then 11
 unfoldable pub compared : Comparison → Worth → Worth → Settled Bool
 compared c v w =
-    cond (isMissing v || isMissing w) (against MissingArgument) (cond (textual c) (ofStrings (ignoring c) v w) (ofNumbers c v w))
+    cond (isMissing v || isMissing w) (against MissingArgument) (judged c v w)
 
 -- "arguments left to right, 8 then 9 each; then 10 to 14"
 unfoldable pub testMeaning : Machine → List ℕ → ℕ → Comparison → Argument → Argument → Meaning Bool

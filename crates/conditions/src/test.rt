@@ -15,10 +15,11 @@ use values::value;
 use values::worth::Worth;
 ghost use mathlib.Core.Path.{_≡_};
 ghost use Prim.Native.Nat.{_+_};
-ghost use Rattle.values.specs.State.{meant, strings as stringsOf};
-ghost use Rattle.arguments.specs.Parameter.{parameterOf};
+ghost use Rattle.values.specs.inner.State.{strings as stringsOf, meant};
+ghost use Rattle.arguments.specs.inner.Parameter.{parameterOf};
 ghost use Rattle.values.specs.inner.Yielding.{Askable, Sized};
 ghost use Rattle.conditions.specs.Testing as T;
+ghost use Rattle.conditions.specs.inner.Kinds as K;
 ghost use Rattle.conditions.specs.inner.Contracts.{judgedOf, Lacks, JudgesNumbers, JudgesZero, TestsZero, Tests};
 ghost use Rattle.coercions.specs.inner.Contracts.{Concludes};
 
@@ -47,7 +48,7 @@ fn lacks(worth: Worth) -> bool
 }
 
 fn textual(c: Comparison) -> bool
-    ensures { λ r. ⌜ r ≡ T.textual c ⌝ }
+    ensures { λ r. ⌜ r ≡ K.textual c ⌝ }
 {
     match c {
         Comparison::SameString => true,
@@ -62,7 +63,7 @@ fn textual(c: Comparison) -> bool
 }
 
 fn ignoring(c: Comparison) -> bool
-    ensures { λ r. ⌜ r ≡ T.ignoring c ⌝ }
+    ensures { λ r. ⌜ r ≡ K.ignoring c ⌝ }
 {
     match c {
         Comparison::SameString => false,
@@ -77,7 +78,7 @@ fn ignoring(c: Comparison) -> bool
 }
 
 fn numbers_hold(c: Comparison, p: Quantity, q: Quantity) -> bool
-    ensures { λ r. ⌜ r ≡ T.numbersHold c p q ⌝ }
+    ensures { λ r. ⌜ r ≡ K.numbersHold c p q ⌝ }
 {
     match c {
         Comparison::SameString => false,

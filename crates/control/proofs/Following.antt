@@ -21,11 +21,12 @@ use Rattle.values.specs.declared.scene.Scene.{Scene}
 use Rattle.values.proofs.Words.{map-set}
 use Rattle.tables.specs.declared.table.Looped.{Looped}
 use Rattle.coercions.specs.declared.taking.Counted.{Counted}
-use Rattle.tables.specs.Looping.{loop, openOf}
+use Rattle.tables.specs.Looping.{loop}
+use Rattle.tables.specs.inner.Open.{openOf}
 use Rattle.assignments.specs.Setting.{setNumbered}
 use Rattle.pages.specs.declared.heading.Heading.{Heading}
 use Rattle.pages.specs.declared.page.Turned.{Turned}
-use Rattle.pages.specs.Heading.{headingIn, headingsOf}
+use Rattle.pages.specs.inner.Packed.{headingIn, headingsOf}
 use Rattle.pages.specs.inner.Paging.{Breaks}
 use Rattle.control.specs.declared.state.Flow.{Flow}
 use Rattle.control.specs.declared.state.Lined.{Lined}

@@ -32,9 +32,9 @@ use Rattle.meaning.proofs.Doing.{then-does, then-over, does-done}
 use Rattle.values.specs.declared.scene.Scene.{Scene}
 use Rattle.values.specs.declared.fetch.Along.the-variants.{Records, Entries}
 use Rattle.values.specs.inner.Word.{questions}
-use Rattle.values.specs.State.{machine, texts, fetched}
-use Rattle.values.specs.Fetching.{Fetchable}
-use Rattle.arguments.specs.Parameter.{parameterOf}
+use Rattle.values.specs.inner.State.{machine, texts, fetched}
+use Rattle.values.specs.inner.Fetch.{Fetchable}
+use Rattle.arguments.specs.inner.Parameter.{parameterOf}
 use Rattle.values.specs.inner.Yielding.{Askable, Sized}
 use Rattle.tables.specs.declared.table.Looped.{Looped}
 use Rattle.coercions.specs.declared.taking.Counted.{Counted}
@@ -48,14 +48,18 @@ use Rattle.coercions.specs.inner.Contracts.{Runs, TakesIntegerValue}
 use Rattle.assignments.specs.inner.Contracts as C
 use Rattle.assignments.specs.inner.Contracts.{SetsVariable}
 use Rattle.conditions.specs.inner.Contracts.{TestsZero, Tests}
-use Rattle.tables.specs.Looping.{openOf, loopingOf, AtMostOpen, parameterIn, BeginsTable, EndsTable, beginMeaning, endMeaning}
-use Rattle.commands.specs.Fetching.{TakesRecords, TakesEntries, recordsMeaning, entriesMeaning}
-use Rattle.commands.specs.Selecting.{Selects, datasourceMeaning}
+use Rattle.tables.specs.Looping.{beginMeaning, endMeaning}
+use Rattle.tables.specs.inner.Open.{openOf, loopingOf, AtMostOpen, parameterIn, BeginsTable, EndsTable}
+use Rattle.commands.specs.Fetching.{recordsMeaning, entriesMeaning}
+use Rattle.commands.specs.inner.Fetches.{TakesRecords, TakesEntries}
+use Rattle.commands.specs.Selecting.{datasourceMeaning}
+use Rattle.commands.specs.inner.Selects.{Selects}
 use Rattle.commands.proofs.Clearing.{texts-cleared, fetched-cleared}
 use Rattle.pages.specs.declared.page.Page.{Page}
 use Rattle.pages.specs.declared.heading.Heading.{Heading}
 use Rattle.pages.specs.declared.step.Paged.{Paged}
-use Rattle.pages.specs.Heading.{noHeading, headingIn, headingsOf, Small}
+use Rattle.pages.specs.Heading.{noHeading}
+use Rattle.pages.specs.inner.Packed.{headingIn, headingsOf, Small}
 use Rattle.pages.specs.Page.{headLine, headFrom, highestOf, breakMeaning, lineStep}
 use Rattle.rendering.specs.inner.Pass.{lent}
 use Rattle.pages.specs.inner.Paging.{AllFit, headFields, TurnReady, StepReady, Steps}

@@ -15,10 +15,10 @@ use Rattle.template.specs.Form.{shapeIn, shapeOf}
 use Rattle.template.proofs.Opening.{checks-short, opens-line}
 use Rattle.values.specs.declared.scene.Scene.{Scene}
 use Rattle.values.specs.declared.fetch.Along.the-variants.{Records, Entries}
-use Rattle.values.specs.State.{texts, fetched}
-use Rattle.tables.specs.Looping.{openOf}
+use Rattle.values.specs.inner.State.{texts, fetched}
+use Rattle.tables.specs.inner.Open.{openOf}
 use Rattle.tables.proofs.Tabling.{opened-length}
-use Rattle.pages.specs.Heading.{headingIn}
+use Rattle.pages.specs.inner.Packed.{headingIn}
 use Rattle.lines.proofs.Accepted.{parsed-sound}
 use Rattle.lines.specs.inner.Known.{formOf}
 use Rattle.lines.proofs.KnownLaws.{form-known}

@@ -21,7 +21,7 @@ use Rattle.texts.specs.Width.{totalWidth}
 use Rattle.texts.specs.readers.Text.{piecesWithin, textPieces, fitsBehind, textFits}
 use Rattle.values.specs.declared.scene.Scene.{Scene}
 use Rattle.values.specs.inner.Word.{questions}
-use Rattle.values.specs.State.{answers}
+use Rattle.values.specs.Source.{answers}
 use Rattle.rendering.specs.declared.text.Told.{Told}
 use Rattle.pages.specs.declared.page.Page.{Page}
 use Rattle.pages.specs.declared.page.Turned.{Turned}

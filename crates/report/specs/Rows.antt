@@ -52,7 +52,7 @@ use Rattle.values.specs.Machine.{numbered}
 use Rattle.tables.specs.Looping.{begun, beginMeaning, exceeds, counting, counted, endMeaning, loop}
 use Rattle.coercions.specs.Settling.{integerFrom, integerMeaning, resultOf, millionthsOf, quantityFrom, decimalFrom, stringFrom}
 use Rattle.assignments.specs.Setting.{setNumbered, decimalOutcome, newFrom, integerOutcome, stored, stringNew, setOf, setMeaning}
-use Rattle.conditions.specs.Testing.{ignoring, isMissing, numbersHold, ofNumbers, ofStrings, textual, compared, testMeaning, zeroTest, zeroJudged, zeroMeaning}
+use Rattle.conditions.specs.Testing.{isMissing, ofNumbers, ofStrings, compared, testMeaning, zeroTest, zeroJudged, zeroMeaning, judged}
 use Rattle.texts.specs.Pieces.{read, piecesOf}
 use Rattle.rendering.specs.Text.{textMeaning}
 use Rattle.rendering.specs.Shown.{orStars, placesIn, valueOf as pagesValueOf, fieldBytes}
@@ -123,5 +123,5 @@ rows =
     ∷ []
 
 pub rows-hold : map (λ (r : Row). r .computed) rows ≡ map (λ (r : Row). r .expected) rows
-unfolding rows above rising ordered cellsBefore cellsRun cells held within breaks meaningRun begun beginMeaning exceeds counting counted endMeaning loop checked absoluteOf numbersInMillionths operands decimalProduct dividedBy decimalQuotient integerProduct integerQuotient ranged absolute filteredNumber filteredString filtered valuesKindOf upper alike operandMeaning argumentMeaning numbered integerFrom integerMeaning resultOf millionthsOf quantityFrom decimalFrom stringFrom setNumbered decimalOutcome newFrom integerOutcome stored stringNew setOf setMeaning atMost orSkip past amongTables amongTests atElse roleOf skipFrom skipped belongs span linesWithin linesOf byteAt allAllowed scanBegins standsAt scanFirstOf shapeWords wordShape hasForm shapeIn shapeOf isFormed read piecesOf textMeaning textsBefore placesAt textsPlacesOf widthNext textsFieldOf fieldAt placed pieceAt piecesWithin textPieces widthOf totalWidth fitsBehind textFits admits filteredAt filters argumentOf argumentAt valueFrom digitsAt numberAt argumentsInMillionths fractionAt unsignedAt literalAt numberedOf numberedAt wholeAt names namedAt numberOr stringAt operandAt leftIn negative fieldsPlacesOf minus rightIn fraction fieldsUnsigned roundedField shown widthAllowed fieldsFieldOf countWithin digitCount digits rounded roundedTo orStars placesIn pagesValueOf fieldBytes sayMeaning pagesHighestOf topMeaning breakMeaning turnMeaning lineStep breaking breakingFor newPageMeaning tableBegun executionTableEnded branched formMeaning lineMeaning opposed ignoring isMissing numbersHold ofNumbers ofStrings textual compared testMeaning zeroTest zeroJudged zeroMeaning bareAt optionalAt singleAt behindSpace compareAt stringTarget targetOf setAt nameAt sectionAt commands parseLine reportRunFrom checkedOutcome reportOf isHeld firstFault lineAllowed bytesCheck formCheck nameEnd hasName cameBefore nameStep nameCheck nestEnd nestStep nestCheck nameOf orElse walk acceptedRun sectionChecked unlessFault namesChecked nestingChecked formsChecked templateChecked endAt selects sectionFrom sectionEnd templateRunFrom selected allClosed inSection sectionBegun nestingTableEnded tables testEnded testTurned tests behind joined lines
+unfolding rows above rising ordered cellsBefore cellsRun cells held within breaks meaningRun begun beginMeaning exceeds counting counted endMeaning loop checked absoluteOf numbersInMillionths operands decimalProduct dividedBy decimalQuotient integerProduct integerQuotient ranged absolute filteredNumber filteredString filtered valuesKindOf upper alike operandMeaning argumentMeaning numbered integerFrom integerMeaning resultOf millionthsOf quantityFrom decimalFrom stringFrom setNumbered decimalOutcome newFrom integerOutcome stored stringNew setOf setMeaning atMost orSkip past amongTables amongTests atElse roleOf skipFrom skipped belongs span linesWithin linesOf byteAt allAllowed scanBegins standsAt scanFirstOf shapeWords wordShape hasForm shapeIn shapeOf isFormed read piecesOf textMeaning textsBefore placesAt textsPlacesOf widthNext textsFieldOf fieldAt placed pieceAt piecesWithin textPieces widthOf totalWidth fitsBehind textFits admits filteredAt filters argumentOf argumentAt valueFrom digitsAt numberAt argumentsInMillionths fractionAt unsignedAt literalAt numberedOf numberedAt wholeAt names namedAt numberOr stringAt operandAt leftIn negative fieldsPlacesOf minus rightIn fraction fieldsUnsigned roundedField shown widthAllowed fieldsFieldOf countWithin digitCount digits rounded roundedTo orStars placesIn pagesValueOf fieldBytes sayMeaning pagesHighestOf topMeaning breakMeaning turnMeaning lineStep breaking breakingFor newPageMeaning tableBegun executionTableEnded branched formMeaning lineMeaning opposed isMissing ofNumbers ofStrings compared testMeaning zeroTest zeroJudged zeroMeaning bareAt optionalAt singleAt behindSpace compareAt stringTarget targetOf setAt nameAt sectionAt commands parseLine reportRunFrom checkedOutcome reportOf isHeld firstFault lineAllowed bytesCheck formCheck nameEnd hasName cameBefore nameStep nameCheck nestEnd nestStep nestCheck nameOf orElse walk acceptedRun sectionChecked unlessFault namesChecked nestingChecked formsChecked templateChecked endAt selects sectionFrom sectionEnd templateRunFrom selected allClosed inSection sectionBegun nestingTableEnded tables testEnded testTurned tests behind joined lines judged
 rows-hold = refl

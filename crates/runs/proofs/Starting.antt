@@ -5,9 +5,9 @@ use Prim.Native.Nat.{ℕ}
 use Rattle.template.specs.declared.Run.{Run}
 use Rattle.meaning.specs.Answer.{Answer}
 use Rattle.meaning.specs.declared.question.Question.{Question}
-use Rattle.values.specs.State.{texts, wordsFrom, fetched}
-use Rattle.tables.specs.Looping.{opened}
-use Rattle.pages.specs.Heading.{headingIn}
+use Rattle.values.specs.inner.State.{texts, wordsFrom, fetched}
+use Rattle.tables.specs.inner.Open.{opened}
+use Rattle.pages.specs.inner.Packed.{headingIn}
 use Rattle.execution.specs.inner.Held.{stateOf}
 use Rattle.runs.specs.Report.{startOf}
 use Rattle.runs.specs.inner.Start.{startFlow, startSaved}

@@ -25,9 +25,9 @@ use Rattle.meaning.proofs.Doing.{then-does, then-over, does-done, does-stop, ro
 use Rattle.meaning.proofs.Looping.{Leads, leads-start, leads-next, leads-end}
 use Rattle.meaning.proofs.Keeping.{keeps-end}
 use Rattle.values.specs.inner.Word.{questions}
-use Rattle.values.specs.State.{texts, fetched}
+use Rattle.values.specs.inner.State.{texts, fetched}
 use Rattle.values.specs.declared.fetch.Along.the-variants.{Records, Entries}
-use Rattle.pages.specs.Heading.{headingIn}
+use Rattle.pages.specs.inner.Packed.{headingIn}
 use Rattle.control.specs.declared.state.Flow.{Flow}
 use Rattle.control.specs.declared.state.Lined.{Lined}
 use Rattle.execution.specs.inner.Held.{Held, stateOf}

@@ -20,8 +20,8 @@ use Rattle.arguments.specs.declared.argument.Argument.{Argument}
 use Rattle.lines.specs.declared.command.Optional.{Optional}
 use Rattle.lines.specs.declared.command.Optional.the-variants.{Given, Absent}
 use Rattle.values.specs.declared.scene.Scene.{Scene}
-use Rattle.values.specs.State.{machine}
-use Rattle.arguments.specs.Parameter.{parameterOf}
+use Rattle.values.specs.inner.State.{machine}
+use Rattle.arguments.specs.inner.Parameter.{parameterOf}
 use Rattle.values.specs.inner.Yielding.{Askable}
 use Rattle.tables.specs.declared.table.Table.{Table}
 use Rattle.tables.specs.declared.table.Tables.{Tables}
@@ -29,7 +29,8 @@ use Rattle.tables.specs.declared.table.Looped.{Looped}
 use Rattle.coercions.specs.declared.taking.Counted.{Counted}
 use Rattle.coercions.specs.Settling.{Settled, settled, against, integerMeaning}
 use Rattle.coercions.specs.inner.Contracts.{TakesIntegerValue}
-use Rattle.tables.specs.Looping.{loop, Looping, looping, newTable, begun, beginMeaning, noTable, innermost, exceeds, countedTo, counting, counted, endMeaning, opened, openOf, loopingOf, wentIn, overIn, AtMostOpen, Closes, parameterIn, Loops, BeginsTable, EndsTable}
+use Rattle.tables.specs.Looping.{loop, Looping, looping, newTable, begun, beginMeaning, noTable, innermost, exceeds, countedTo, counting, counted, endMeaning}
+use Rattle.tables.specs.inner.Open.{opened, openOf, loopingOf, wentIn, overIn, AtMostOpen, Closes, parameterIn, Loops, BeginsTable, EndsTable}
 use Rattle.coercions.proofs.Running.{runs-over, runs-follow, runs-still}
 
 -- an array of structs is held as the list of their values

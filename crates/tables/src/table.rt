@@ -12,11 +12,12 @@ ghost use mathlib.Core.Path.{_≡_};
 ghost use mathlib.Core.List.{[], _∷_};
 ghost use lib.IntN.{pos};
 ghost use lib.Signed.{ltZ};
-ghost use Rattle.arguments.specs.Parameter.{parameterOf};
+ghost use Rattle.arguments.specs.inner.Parameter.{parameterOf};
 ghost use Rattle.values.specs.inner.Yielding.{Askable, Sized};
 ghost use Rattle.coercions.specs.Settling.{settled};
 ghost use Rattle.tables.specs.Looping as L;
-ghost use Rattle.tables.specs.Looping.{noTable, openOf, countedTo, wentIn, overIn, AtMostOpen, Closes, parameterIn, Loops, BeginsTable, EndsTable};
+ghost use Rattle.tables.specs.Looping.{noTable, countedTo};
+ghost use Rattle.tables.specs.inner.Open.{openOf, wentIn, overIn, AtMostOpen, Closes, parameterIn, Loops, BeginsTable, EndsTable};
 
 // An open table: its counter, its n, and the line after its $BT by place and number.
 pub struct Table {

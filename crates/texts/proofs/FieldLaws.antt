@@ -22,7 +22,7 @@ use Rattle.arguments.specs.declared.argument.Argument.{Argument}
 use Rattle.arguments.specs.declared.argument.ArgumentRead.{ArgumentRead}
 use Rattle.arguments.specs.declared.argument.ArgumentRead.the-variants.{ArgumentTo, NoArgument}
 use Rattle.arguments.specs.readers.Argument.{argumentAt}
-use Rattle.arguments.specs.Parameter.{parameterOf}
+use Rattle.arguments.specs.inner.Parameter.{parameterOf}
 use Rattle.arguments.proofs.Parsed.{ArgumentWithin, questionsOf, small-parameter, argument-bounded, argument-bytes}
 use Rattle.texts.specs.declared.text.Places.{Places}
 use Rattle.texts.specs.declared.text.Places.the-variants.{Unsaid, Said}

@@ -22,7 +22,7 @@ use Rattle.texts.specs.declared.text.PieceRead.{PieceRead}
 use Rattle.texts.specs.declared.text.PieceRead.the-variants.{PieceTo, NoPiece}
 use Rattle.texts.specs.Width.{widthOf}
 use Rattle.texts.specs.readers.Text.{pieceAt, fieldAt, placed, before, textPieces, fitsBehind}
-use Rattle.texts.specs.Pieces.{plainRun, plains}
+use Rattle.texts.specs.inner.Plain.{plainRun, plains}
 use Rattle.texts.proofs.PieceLaws.{pieces-more}
 use Rattle.texts.proofs.TextLaws.{piece-passed}
 

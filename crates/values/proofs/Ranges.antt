@@ -37,7 +37,7 @@ use Rattle.values.specs.Machine.{Machine, numbered}
 use Rattle.values.specs.Worth.{Worth, missing, wrong, number, string, answered, absolute, filteredNumber, filteredString, filtered, kindOf}
 use Rattle.values.specs.Meanings.{indexNumber, indexValue, question, asks, cellMeaning, worthOf, element, operandMeaning, argumentMeaning}
 use Rattle.values.specs.Fetching.{elementQuestion, elementQuestions, asksEach, countValue, firstOf, asksElements, fetchMeaning}
-use Rattle.values.specs.State.{answers}
+use Rattle.values.specs.Source.{answers}
 use Rattle.values.proofs.Keeping.{absolute-integer, absolute-decimal}
 
 -- "SV1–SV99 hold up to 16 bytes each, IV integers, FV decimals"; strings of cells and of the template have "0–16 bytes"

@@ -12,7 +12,7 @@ use Rattle.lines.specs.declared.command.Operation.{Operation}
 use Rattle.lines.specs.declared.command.Target.{Target}
 use Rattle.values.specs.declared.scene.Scene.{Scene}
 use Rattle.values.specs.declared.worth.Worth as W
-use Rattle.values.specs.State.{strings, meant, texts, machine}
+use Rattle.values.specs.inner.State.{strings, meant, texts, machine}
 use Rattle.coercions.specs.declared.settle.Done.{Done}
 use Rattle.coercions.specs.inner.Contracts.{Concludes, Runs}
 use Rattle.assignments.specs.Setting.{setNumbered, stored, stringNew, setOf, setMeaning}

@@ -6,9 +6,11 @@ use lib.IntN.{ℤ}
 use Rattle.meaning.specs.Answer.{Answer}
 use Rattle.meaning.specs.Meaning.{Meaning}
 use Rattle.meaning.specs.Number.{endOf}
+use Rattle.meaning.specs.Tree.{End, finished, halted, refused}
 use Rattle.meaning.specs.Place.{at, Does}
 use Rattle.meaning.specs.declared.question.Question.{Question}
 use Rattle.meaning.specs.declared.end.Ended.{Ended}
+use Rattle.meaning.specs.declared.refusal.Refusal.{Refusal}
 use Rattle.numbers.specs.declared.Quantity.{Quantity}
 use Rattle.cells.specs.Cell.{Cell}
 use Rattle.cells.specs.inner.Index.{Ready}
@@ -17,7 +19,8 @@ use Rattle.values.specs.declared.scene.Scene.{Scene}
 use Rattle.values.specs.declared.worth.Worth as W
 use Rattle.values.specs.Worth as D
 use Rattle.values.specs.inner.Word.{questions}
-use Rattle.values.specs.State.{answers, Strings, textOf, meant, machine}
+use Rattle.values.specs.Source.{answers}
+use Rattle.values.specs.inner.State.{Strings, textOf, meant, machine}
 use Rattle.coercions.specs.declared.settle.Taken.{Taken}
 use Rattle.coercions.specs.declared.settle.Taken.the-variants.{Value, Refused}
 use Rattle.coercions.specs.declared.settle.Amount.{Amount}
@@ -25,7 +28,7 @@ use Rattle.coercions.specs.declared.settle.Amount.the-variants as A
 use Rattle.coercions.specs.declared.settle.Phrase.{Phrase}
 use Rattle.coercions.specs.declared.settle.Phrase.the-variants as P
 use Rattle.coercions.specs.declared.taking.Counted.{Counted}
-use Rattle.coercions.specs.Settling.{Settled, settled, against, endIn, quantityFrom, stringFrom, integerMeaning}
+use Rattle.coercions.specs.Settling.{Settled, settled, against, quantityFrom, stringFrom, integerMeaning}
 
 -- a result or why there is none, as the code has it
 abbrev pub takenOf : Taken → Settled ℤ
@@ -49,6 +52,11 @@ pub record TakesQuantity (w : W.Worth) (r : Amount) : Type 0 where
 
 pub record TakesText (w : W.Worth) (r : Phrase) : Type 0 where
   pub same : (s : Strings) → phraseOf s r ≡ stringFrom (meant s w)
+
+-- how a line ends that only concludes
+abbrev pub endIn : {A : Type 0} → ℕ → Settled A → End Refusal ℕ A
+endIn line (settled a) = finished a
+endIn line (against e) = halted (refused e) line
 
 -- A line that neither asks nor prints: it ends in x, with what stands there then where it goes on.
 pub record Concludes {A : Type 0} (x : Settled A) (line : ℕ) (after : A) (end : Ended) : Type 0 where

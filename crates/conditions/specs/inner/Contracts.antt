@@ -8,13 +8,14 @@ use Rattle.arguments.specs.declared.argument.Argument.{Argument}
 use Rattle.lines.specs.declared.command.Comparison.{Comparison}
 use Rattle.values.specs.declared.scene.Scene.{Scene}
 use Rattle.values.specs.declared.worth.Worth as W
-use Rattle.values.specs.State.{Strings, meant, machine}
+use Rattle.values.specs.inner.State.{Strings, meant, machine}
 use Rattle.coercions.specs.Settling.{Settled, settled, against}
 use Rattle.coercions.specs.inner.Contracts.{Runs}
 use Rattle.conditions.specs.declared.test.Judged.{Judged}
 use Rattle.conditions.specs.declared.test.Judged.the-variants as J
 use Rattle.conditions.specs.declared.test.Tested.{Tested}
 use Rattle.conditions.specs.Testing.{isMissing, ofNumbers, zeroJudged, zeroMeaning, testMeaning}
+use Rattle.conditions.specs.inner.Kinds.{numbersHold}
 
 abbrev pub judgedOf : Judged → Settled Bool
 judgedOf (J.Holds b) = settled b
@@ -24,7 +25,7 @@ pub record Lacks (w : W.Worth) (r : Bool) : Type 0 where
   pub same : (s : Strings) → r ≡ isMissing (meant s w)
 
 pub record JudgesNumbers (c : Comparison) (v w : W.Worth) (r : Judged) : Type 0 where
-  pub same : (s : Strings) → judgedOf r ≡ ofNumbers c (meant s v) (meant s w)
+  pub same : (s : Strings) → judgedOf r ≡ ofNumbers (numbersHold c) (meant s v) (meant s w)
 
 pub record JudgesZero (zero : Bool) (w : W.Worth) (r : Judged) : Type 0 where
   pub same : (s : Strings) → judgedOf r ≡ zeroJudged zero (meant s w)

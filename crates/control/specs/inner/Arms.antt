@@ -18,7 +18,7 @@ use Rattle.tables.specs.declared.table.Looped.{Looped}
 use Rattle.coercions.specs.declared.taking.Counted.{Counted}
 use Rattle.assignments.specs.Setting.{setNumbered}
 use Rattle.pages.specs.declared.heading.Heading.{Heading}
-use Rattle.pages.specs.Heading.{headingsOf}
+use Rattle.pages.specs.inner.Packed.{headingsOf}
 use Rattle.pages.specs.Page.{breakMeaning}
 use Rattle.control.specs.declared.state.Flow.{Flow}
 use Rattle.control.specs.declared.state.Lined.{Lined}

@@ -15,14 +15,15 @@ use Rattle.meaning.specs.declared.question.Question.{Question}
 use Rattle.values.specs.declared.scene.Scene.{Scene}
 use Rattle.values.specs.inner.Word.{questions}
 use Rattle.values.specs.Machine.{Machine}
-use Rattle.values.specs.State.{answers, machine}
+use Rattle.values.specs.Source.{answers}
+use Rattle.values.specs.inner.State.{machine}
 use Rattle.arguments.specs.declared.argument.Argument.{Argument}
 use Rattle.lines.specs.declared.command.Optional.{Optional}
 use Rattle.lines.specs.declared.command.Line.{Line}
 use Rattle.lines.specs.declared.command.Line.the-variants.{BeginTable}
 use Rattle.values.specs.inner.Yielding.{Askable, Sized}
-use Rattle.tables.specs.Looping.{parameterIn}
-use Rattle.pages.specs.Heading.{headingsOf}
+use Rattle.tables.specs.inner.Open.{parameterIn}
+use Rattle.pages.specs.inner.Packed.{headingsOf}
 use Rattle.pages.specs.inner.Paging.{TurnReady}
 use Rattle.lines.proofs.Accepted as parsed
 use Rattle.execution.specs.Line.{newPageMeaning}

@@ -23,7 +23,8 @@ use Rattle.values.specs.inner.Word.{questions}
 use Rattle.values.specs.Worth.{Worth}
 use Rattle.values.specs.Machine.{Machine}
 use Rattle.values.specs.Meanings.{argumentMeaning}
-use Rattle.values.specs.State.{answers, machine}
+use Rattle.values.specs.Source.{answers}
+use Rattle.values.specs.inner.State.{machine}
 use Rattle.rendering.specs.declared.text.Made.{Made}
 use Rattle.rendering.specs.declared.text.Told.{Told}
 use Rattle.rendering.specs.Shown.{fieldBytes}

@@ -1,5 +1,5 @@
 -- By the cases of the definition.
-use Rattle.conditions.specs.Testing.{ignoring}
+use Rattle.conditions.specs.inner.Kinds.{ignoring}
 use borrow.Author.Needs.{needs}
 use Rattle.conditions.proofs.test.ignoring.Statement.{statement}
 use Rattle.conditions.proofs.test.ignoring.Tie as tie

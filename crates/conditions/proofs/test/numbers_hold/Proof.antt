@@ -1,5 +1,5 @@
 -- By the cases of the definition.
-use Rattle.conditions.specs.Testing.{numbersHold}
+use Rattle.conditions.specs.inner.Kinds.{numbersHold}
 use mathlib.Core.Bool.{not}
 use mathlib.Core.Path.{ap}
 use borrow.Author.Needs.{needs}

@@ -1,5 +1,5 @@
 -- By the cases of the definition.
-use Rattle.conditions.specs.Testing.{textual}
+use Rattle.conditions.specs.inner.Kinds.{textual}
 use borrow.Author.Needs.{needs}
 use Rattle.conditions.proofs.test.textual.Statement.{statement}
 use Rattle.conditions.proofs.test.textual.Tie as tie

@@ -1,6 +1,6 @@
 use Rattle.control.proofs.Following.{heads}
 use mathlib.Core.Path.{refl}
-use Rattle.pages.specs.Heading.{headingIn}
+use Rattle.pages.specs.inner.Packed.{headingIn}
 use borrow.Author.Needs.{needs}
 use Rattle.control.proofs.arms.no_heading_line.Statement.{statement}
 use Rattle.control.proofs.arms.no_heading_line.Tie as tie

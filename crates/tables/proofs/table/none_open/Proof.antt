@@ -1,5 +1,5 @@
 -- The depth is 0.
-use Rattle.tables.specs.Looping.{opened}
+use Rattle.tables.specs.inner.Open.{opened}
 use mathlib.Core.Path.{refl}
 use borrow.Author.Needs.{needs}
 use Rattle.tables.proofs.table.none_open.Statement.{statement}

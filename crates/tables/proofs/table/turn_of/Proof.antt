@@ -1,6 +1,6 @@
 -- The counter of the innermost table.
 use Rattle.tables.proofs.Tabling.{loop-is}
-use Rattle.tables.specs.Looping.{openOf}
+use Rattle.tables.specs.inner.Open.{openOf}
 use lib.IntN.{pos}
 use mir.ValLaws.{toZ-ofZ}
 use mir.Val.{SFits}
