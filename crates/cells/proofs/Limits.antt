@@ -18,7 +18,7 @@ use Rattle.cells.specs.declared.Answered.{Answered}
 use Rattle.cells.specs.Cell.{Cell, number, numberOf, printable, valueAllowed, cellAllowed}
 use Rattle.cells.specs.Store.{allowed, held}
 use Rattle.cells.specs.inner.Index.{Ready, Answers}
-use Rattle.cells.specs.Asking.{asked, questionAllowed, lookup, found, highestOf, ofParameter, ofRecord, answer, answeredAsk, refusedAsk, replied, askOf, meant}
+use Rattle.cells.specs.Asking.{Query, theCell, highestRecord, highestEntry, queryOf, questionAllowed, lookup, found, highestOf, ofParameter, ofRecord, queryAnswer, answer, answeredAsk, refusedAsk, replied, askOf, meant}
 use Rattle.cells.proofs.BigEndian.{and-true}
 use Rattle.cells.proofs.CellForm.{limits, key-allowed, value-allowed}
 use Rattle.cells.proofs.Locating.{held-some}
@@ -76,22 +76,20 @@ highest-within m f g (c ∷ cs) h = go (m c) (highest-within m f g cs (t .1))
     go true r = omega (arith, g c (t .0))
     go false r = omega arith
 
-answer-within : (q : Question) (cs : List Cell) → allowed cs ≡ true → AnswerWithin (answer q cs)
-unfolding answer
-answer-within q cs h = go (eqb (q .kind) 1) (eqb (q .kind) 2)
-  where
-    go : (a b : Bool) → AnswerWithin (cond a (found (lookup (number (asked q)) cs)) (cond b (highest (highestOf (ofParameter (asked q)) (λ c. c .key .recordNumber) cs)) (highest (highestOf (ofRecord (asked q)) (λ c. c .key .entryNumber) cs))))
-    go true b = lookup-within (number (asked q)) cs h
-    go false true = highest-within (ofParameter (asked q)) (λ c. c .key .recordNumber) (λ c k. limits (c .key) (key-allowed c k) .recordNumber) cs h
-    go false false = highest-within (ofRecord (asked q)) (λ c. c .key .entryNumber) (λ c k. limits (c .key) (key-allowed c k) .entryNumber) cs h
+query-within : (o : Option Query) (cs : List Cell) → allowed cs ≡ true → AnswerWithin (queryAnswer o cs)
+unfolding queryAnswer
+query-within none cs h = tt
+query-within (some (theCell k)) cs h = lookup-within (number k) cs h
+query-within (some (highestRecord d p)) cs h = highest-within (ofParameter d p) (λ c. c .key .recordNumber) (λ c k. limits (c .key) (key-allowed c k) .recordNumber) cs h
+query-within (some (highestEntry d p r)) cs h = highest-within (ofRecord d p r) (λ c. c .key .entryNumber) (λ c k. limits (c .key) (key-allowed c k) .entryNumber) cs h
 
 -- Whatever the store holds, an answer lies within its limits.
 pub ask-within : (b : List ℕ) (n : ℕ) (q : Question) → AnswerWithin (askOf b n q .answer)
-unfolding askOf replied
+unfolding askOf replied answer
 ask-within b n q = go (held b n) refl
   where
     by : (t : Bool) (cs : List Cell) → allowed cs ≡ true → AnswerWithin (cond t (answeredAsk (answer q cs)) (refusedAsk BadRequest) .answer)
-    by true cs h = answer-within q cs h
+    by true cs h = query-within (queryOf q) cs h
     by false cs h = tt
 
     go : (o : Option (List Cell)) → held b n ≡ o → AnswerWithin (replied q o .answer)

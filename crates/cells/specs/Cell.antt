@@ -15,6 +15,10 @@ pub record Key : Type 0 where
   pub recordNumber : ℕ
   pub entryNumber : ℕ
 
+-- a key by its four numbers
+abbrev pub keyOf : ℕ → ℕ → ℕ → ℕ → Key
+keyOf d p r e = record { datasource = d; parameter = p; recordNumber = r; entryNumber = e }
+
 pub record Cell : Type 0 where
   pub key : Key
   pub value : Value

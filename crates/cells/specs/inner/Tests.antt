@@ -1,17 +1,15 @@
--- The form of a cell as the code tests it, by places in the bytes.
+-- The form of a cell as the code tests it, by places in the bytes; and the numbers of a question.
 use mathlib.Core.Path.{_≡_}
-use mathlib.Core.Bool.{Bool, cond, _&&_}
+use mathlib.Core.Bool.{Bool, true, false, cond, _&&_}
 use mathlib.Core.List.{List}
 use mathlib.Core.Option.{Option, none, some}
 use Prim.Native.Nat.{ℕ, _+_, _-_, _≤_, _<_}
 use lib.Dec.{leb, eqb}
 use lib.ListN.{length, getD, take, drop}
+use Rattle.meaning.specs.declared.question.Question.{Question}
 use Rattle.numbers.specs.Range.{integerLimit, decimalLimit, within}
 use Rattle.cells.specs.Bytes.{quadAt, octetAt, signed, word, long}
-use Rattle.cells.specs.Cell.{Key, Cell, between, each, printable, integerKind, decimalKind, stringKind, cellBytes, front}
-
-abbrev pub keyOf : ℕ → ℕ → ℕ → ℕ → Key
-keyOf d p r e = record { datasource = d; parameter = p; recordNumber = r; entryNumber = e }
+use Rattle.cells.specs.Cell.{Cell, between, each, printable, integerKind, decimalKind, stringKind, cellBytes, front}
 
 -- how many bytes a cell of each kind has
 unfoldable pub sizeOf : ℕ → ℕ
@@ -45,3 +43,11 @@ pub record Sized (s : List ℕ) (r : ℕ) : Type 0 where
   pub size : r ≡ frontSize s
   pub inside : r ≤ length s
   pub least : 0 < r → 12 ≤ r
+
+-- the numbers that a question doesn't use, by its kind
+unfoldable pub unusedZero : Question → Bool
+unusedZero q =
+    cond
+    (eqb (q .kind) 1)
+    true
+    (cond (eqb (q .kind) 2) (eqb (q .«record») 0 && eqb (q .entry) 0) (cond (eqb (q .kind) 3) (eqb (q .entry) 0) false))
