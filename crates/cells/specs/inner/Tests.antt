@@ -9,11 +9,15 @@ use lib.ListN.{length, getD, take, drop}
 use Rattle.meaning.specs.declared.question.Question.{Question}
 use Rattle.numbers.specs.Range.{integerLimit, decimalLimit, within}
 use Rattle.cells.specs.Bytes.{quadAt, octetAt, signed, word, long}
-use Rattle.cells.specs.Cell.{Cell, between, each, printable, integerKind, decimalKind, stringKind, cellBytes, front}
+use Rattle.cells.specs.Cell.{between, each, printable, Kind, kinds, rowIn, integerKind, decimalKind, Cell, cellBytes, front}
 
--- how many bytes a cell of each kind has
+-- how many bytes a cell of a kind has: the byte of kind, the key, the value; 0 where there is no such kind
+unfoldable pub sizeBy : Option Kind → ℕ
+sizeBy none = 0
+sizeBy (some k) = 8 + k .size
+
 unfoldable pub sizeOf : ℕ → ℕ
-sizeOf k = cond (eqb k integerKind) 12 (cond (eqb k decimalKind) 16 (cond (eqb k stringKind) 25 0))
+sizeOf k = sizeBy (rowIn kinds k)
 
 abbrev pub zeros : List ℕ → Bool
 zeros s = each (between 0 0) s
