@@ -11,6 +11,8 @@ use lib.IntN.{ℤ, natAbs}
 use lib.ListN.{length, getD, take, drop, replicate, length-append, length-replicate, length-drop, take-append-drop}
 use lib.Seq.{take-append-seam, drop-append-seam, length-take-le, drop-drop, take-at}
 use Rattle.meaning.specs.Answer.{Value, integer, decimal, string}
+use Rattle.meaning.specs.Answer as A
+use Rattle.numbers.specs.declared.Quantity.the-variants as Q
 use Rattle.numbers.specs.Range.{integerLimit, decimalLimit, within}
 use Rattle.cells.specs.Bytes.{pair, quad, octet, pairAt, quadAt, octetAt, unsigned, signed, word, long, begins}
 use Rattle.cells.specs.Cell.{Key, between, keyAllowed, keyBytes, number, each, printable, Kind, integers, decimals, strings, kinds, rowIn, heldIn, kindOf, valueAllowed, valueBytes, integerKind, decimalKind, stringKind, Cell, cellAllowed, cellBytes, keyAt, cellBy, cellOf, passing, front}
@@ -120,19 +122,19 @@ strings-sound =
     }
 
 row-sound : (v : Value) → Sound (heldIn v .kind)
-row-sound (integer z) = integers-sound
-row-sound (decimal z) = decimals-sound
+row-sound (A.number (Q.Integer z)) = integers-sound
+row-sound (A.number (Q.Decimal z)) = decimals-sound
 row-sound (string t) = strings-sound
 
 row-found : (v : Value) → rowIn kinds (kindOf v) ≡ some (heldIn v .kind)
 unfolding kindOf
-row-found (integer z) = refl
-row-found (decimal z) = refl
+row-found (A.number (Q.Integer z)) = refl
+row-found (A.number (Q.Decimal z)) = refl
 row-found (string t) = refl
 
 row-value : (v : Value) → heldIn v .kind .value (heldIn v .body) ≡ v
-row-value (integer z) = refl
-row-value (decimal z) = refl
+row-value (A.number (Q.Integer z)) = refl
+row-value (A.number (Q.Decimal z)) = refl
 row-value (string t) = refl
 
 -- ---- a cell read back
@@ -198,8 +200,8 @@ known-kind v = rw (row-found v) (omega arith)
 -- a string's length stands behind the key
 pub string-short : (k : Key) (v : Value) (r : List ℕ) → valueAllowed v ≡ true → (kindOf v ≡ integerKind → ⊥) → (kindOf v ≡ decimalKind → ⊥) → getD (cellBytes (record { key = k; value = v }) ++ r) 8 0 ≤ 16
 unfolding cellBytes keyBytes valueBytes pair kindOf valueAllowed
-string-short k (integer z) r e j h = absurd (j refl)
-string-short k (decimal z) r e j h = absurd (h refl)
+string-short k (A.number (Q.Integer z)) r e j h = absurd (j refl)
+string-short k (A.number (Q.Decimal z)) r e j h = absurd (h refl)
 string-short k (string s) r e j h = leb-true _ _ (and-true _ _ e .0)
 
 -- ---- the tests that the code makes
@@ -321,8 +323,8 @@ module _ (k : Key) (r : List ℕ) where
 
   formed-value : (v : Value) → valueAllowed v ≡ true → valueFormed (laid v) ≡ true
   unfolding valueFormed kindOf valueAllowed
-  formed-value (integer z) e = rw (first-byte (record { key = k; value = integer z }) r, read-integer z e) e
-  formed-value (decimal z) e = rw (first-byte (record { key = k; value = decimal z }) r, read-decimal z e) e
+  formed-value (A.number (Q.Integer z)) e = rw (first-byte (record { key = k; value = integer z }) r, read-integer z e) e
+  formed-value (A.number (Q.Decimal z)) e = rw (first-byte (record { key = k; value = decimal z }) r, read-decimal z e) e
   formed-value (string s) e = rw (first-byte (record { key = k; value = string s }) r) (formed-text s e)
 
   cell-formed : (v : Value) → keyAllowed k ≡ true → valueAllowed v ≡ true → Formed (laid v)

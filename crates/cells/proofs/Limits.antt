@@ -11,7 +11,9 @@ use lib.IntN.{natAbs}
 use lib.ListN.{length}
 use Rattle.numbers.specs.Range.{integerLimit, decimalLimit, within}
 use Rattle.numbers.proofs.Laws.{within-true}
-use Rattle.meaning.specs.Answer.{Value, integer, decimal, string, Answer, missing, cell, highest}
+use Rattle.meaning.specs.Answer.{Value, string, Answer, missing, cell, highest}
+use Rattle.meaning.specs.Answer as A
+use Rattle.numbers.specs.declared.Quantity.the-variants as Q
 use Rattle.meaning.specs.declared.question.Question.{Question}
 use Rattle.meaning.specs.declared.refusal.Refusal.the-variants.{BadRequest}
 use Rattle.cells.specs.declared.Answered.{Answered}
@@ -36,8 +38,8 @@ same-answer b n index count cs q r k h = h .answer n cs k ∙ refused-missing (q
 
 -- "Values lie within ±2,000,000,000, so within ±2×10^15 millionths"; "a length 0–16"
 abbrev pub ValueWithin : Value → Type 0
-ValueWithin (integer z) = natAbs z ≤ integerLimit
-ValueWithin (decimal z) = natAbs z ≤ decimalLimit
+ValueWithin (A.number (Q.Integer z)) = natAbs z ≤ integerLimit
+ValueWithin (A.number (Q.Decimal z)) = natAbs z ≤ decimalLimit
 ValueWithin (string s) = length s ≤ 16
 
 -- "record 0–999, entry 0–999"
@@ -48,8 +50,8 @@ AnswerWithin (highest n) = n ≤ 999
 
 value-within : (v : Value) → valueAllowed v ≡ true → ValueWithin v
 unfolding valueAllowed
-value-within (integer z) h = within-true integerLimit z h
-value-within (decimal z) h = within-true decimalLimit z h
+value-within (A.number (Q.Integer z)) h = within-true integerLimit z h
+value-within (A.number (Q.Decimal z)) h = within-true decimalLimit z h
 value-within (string s) h = leb-true (length s) 16 (and-true (leb (length s) 16) (printable s) h .0)
 
 lookup-within : (n : ℕ) (cs : List Cell) → allowed cs ≡ true → AnswerWithin (found (lookup n cs))

@@ -7,6 +7,8 @@ use lib.Dec.{leb, eqb}
 use lib.IntN.{ℤ}
 use lib.ListN.{length, getD, take, drop, replicate}
 use Rattle.meaning.specs.Answer.{Value, integer, decimal, string}
+use Rattle.meaning.specs.Answer as A
+use Rattle.numbers.specs.declared.Quantity.the-variants as Q
 use Rattle.numbers.specs.Range.{integerLimit, decimalLimit, within}
 use Rattle.cells.specs.Bytes.{pair, quad, octet, pairAt, quadAt, octetAt, unsigned, signed, word, long, begins, same}
 
@@ -114,8 +116,8 @@ pub record Held : Type 1 where
   pub body : kind .Body
 
 abbrev pub heldIn : Value → Held
-heldIn (integer z) = record { kind = integers; body = z }
-heldIn (decimal z) = record { kind = decimals; body = z }
+heldIn (A.number (Q.Integer z)) = record { kind = integers; body = z }
+heldIn (A.number (Q.Decimal z)) = record { kind = decimals; body = z }
 heldIn (string t) = record { kind = strings; body = t }
 
 -- the columns of a value's row

@@ -101,8 +101,8 @@ numbered-there d e l (suc k) h = getD-there d e l k (omega (arith, h .most))
 pub answered-within : (a : Answer) → AnswerWithin a → WorthWithin (answered a)
 unfolding answered
 answered-within A.missing h = tt
-answered-within (cell (A.integer z)) h = h
-answered-within (cell (A.decimal z)) h = h
+answered-within (cell (A.number (Integer z))) h = h
+answered-within (cell (A.number (Decimal z))) h = h
 answered-within (cell (A.string s)) h = h
 answered-within (highest n) h = omega arith
 
