@@ -9,7 +9,7 @@ use lib.Dec.{leb}
 use lib.IntN.{ℤ, pos, negsuc}
 use Rattle.meaning.specs.Answer.{Answer}
 use Rattle.meaning.specs.Tree.{done, stop, ask, bind}
-use Rattle.meaning.specs.Meaning.{Meaning}
+use Rattle.meaning.specs.Meaning.{Meaning, asksEach}
 use Rattle.meaning.specs.declared.question.Question.{Question}
 use Rattle.meaning.specs.declared.refusal.Refusal.the-variants.{BadIndex}
 use Rattle.meaning.proofs.Yielding.{Yields}
@@ -33,7 +33,7 @@ use Rattle.values.specs.declared.fetch.Along.the-variants.{Records, Entr
 use Rattle.values.specs.Machine.{Machine}
 use Rattle.values.specs.Worth.{answered, filtered, kindOf}
 use Rattle.values.specs.Meanings.{indexNumber, limited, indexValue, question, asks, cellMeaning, worthOf, operandMeaning, argumentMeaning}
-use Rattle.values.specs.Fetching.{elementQuestion, elementQuestions, asksEach, countValue, firstOf, asksElements, fetchMeaning}
+use Rattle.values.specs.Fetching.{elementQuestion, elementQuestions, countValue, firstOf, asksElements, fetchMeaning}
 
 -- a question that `ask` doesn't refuse with 15
 abbrev pub Allowed : Question → Type 0

@@ -12,7 +12,7 @@ use Rattle.meaning.specs.Each.{Each}
 use Rattle.meaning.specs.Answer as A
 use Rattle.meaning.specs.Answer.{Answer, cell, highest}
 use Rattle.meaning.specs.Tree.{done, stop, ask, bind}
-use Rattle.meaning.specs.Meaning.{Meaning}
+use Rattle.meaning.specs.Meaning.{Meaning, asksEach}
 use Rattle.meaning.specs.declared.question.Question.{Question}
 use Rattle.meaning.specs.declared.refusal.Refusal.{Refusal}
 use Rattle.meaning.specs.declared.refusal.Refusal.the-variants.{BadIndex}
@@ -36,7 +36,7 @@ use Rattle.values.specs.Letters.{upper}
 use Rattle.values.specs.Machine.{Machine, numbered}
 use Rattle.values.specs.Worth.{Worth, missing, wrong, number, string, answered, absolute, filteredNumber, filteredString, filtered, kindOf}
 use Rattle.values.specs.Meanings.{indexNumber, indexValue, question, asks, cellMeaning, worthOf, element, operandMeaning, argumentMeaning}
-use Rattle.values.specs.Fetching.{elementQuestion, elementQuestions, asksEach, countValue, firstOf, asksElements, fetchMeaning}
+use Rattle.values.specs.Fetching.{elementQuestion, elementQuestions, countValue, firstOf, asksElements, fetchMeaning}
 use Rattle.values.specs.State.{answers}
 use Rattle.values.proofs.Keeping.{absolute-integer, absolute-decimal}
 
