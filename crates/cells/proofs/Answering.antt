@@ -20,7 +20,8 @@ use Rattle.cells.specs.Store.{allowed}
 use Rattle.cells.specs.Asking.{lookup, found, highestOf, meant, InStore}
 use Rattle.cells.specs.inner.Index as I
 use Rattle.cells.specs.inner.Index.{Ready, Position, ValueAt, CellAnswer, LastOf, nothing, last}
-use Rattle.cells.proofs.Locating.{held-some, pair-at, keys, key-here, keys-rise, allowed-in, Located, locate, cell-inside, sorted, lower-keys, higher-keys}
+use Rattle.cells.proofs.BigEndian.{pair-at}
+use Rattle.cells.proofs.Locating.{held-some, keys, key-here, keys-rise, allowed-in, Located, locate, cell-inside, sorted, lower-keys, higher-keys}
 
 head-length : (c : Cell) → 8 ≤ length (cellBytes c)
 unfolding cellBytes keyBytes pair

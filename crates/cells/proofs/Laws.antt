@@ -10,7 +10,7 @@ use lib.ListN.{length, getD, take, drop, drop-of-length-le}
 use Rattle.numbers.specs.Range.{integerLimit, decimalLimit, within}
 use Rattle.cells.specs.Bytes.{quadAt, octetAt, signed, word, long}
 use Rattle.cells.specs.Cell.{between, each, printable, integerKind, decimalKind, stringKind}
-use Rattle.cells.specs.inner.Tests.{sizeOf, zeros, stringFormed, valueFormed}
+use Rattle.cells.specs.inner.Tests.{sizeBy, sizeOf, zeros, stringFormed, valueFormed}
 use Rattle.cells.proofs.BigEndian.{next}
 
 pub between-low : (low high n : ℕ) → n < low → between low high n ≡ false
@@ -79,19 +79,19 @@ module _ (s : List ℕ) (n : ℕ) (e : n ≡ getD s 8 0) where
 -- the size and the value by the kind
 module _ (k : ℕ) where
   pub size-of-integer : k ≡ integerKind → 12 ≡ sizeOf k
-  unfolding sizeOf
+  unfolding sizeOf sizeBy
   size-of-integer e = rw (eq-eqb _ _ e)
 
   pub size-of-decimal : (k ≡ integerKind → ⊥) → k ≡ decimalKind → 16 ≡ sizeOf k
-  unfolding sizeOf
+  unfolding sizeOf sizeBy
   size-of-decimal n e = rw (ne-eqb _ _ n, eq-eqb _ _ e)
 
   pub size-of-string : (k ≡ integerKind → ⊥) → (k ≡ decimalKind → ⊥) → k ≡ stringKind → 25 ≡ sizeOf k
-  unfolding sizeOf
+  unfolding sizeOf sizeBy
   size-of-string n m e = rw (ne-eqb _ _ n, ne-eqb _ _ m, eq-eqb _ _ e)
 
   pub size-of-none : (k ≡ integerKind → ⊥) → (k ≡ decimalKind → ⊥) → (k ≡ stringKind → ⊥) → 0 ≡ sizeOf k
-  unfolding sizeOf
+  unfolding sizeOf sizeBy
   size-of-none n m l = rw (ne-eqb _ _ n, ne-eqb _ _ m, ne-eqb _ _ l)
 
 module _ (s : List ℕ) (r : Bool) where

@@ -13,47 +13,10 @@ use Rattle.cells.specs.Bytes.{pairAt, quadAt, octetAt}
 use Rattle.cells.specs.Cell.{Cell, number, numberOf, keyAt, cellAllowed, cellBytes, kindOf}
 use Rattle.cells.specs.Store.{encode, allowed, above, rising, cells, held}
 use Rattle.cells.specs.inner.Index.{offsets, Ready, keyIn, Sorted, First}
-use Rattle.cells.proofs.BigEndian.{and-true}
+use Rattle.cells.proofs.BigEndian.{and-true, key-at}
 use Rattle.cells.proofs.CellForm.{number-small, cell-key, cell-size, size-least, known-kind, key-allowed, value-allowed}
 use Rattle.cells.proofs.Runs.{Holds, cells-some, none-some}
 use Rattle.cells.proofs.Walking.{encode-append, offsets-append, length-offsets}
-
--- ---- reading at a place is reading at the front of what begins there
-
-module _ (b : List ℕ) (at : ℕ) where
-  read-at : (i : ℕ) → getD (drop at b) i 0 ≡ getD b (at + i) 0
-  read-at i = getD-drop at b i 0
-
-  pub pair-at : (i : ℕ) → pairAt (drop at b) i ≡ pairAt b (at + i)
-  unfolding pairAt
-  pair-at i =
-      let e : at + (i + 1) ≡ at + i + 1 = omega arith in
-      rw (read-at i, read-at (i + 1), e)
-
-  pub quad-at : (i : ℕ) → quadAt (drop at b) i ≡ quadAt b (at + i)
-  unfolding quadAt
-  quad-at i =
-      let e : at + (i + 2) ≡ at + i + 2 = omega arith in
-      rw (pair-at i, pair-at (i + 2), e)
-
-  pub octet-at : (i : ℕ) → octetAt (drop at b) i ≡ octetAt b (at + i)
-  unfolding octetAt
-  octet-at i =
-      let e : at + (i + 4) ≡ at + i + 4 = omega arith in
-      rw (quad-at i, quad-at (i + 4), e)
-
-  pub key-at : keyAt (drop at b) 1 ≡ keyAt b (at + 1)
-  unfolding keyAt
-  key-at =
-      let e : at + (1 + 1) ≡ at + 1 + 1 = omega arith in
-      let f : at + (1 + 3) ≡ at + 1 + 3 = omega arith in
-      let g : at + (1 + 5) ≡ at + 1 + 5 = omega arith in
-      λ i. record {
-        datasource = read-at 1 i;
-        parameter = (pair-at (1 + 1) ∙ ap (pairAt b) e) i;
-        recordNumber = (pair-at (1 + 3) ∙ ap (pairAt b) f) i;
-        entryNumber = (pair-at (1 + 5) ∙ ap (pairAt b) g) i;
-      }
 
 -- ---- a store that holds cells
 
@@ -137,7 +100,7 @@ allowed-in cs xs c ys a e = allowed-at xs c ys (ap allowed (sym e) ∙ a)
 pub cell-least : (c : Cell) → cellAllowed c ≡ true → 12 ≤ length (cellBytes c)
 cell-least c a =
     let v = value-allowed c a in
-    omega (arith, cell-size (c .key) (c .value) v, size-least (kindOf (c .value)) (known-kind (c .key) [] (c .value)))
+    omega (arith, cell-size (c .key) (c .value) v, size-least (kindOf (c .value)) (known-kind (c .value)))
 
 -- ---- the i-th cell in the bytes
 

@@ -10,11 +10,11 @@ use lib.Dec.{eqb}
 use lib.ListN.{length, drop-of-length-le}
 use Rattle.cells.specs.declared.request.Request.the-variants as R
 use Rattle.cells.specs.Bytes.{begins, same}
-use Rattle.cells.specs.Cell.{Key, Cell, number, keyAllowed, keyAt, keyBytes, cellAllowed, cellBytes, cellOf, kindOf, front, wholeCell, wholeKey}
+use Rattle.cells.specs.Cell.{Key, Cell, number, keyAllowed, keyAt, keyBytes, cellAllowed, cellBytes, cellOf, kindOf, passing, front, wholeCell, wholeKey}
 use Rattle.cells.specs.inner.Tests.{sizeFound, frontSize, Sized}
 use Rattle.cells.specs.inner.Request.{requested, requestedKey, CellAsked, KeyAsked}
 use Rattle.cells.proofs.BigEndian.{Bytes, and-true, both, begins-self, begins-says}
-use Rattle.cells.proofs.CellForm.{front-some, front-cell, cell-reads, value-allowed, cell-key, key-back, length-key, key-reads, cell-size, size-most}
+use Rattle.cells.proofs.CellForm.{passing-some, front-some, front-cell, cell-reads, value-allowed, cell-key, key-back, length-key, key-reads, cell-size, size-most}
 use Rattle.cells.proofs.Walking.{size-found, size-none}
 use Rattle.cells.proofs.Runs.{some-inj, none-some, cell-some}
 
@@ -36,19 +36,12 @@ same-self p = both (ap (begins p) (sym (append-nil p)) ∙ begins-self p []) (eq
 
 pub whole-some : (s : List ℕ) (c : Cell) → wholeCell s ≡ some c → Whole s c
 unfolding wholeCell
-whole-some s c e = go (cellAllowed (cellOf s) && same (cellBytes (cellOf s)) s) refl e
-  where
-    go : (t : Bool) → cellAllowed (cellOf s) && same (cellBytes (cellOf s)) s ≡ t → cond t (some (cellOf s)) none ≡ some c → Whole s c
-    go true t q =
-        let h = and-true (cellAllowed (cellOf s)) (same (cellBytes (cellOf s)) s) t in
-        subst (Whole s) (some-inj q) (record { allowed = h .0; bytes = same-says _ _ (h .1) })
-    go false t q = absurd (none-some q)
+whole-some s c e = let h = passing-some (λ b. same b s) (cellOf s) c e in record { allowed = h .0; bytes = same-says _ _ (h .1) }
 
 pub whole-cell : (c : Cell) → cellAllowed c ≡ true → wholeCell (cellBytes c) ≡ some c
-unfolding wholeCell
+unfolding wholeCell passing
 whole-cell c e =
-    ap (λ (x : Cell). cond (cellAllowed x && same (cellBytes x) (cellBytes c)) (some x) none) (ap cellOf (sym (append-nil (cellBytes c))) ∙ cell-reads c [] (value-allowed c e))
-    ∙ rw (e, same-self (cellBytes c))
+    ap (passing (λ b. same b (cellBytes c))) (ap cellOf (sym (append-nil (cellBytes c))) ∙ cell-reads c [] (value-allowed c e)) ∙ rw (e, same-self (cellBytes c))
 
 no-whole : (s : List ℕ) → ((c : Cell) → Whole s c → ⊥) → CellAsked s (wholeCell s) R.Bad
 unfolding requested

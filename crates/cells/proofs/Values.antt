@@ -1,7 +1,8 @@
 -- The value of the cell at a place of the store.
 use mathlib.Core.Path.{_≡_, refl, sym, ap, ap₂, _∙_}
 use mathlib.Core.Bool.{Bool, true, false, cond}
-use mathlib.Core.List.{List, [], _++_}
+use mathlib.Core.List.{List, _++_}
+use mathlib.Core.Option.{Option, some}
 use Prim.Native.Nat.{ℕ, zero, suc, _+_, _*_, _-_, _/_, _%_, _^_, _≤_, _<_}
 use native.Mathlib.Nat.{add-zero}
 use native.Mathlib.Omega.{arith}
@@ -16,12 +17,14 @@ use mir.ValLaws.{toZ-ofZ}
 use Rattle.meaning.specs.Answer.{integer, decimal, string, cell}
 use Rattle.cells.specs.declared.Answered.the-variants.{Missing, Integer, Decimal, Text}
 use Rattle.cells.specs.Bytes.{quadAt, octetAt, signed, word, long}
-use Rattle.cells.specs.Cell.{Cell, cellAllowed, cellBytes, kindOf, integerKind, decimalKind, valueOf}
+use Rattle.cells.specs.Cell.{Kind, integers, decimals, strings, kinds, rowIn, kindOf, integerKind, decimalKind, Cell, cellAllowed, cellBytes, cellBy, cellOf}
 use Rattle.cells.specs.inner.Tests.{sizeOf}
 use Rattle.cells.specs.Asking.{meant, InStore}
 use Rattle.cells.specs.inner.Index.{ValueAt, SizeAt}
-use Rattle.cells.proofs.CellForm.{first-byte, value-reads, value-allowed, cell-size, known-kind, size-string, string-short}
-use Rattle.cells.proofs.Locating.{quad-at, octet-at, cell-least}
+use Rattle.cells.proofs.CellForm.{first-byte, cell-reads, value-allowed, cell-size, known-kind, string-row, size-string, string-short}
+use Rattle.cells.proofs.Runs.{some-inj}
+use Rattle.cells.proofs.Locating.{cell-least}
+use Rattle.cells.proofs.BigEndian.{quad-at, octet-at}
 
 -- ---- two's complement
 
@@ -68,24 +71,28 @@ bits-back top n z e h k = ap (λ (x : ℤ). toZ w64 (ofZ w64 x)) e ∙ toZ-ofZ w
 -- ---- the value
 
 module _ (b : List ℕ) (at : ℕ) where
+  kind-at : getD (drop at b) 0 0 ≡ getD b at 0
+  kind-at = getD-drop at b 0 0 ∙ ap (λ (i : ℕ). getD b i 0) (add-zero at)
+
   -- the cell that begins there
   module _ (c : Cell) (rest : List ℕ) (a : cellAllowed c ≡ true) (e : drop at b ≡ cellBytes c ++ rest) where
     kind-is : getD b at 0 ≡ kindOf (c .value)
     kind-is =
         let z : at + 0 ≡ at = add-zero at in
-        ap (λ (i : ℕ). getD b i 0) (sym z) ∙ sym (getD-drop at b 0 0) ∙ ap (λ (l : List ℕ). getD l 0 0) e ∙ first-byte (c .key) rest (c .value)
+        ap (λ (i : ℕ). getD b i 0) (sym z) ∙ sym (getD-drop at b 0 0) ∙ ap (λ (l : List ℕ). getD l 0 0) e ∙ first-byte c rest
 
-    value-is : valueOf (drop at b) ≡ c .value
-    value-is = ap valueOf e ∙ value-reads (c .key) (c .value) rest (value-allowed c a)
+    -- the row of its kind reads its value
+    value-by : (k : Kind) → rowIn kinds (getD b at 0) ≡ some k → k .value (k .read (drop 8 (drop at b))) ≡ c .value
+    unfolding cellOf cellBy
+    value-by k f =
+        let w : cellBy (some k) (drop at b) ≡ some c = ap (λ (o : Option Kind). cellBy o (drop at b)) (sym f ∙ ap (rowIn kinds) (sym kind-at)) ∙ ap cellOf e ∙ cell-reads c rest (value-allowed c a) in
+        ap (λ (x : Cell). x .value) (some-inj w)
 
     has-room : at + sizeOf (getD b at 0) ≤ length b
     has-room = omega (arith, ap length e, length-append (cellBytes c) rest, length-drop at b, cell-least c a, cell-size (c .key) (c .value) (value-allowed c a), ap sizeOf kind-is)
 
     known : 0 < sizeOf (getD b at 0)
-    known = rw kind-is (known-kind (c .key) [] (c .value))
-
-  kind-at : getD (drop at b) 0 0 ≡ getD b at 0
-  kind-at = getD-drop at b 0 0 ∙ ap (λ (i : ℕ). getD b i 0) (add-zero at)
+    known = rw kind-is (known-kind (c .value))
 
   pub value-past : length b ≤ at → ValueAt b at Missing
   unfolding InStore
@@ -96,18 +103,18 @@ module _ (b : List ℕ) (at : ℕ) where
   value-short room size r s h = record { value = λ c q a e. absurd (omega (arith, has-room c q a e)); inside = λ c q a e. tt }
 
   pub value-integer : getD b at 0 ≡ integerKind → (n : ℕ) → n ≡ quadAt b (at + 8) → (z : ℤ) → z ≡ signed word n → ValueAt b at (Integer z)
-  unfolding meant valueOf InStore
+  unfolding meant InStore
   value-integer k n q z s =
       record {
-        value = λ c r a e. ap (λ (x : ℤ). cell (integer x)) (s ∙ ap (signed word) (q ∙ sym (quad-at b at 8))) ∙ ap cell (sym (rw (kind-at, eq-eqb _ _ k)) ∙ value-is c r a e);
+        value = λ c r a e. ap (λ (x : ℤ). cell (integer x)) (s ∙ ap (signed word) (q ∙ sym (quad-at (drop at b) 8 0 ∙ quad-at b at 8))) ∙ ap cell (value-by c r a e integers (rw (eq-eqb _ _ k)));
         inside = λ c r a e. tt;
       }
 
   pub value-decimal : (getD b at 0 ≡ integerKind → ⊥) → getD b at 0 ≡ decimalKind → (n : ℕ) → n ≡ octetAt b (at + 8) → (z : ℤ) → z ≡ signed long n → ValueAt b at (Decimal z)
-  unfolding meant valueOf InStore
+  unfolding meant InStore
   value-decimal j k n q z s =
       record {
-        value = λ c r a e. ap (λ (x : ℤ). cell (decimal x)) (s ∙ ap (signed long) (q ∙ sym (octet-at b at 8))) ∙ ap cell (sym (rw (kind-at, ne-eqb _ _ j, eq-eqb _ _ k)) ∙ value-is c r a e);
+        value = λ c r a e. ap (λ (x : ℤ). cell (decimal x)) (s ∙ ap (signed long) (q ∙ sym (octet-at (drop at b) 8 0 ∙ octet-at b at 8))) ∙ ap cell (value-by c r a e decimals (rw (ne-eqb _ _ j, eq-eqb _ _ k)));
         inside = λ c r a e. tt;
       }
 
@@ -121,12 +128,12 @@ module _ (b : List ℕ) (at : ℕ) where
         }
 
     pub value-text : (n : ℕ) → n ≡ getD b (at + 8) 0 → ValueAt b at (Text (at + 9) n)
-    unfolding meant valueOf InStore
+    unfolding meant InStore
     value-text n q =
         record {
           value = λ c r a e.
-              ap₂ (λ (x : ℕ) (l : List ℕ). cell (string (take x l))) (q ∙ sym (getD-drop at b 8 0)) (sym (drop-drop 9 at b))
-              ∙ ap cell (sym (rw (kind-at, ne-eqb _ _ j, ne-eqb _ _ k)) ∙ value-is c r a e);
+              ap₂ (λ (x : ℕ) (l : List ℕ). cell (string (take x l))) (q ∙ sym (getD-drop 8 (drop at b) 0 0 ∙ getD-drop at b 8 0)) (sym (drop-drop 1 8 (drop at b) ∙ drop-drop 9 at b))
+              ∙ ap cell (value-by c r a e strings (string-row _ j k (known c r a e)));
           inside = λ c r a e.
               let s : getD (cellBytes c ++ r) 8 0 ≤ 16 = string-short (c .key) (c .value) r (value-allowed c a) (λ z. j (kind-is c r a e ∙ z)) (λ z. k (kind-is c r a e ∙ z)) in
               let z : length (cellBytes c) ≡ 25 = cell-size (c .key) (c .value) (value-allowed c a) ∙ ap sizeOf (sym (kind-is c r a e)) ∙ size-string _ j k (known c r a e) in

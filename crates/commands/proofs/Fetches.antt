@@ -3,6 +3,7 @@ use mathlib.Core.Path.{_≡_, refl, ap, _∙_}
 use mathlib.Core.List.{List, map}
 use Prim.Native.Nat.{ℕ, zero, suc}
 use lib.IntN.{ℤ}
+use Rattle.buffers.proofs.Laws.{map-set}
 use Rattle.meaning.specs.Answer.{Answer}
 use Rattle.meaning.specs.Tree.{done, bind}
 use Rattle.meaning.specs.Meaning.{Meaning}
@@ -21,7 +22,6 @@ use Rattle.values.specs.inner.Fetch.{Fetches, FetchValue}
 use Rattle.values.specs.Source.{answers}
 use Rattle.values.specs.inner.State.{fetched, machine}
 use Rattle.values.specs.inner.Word.{questions}
-use Rattle.values.proofs.Words.{map-set}
 use Rattle.assignments.specs.Setting.{setNumbered}
 use Rattle.coercions.specs.inner.Contracts.{Runs}
 use Rattle.commands.specs.Fetching.{withRecords, withEntries, recordsMeaning, entriesMeaning}

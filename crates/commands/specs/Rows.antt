@@ -7,6 +7,7 @@ use lib.IntN.{ℤ, pos, negsuc}
 use lib.ListN.{length}
 use Rattle.meaning.specs.Answer as A
 use Rattle.meaning.specs.Answer.{Answer}
+use Rattle.meaning.specs.Meaning.{asksEach}
 use Rattle.meaning.specs.Tree.{finished, halted, refused, cut, End, Run, run}
 use Rattle.meaning.specs.declared.question.Question.{Question}
 use Rattle.meaning.specs.declared.refusal.Refusal.{Refusal}
@@ -36,7 +37,7 @@ use Rattle.values.specs.Letters.{upper, alike}
 use Rattle.values.specs.Machine.{Machine, numbered}
 use Rattle.values.specs.Worth.{answered, ranged, absolute, filteredNumber, filteredString, filtered, kindOf}
 use Rattle.values.specs.Meanings.{indexNumber, limited, indexValue, asks, cellMeaning, worthOf, operandMeaning, argumentMeaning}
-use Rattle.values.specs.Fetching.{firstOf, elementQuestion, elementQuestions, asksEach, countValue, asksElements, fetchMeaning}
+use Rattle.values.specs.Fetching.{firstOf, elementQuestion, elementQuestions, countValue, asksElements, fetchMeaning}
 use Rattle.tables.specs.declared.table.Table.{Table}
 use Rattle.coercions.specs.Settling.{settled, integerFrom, quantityFrom, stringFrom, resultOf, millionthsOf, decimalFrom, integerMeaning}
 use Rattle.assignments.specs.Setting.{integerOutcome, decimalOutcome, setNumbered, stored, newFrom, stringNew, setOf, setMeaning}

@@ -8,6 +8,7 @@ use native.Mathlib.Nat.{add-zero}
 use lib.IntN.{ℤ, pos}
 use lib.Signed.{ltZ}
 use lib.ListN.{length, drop, take, set, drop-of-length-le, length-take}
+use Rattle.buffers.proofs.Laws.{map-set}
 use Rattle.template.specs.declared.seek.Sought.{Sought}
 use Rattle.template.specs.declared.seek.Sought.the-variants.{Branch, TableEnd}
 use Rattle.template.specs.declared.seek.Skip.{Skip}
@@ -18,7 +19,6 @@ use Rattle.meaning.specs.declared.end.Halt.{Halt}
 use Rattle.meaning.specs.declared.end.Ended.{Ended}
 use Rattle.meaning.specs.declared.end.Ended.the-variants.{Finished, Halted}
 use Rattle.values.specs.declared.scene.Scene.{Scene}
-use Rattle.values.proofs.Words.{map-set}
 use Rattle.tables.specs.declared.table.Looped.{Looped}
 use Rattle.coercions.specs.declared.taking.Counted.{Counted}
 use Rattle.tables.specs.Looping.{loop}

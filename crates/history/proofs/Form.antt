@@ -18,6 +18,7 @@ use Rattle.cells.specs.Bytes.{same}
 use Rattle.cells.specs.Cell.{Key, Cell, number, cellAllowed, keyAllowed, cellBytes, keyBytes, keyAt, cellOf, wholeCell, wholeKey}
 use Rattle.cells.specs.Store.{capacity, encode, cells, held}
 use Rattle.cells.specs.Asking.{lookup}
+use Rattle.cells.proofs.CellForm.{passing-some}
 use Rattle.cells.proofs.BigEndian.{and-true}
 use Rattle.cells.proofs.Runs.{Valid, Holds, some-inj, none-some, cells-encode, cells-some}
 use Rattle.store.specs.Edit.{with, without, CellEdit, refusedOn, doneOn, fits, putOn, takenOut, removeOn, Edit, refusedEdit, written, writtenBy, writtenOut, checked, putOf, removeOf}
@@ -33,9 +34,7 @@ chosen false x y e = absurd (none-some e)
 
 pub cell-allowed : (s : List ℕ) (c : Cell) → wholeCell s ≡ some c → cellAllowed c ≡ true
 unfolding wholeCell
-cell-allowed s c e =
-    let t = chosen (cellAllowed (cellOf s) && same (cellBytes (cellOf s)) s) (cellOf s) c e in
-    subst (λ (x : Cell). cellAllowed x ≡ true) (t .1) (and-true _ _ (t .0) .0)
+cell-allowed s c e = passing-some (λ b. same b s) (cellOf s) c e .0
 
 pub key-allowed : (s : List ℕ) (k : Key) → wholeKey s ≡ some k → keyAllowed k ≡ true
 unfolding wholeKey

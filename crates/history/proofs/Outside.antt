@@ -8,7 +8,7 @@ use native.Mathlib.Omega.{arith}
 use borrow.Author.Tests.{eqb-true, eq-eqb, ltb-true, ltb-false, not-true}
 use lib.Dec.{eqb, ltb}
 use lib.ListN.{length}
-use Rattle.meaning.specs.declared.refusal.Refusal.the-variants.{StoreFull}
+use Rattle.meaning.specs.declared.refusal.Refusal.the-variants.{BadRequest, StoreFull}
 use Rattle.meaning.specs.Each.{Each}
 use Rattle.meaning.specs.Answer.{highest}
 use Rattle.meaning.specs.declared.question.Question.{Question}
@@ -16,10 +16,11 @@ use Rattle.meaning.specs.declared.end.Ended.{Ended}
 use Rattle.meaning.specs.declared.end.Ended.the-variants.{Finished, Halted}
 use Rattle.cells.specs.Cell.{Key, Cell, number, numberOf, keyAllowed, cellAllowed, wholeCell, wholeKey}
 use Rattle.cells.specs.Store.{allowed}
-use Rattle.cells.specs.Asking.{lookup, asked, questionAllowed, highestOf, ofParameter, ofRecord, unusedZero, found, answer, replied, askOf}
+use Rattle.cells.specs.Asking.{asked, Query, theCell, queryAllowed, questionAllowed, lookup, highestOf, ofParameter, ofRecord, queryAnswer, answer, Reply, answeredAsk, refusedAsk, replied, askOf}
 use Rattle.cells.proofs.BigEndian.{and-true}
 use Rattle.cells.proofs.CellForm.{same-key, key-allowed as cell-key-allowed}
 use Rattle.cells.proofs.Locating.{held-some}
+use Rattle.cells.proofs.Questions.{by-query}
 use Rattle.store.specs.Edit.{lower, higher, with, without, refusedOn, doneOn, fits, putOn, takenOut, removeOn}
 use Rattle.history.specs.State.{State, heldBy, askIn}
 use Rattle.history.specs.Change.{Change, put, remove, next, endOf, succeeded, keyOfCell, keyNamed, isKey, ofItsParameter, touchesParameter, edited}
@@ -124,17 +125,22 @@ module _ (q : Question) (e : Change) (n : ofItsParameter (asked q) (keyNamed e) 
           by false u = refl
 
   same-reply : (size : ℕ) (cs : List Cell) → allowed cs ≡ true → replied q (some (edited size e cs .left)) ≡ replied q (some cs)
-  unfolding replied questionAllowed answer ofParameter ofRecord
-  same-reply size cs h = go (keyAllowed (asked q)) refl
+  unfolding replied queryAllowed questionAllowed queryAnswer answer ofParameter ofRecord
+  same-reply size cs h = by-query q (λ o. reply o (edited size e cs .left) ≡ reply o cs) refl (go (keyAllowed (asked q)) refl) (rw in-parameter) (rw in-record)
     where
-      in-parameter : (l : Key) → keyNamed e ≡ some l → eqb (l .datasource) (q .datasource) && eqb (l .parameter) (q .parameter) ≡ false
-      in-parameter = other
+      reply : Option Query → List Cell → Reply
+      reply o ds = cond (queryAllowed o) (answeredAsk (queryAnswer o ds)) (refusedAsk BadRequest)
 
-      in-record : (l : Key) → keyNamed e ≡ some l → (eqb (l .datasource) (q .datasource) && eqb (l .parameter) (q .parameter)) && eqb (l .recordNumber) (q .«record») ≡ false
-      in-record l k = ap (λ (t : Bool). t && eqb (l .recordNumber) (q .«record»)) (other l k)
+      in-parameter : highestOf (ofParameter (q .datasource) (q .parameter)) (λ c. c .key .recordNumber) (edited size e cs .left) ≡ highestOf (ofParameter (q .datasource) (q .parameter)) (λ c. c .key .recordNumber) cs
+      in-parameter = top-edited (λ l. eqb (l .datasource) (q .datasource) && eqb (l .parameter) (q .parameter)) (λ c. c .key .recordNumber) size e other cs h
 
-      go : (t : Bool) → keyAllowed (asked q) ≡ t → replied q (some (edited size e cs .left)) ≡ replied q (some cs)
-      go true a = rw (edited-other size (asked q) e cs (not-asked a), top-edited (λ l. eqb (l .datasource) (q .datasource) && eqb (l .parameter) (q .parameter)) (λ c. c .key .recordNumber) size e in-parameter cs h, top-edited (λ l. (eqb (l .datasource) (q .datasource) && eqb (l .parameter) (q .parameter)) && eqb (l .recordNumber) (q .«record»)) (λ c. c .key .entryNumber) size e in-record cs h)
+      in-record : highestOf (ofRecord (q .datasource) (q .parameter) (q .«record»)) (λ c. c .key .entryNumber) (edited size e cs .left) ≡ highestOf (ofRecord (q .datasource) (q .parameter) (q .«record»)) (λ c. c .key .entryNumber) cs
+      in-record =
+          top-edited (λ l. (eqb (l .datasource) (q .datasource) && eqb (l .parameter) (q .parameter)) && eqb (l .recordNumber) (q .«record»)) (λ c. c .key .entryNumber) size e
+          (λ l k. ap (λ (t : Bool). t && eqb (l .recordNumber) (q .«record»)) (other l k)) cs h
+
+      go : (t : Bool) → keyAllowed (asked q) ≡ t → reply (some (theCell (asked q))) (edited size e cs .left) ≡ reply (some (theCell (asked q))) cs
+      go true a = rw (edited-other size (asked q) e cs (not-asked a))
       go false a = rw a
 
 other-once : (q : Question) (e : Change) (m : State) → touchesParameter (asked q) e m ≡ false → askIn (next e m) q ≡ askIn m q

@@ -9,9 +9,9 @@ use Rattle.meaning.specs.declared.refusal.Refusal.the-variants.{BadStore, BadRe
 use Rattle.meaning.specs.declared.end.Ended.the-variants.{Finished}
 use Rattle.numbers.specs.Range.{within}
 use Rattle.cells.specs.Bytes.{pair, quad, octet, pairAt, quadAt, octetAt, unsigned, signed, begins, same}
-use Rattle.cells.specs.Cell.{Key, between, keyAllowed, keyBytes, number, each, valueAllowed, cellAllowed, kindOf, valueBytes, cellBytes, keyAt, valueOf, front, wholeCell, wholeKey}
+use Rattle.cells.specs.Cell.{Key, between, keyAllowed, keyBytes, number, each, valueAllowed, cellAllowed, kindOf, valueBytes, cellBytes, keyAt, cellBy, cellOf, passing, front, wholeCell, wholeKey}
 use Rattle.cells.specs.Store.{encode, above, rising, before, run, ordered, cells, held}
-use Rattle.cells.specs.Asking.{lookup, found, answer, unusedZero, questionAllowed, replied, askOf, refusedWith}
+use Rattle.cells.specs.Asking.{unused, queryOf, queryAllowed, questionAllowed, lookup, found, queryAnswer, answer, replied, askOf, refusedWith}
 use Rattle.store.specs.Edit.{lower, higher, with, without, written, fits, putOn, takenOut, removeOn, writtenBy, checked, putOf, removeOf}
 use Rattle.history.specs.State.{State, answerIn, cellQuestion}
 use Rattle.history.specs.Change.{put, remove, handedBack}
@@ -80,7 +80,9 @@ unfolding
     valueBytes
     cellBytes
     keyAt
-    valueOf
+    cellBy
+    cellOf
+    passing
     front
     wholeCell
     wholeKey
@@ -92,11 +94,14 @@ unfolding
     ordered
     cells
     held
+    unused
+    queryOf
+    queryAllowed
+    questionAllowed
     lookup
     found
+    queryAnswer
     answer
-    unusedZero
-    questionAllowed
     replied
     askOf
     lower

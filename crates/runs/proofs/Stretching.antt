@@ -10,8 +10,8 @@ use lib.ListN.{length, take, replicate, length-map}
 use lib.Seq.{length-take-le}
 use Rattle.meaning.specs.Answer.{Answer}
 use Rattle.meaning.specs.Tree.{done, stop, bind, End, finished}
-use Rattle.meaning.specs.Place.{Place, at, Does, placesLeft, roomLeft, from}
-use Rattle.meaning.specs.Rule.{after, Keeps, AtEnd, pageLimit}
+use Rattle.meaning.specs.Place.{Place, at, Does, from}
+use Rattle.meaning.specs.Rule.{pageLimit}
 use Rattle.meaning.specs.Number.{endOf}
 use Rattle.meaning.specs.Meaning.{Meaning}
 use Rattle.meaning.specs.declared.question.Question.{Question}
@@ -23,7 +23,7 @@ use Rattle.meaning.specs.declared.end.Ended.{Ended}
 use Rattle.meaning.specs.declared.end.Ended.the-variants.{Finished, Halted}
 use Rattle.meaning.proofs.Doing.{then-does, then-over, does-done, does-stop, room-kept, left-kept, text-kept}
 use Rattle.meaning.proofs.Looping.{Leads, leads-start, leads-next, leads-end}
-use Rattle.meaning.proofs.Keeping.{keeps-end}
+use Rattle.meaning.proofs.Keeping.{yields}
 use Rattle.values.specs.inner.Word.{questions}
 use Rattle.values.specs.inner.State.{texts, fetched}
 use Rattle.values.specs.declared.fetch.Along.the-variants.{Records, Entries}
@@ -62,11 +62,6 @@ module _ (t : List ℕ) (end : ℕ) where
   unfolding runFrom
   run-late zero s z h = rw (lt-ltb (s .at) end h)
   run-late (suc f) s z h = absurd (omega arith)
-
--- what a tree keeps, the value that it yields has
-yields : {A : Type 0} {source : Question → Answer} {t : Meaning A} {P P′ : Place Question} {a : A} (c : ℕ) (Φ : A → ℕ → Type 0) → Does source t P P′ (finished a) → Keeps (pageLimit 60) t c Φ → (c′ : ℕ) × Φ a c′
-yields {source = source} {t = t} {P = P} {a = a} c Φ d k =
-    (after (pageLimit 60) c (from source P t .events), subst (λ e. AtEnd Φ e (after (pageLimit 60) c (from source P t .events))) (sym (d .did .end)) (keeps-end (pageLimit 60) source (placesLeft P) (roomLeft P) t c Φ k))
 
 -- ---- the lengths of the rows that are lent
 
@@ -281,7 +276,7 @@ module _ (t b index T : List ℕ) (rows : List (List ℕ)) (s : Stretch) (r : Ru
           on-now = record { sound = g .standing .sound; next = omega (arith, g .standing .sound .first-row) }
 
           on-next : (c : ℕ) × On t (50001 - left + 1) (stateAt (storeOf v b) h′ (o .flow)) c
-          on-next = yields (f .page .line - 1) (On t (50001 - left + 1)) line-done (line-keeps on-now within)
+          on-next = yields (pageLimit 60) (f .page .line - 1) (On t (50001 - left + 1)) line-done (line-keeps on-now within)
 
           stands : Standing t (left - 1) (stateAt (storeOf v b) h′ (o .flow))
           stands =

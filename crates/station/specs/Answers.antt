@@ -6,7 +6,9 @@ use mathlib.Core.Option.{Option, none, some}
 use Prim.Native.Nat.{ℕ, _+_, _≤_}
 use lib.IntN.{ℤ, pos}
 use lib.ListN.{length, take, drop}
-use Rattle.meaning.specs.Answer.{integer, decimal, string, Answer, missing, cell, highest}
+use Rattle.numbers.specs.declared.Quantity.the-variants as Q
+use Rattle.meaning.specs.Answer as A
+use Rattle.meaning.specs.Answer.{string, Answer, missing, cell, highest}
 use Rattle.meaning.specs.declared.question.Question.{Question}
 use Rattle.meaning.specs.Number.{numberOf, endOf}
 use Rattle.cells.specs.declared.Answered.{Answered}
@@ -23,32 +25,30 @@ questionOf k d p r e = record { kind = k; datasource = d; parameter = p; «recor
 -- the kinds of station.h: 0 is missing, then a cell's kinds, 1 a highest number
 unfoldable pub kindTold : Answer → ℕ
 kindTold missing = 0
-kindTold (cell (integer z)) = integerKind
-kindTold (cell (decimal z)) = decimalKind
+kindTold (cell (A.number (Q.Integer z))) = integerKind
+kindTold (cell (A.number (Q.Decimal z))) = decimalKind
 kindTold (cell (string s)) = stringKind
 kindTold (highest n) = 1
 
 -- a number, else 0
 unfoldable pub valueTold : Answer → ℤ
 valueTold missing = pos 0
-valueTold (cell (integer z)) = z
-valueTold (cell (decimal z)) = z
+valueTold (cell (A.number (Q.Integer z))) = z
+valueTold (cell (A.number (Q.Decimal z))) = z
 valueTold (cell (string s)) = pos 0
 valueTold (highest n) = pos 0
 
 -- a string's length or a highest number, else 0
 unfoldable pub countTold : Answer → ℕ
 countTold missing = 0
-countTold (cell (integer z)) = 0
-countTold (cell (decimal z)) = 0
+countTold (cell (A.number q)) = 0
 countTold (cell (string s)) = length s
 countTold (highest n) = n
 
 -- where a string's bytes lie in the store, the first n bytes of b; else 0
 unfoldable pub PlaceTold : List ℕ → ℕ → Answer → ℕ → Type 0
 PlaceTold b n missing i = i ≡ 0
-PlaceTold b n (cell (integer z)) i = i ≡ 0
-PlaceTold b n (cell (decimal z)) i = i ≡ 0
+PlaceTold b n (cell (A.number q)) i = i ≡ 0
 PlaceTold b n (cell (string s)) i = (take (length s) (drop i b) ≡ s) × (i + length s ≤ n)
 PlaceTold b n (highest m) i = i ≡ 0
 

@@ -3,8 +3,9 @@ use crate::arithmetic;
 use fields::Places;
 ghost use mathlib.Core.Path.{_≡_};
 ghost use mathlib.Core.Bool.{false};
+ghost use mathlib.Core.Option.{none, some};
 ghost use Rattle.fields.specs.Field.{fieldOf, Put};
-ghost use Rattle.fields.specs.Field as F;
+ghost use Rattle.meaning.specs.Answer as G;
 ghost use Rattle.station.specs.Codes.{quantityOf, placesSaid};
 
 fn places_of(said: bool, places: usize) -> Places
@@ -26,7 +27,7 @@ pub extern "C" fn station_number_field(
     kind: u8,
     n: i64,
 ) -> bool
-    ensures { λ r. ⌜ Put (now (buffer .entry)) at (fieldOf width (placesSaid said places) (F.number (quantityOf kind n))) (now (buffer .exit)) r ⌝ }
+    ensures { λ r. ⌜ Put (now (buffer .entry)) at (fieldOf width (placesSaid said places) (some (G.number (quantityOf kind n)))) (now (buffer .exit)) r ⌝ }
 {
     let d = places_of(said, places);
     let q = arithmetic::quantity(kind, n);
@@ -40,14 +41,14 @@ pub extern "C" fn station_string_field(
     width: usize,
     bytes: &[u8],
 ) -> bool
-    ensures { λ r. ⌜ Put (now (buffer .entry)) at (fieldOf width (placesSaid false 0) (F.string (now (bytes .entry)))) (now (buffer .exit)) r ⌝ }
+    ensures { λ r. ⌜ Put (now (buffer .entry)) at (fieldOf width (placesSaid false 0) (some (G.string (now (bytes .entry))))) (now (buffer .exit)) r ⌝ }
 {
     fields::string(buffer, at, width, bytes)
 }
 
 #[no_mangle]
 pub extern "C" fn station_missing_field(buffer: &mut [u8], at: usize, width: usize) -> bool
-    ensures { λ r. ⌜ Put (now (buffer .entry)) at (fieldOf width (placesSaid false 0) F.missing) (now (buffer .exit)) r ⌝ }
+    ensures { λ r. ⌜ Put (now (buffer .entry)) at (fieldOf width (placesSaid false 0) none) (now (buffer .exit)) r ⌝ }
 {
     fields::missing(buffer, at, width)
 }

@@ -6,7 +6,7 @@ use lib.Dec.{leb}
 use lib.IntN.{ℤ}
 use Rattle.meaning.specs.Answer.{Answer}
 use Rattle.meaning.specs.Tree.{stop}
-use Rattle.meaning.specs.Meaning.{Meaning}
+use Rattle.meaning.specs.Meaning.{Meaning, asksEach}
 use Rattle.meaning.specs.Number.{endOf}
 use Rattle.meaning.specs.Place.{at, Does}
 use Rattle.meaning.specs.declared.question.Question.{Question}
@@ -17,7 +17,7 @@ use Rattle.values.specs.declared.fetch.Fetched.{Fetched}
 use Rattle.values.specs.declared.scene.Scene.{Scene}
 use Rattle.values.specs.inner.Word.{questions}
 use Rattle.values.specs.inner.State.{fetched, machine}
-use Rattle.values.specs.Fetching.{elementQuestion, elementQuestions, asksEach, firstOf, fetchMeaning}
+use Rattle.values.specs.Fetching.{elementQuestion, elementQuestions, firstOf, fetchMeaning}
 
 -- The same for the code, by the record, entry and count that it worked out: each is within its limits, or 1000.
 unfoldable pub fetchAllowed : Along → ℕ → ℕ → ℕ → Bool
