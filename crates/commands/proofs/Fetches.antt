@@ -21,8 +21,8 @@ use Rattle.values.specs.Fetching.{Fetches, FetchValue}
 use Rattle.values.specs.State.{answers, fetched, machine}
 use Rattle.values.specs.inner.Word.{questions}
 use Rattle.values.proofs.Words.{map-set}
-use Rattle.commands.specs.Setting.{setNumbered}
-use Rattle.commands.specs.inner.Contracts.{Runs}
+use Rattle.assignments.specs.Setting.{setNumbered}
+use Rattle.coercions.specs.inner.Contracts.{Runs}
 use Rattle.commands.specs.Fetching.{withRecords, withEntries, recordsMeaning, entriesMeaning, TakesRecords, TakesEntries}
 
 -- A fetch that led to v, and the machine with what it fetched.

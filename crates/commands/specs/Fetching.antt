@@ -11,9 +11,9 @@ use Rattle.values.specs.declared.fetch.Along.the-variants.{Records, Entries}
 use Rattle.values.specs.Machine.{Machine}
 use Rattle.values.specs.Fetching.{fetchMeaning}
 use Rattle.values.specs.State.{machine}
-use Rattle.commands.specs.declared.settle.Done.{Done}
-use Rattle.commands.specs.Setting.{setNumbered}
-use Rattle.commands.specs.inner.Contracts.{Runs}
+use Rattle.coercions.specs.declared.settle.Done.{Done}
+use Rattle.assignments.specs.Setting.{setNumbered}
+use Rattle.coercions.specs.inner.Contracts.{Runs}
 
 abbrev pub withRecords : Machine → List (List Answer) → Machine
 withRecords m l = record { integers = m .integers; decimals = m .decimals; strings = m .strings; counter = m .counter; records = l; entries = m .entries; datasource = m .datasource; page = m .page; row = m .row }

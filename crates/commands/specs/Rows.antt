@@ -37,12 +37,12 @@ use Rattle.values.specs.Machine.{Machine, numbered}
 use Rattle.values.specs.Worth.{answered, ranged, absolute, filteredNumber, filteredString, filtered, kindOf}
 use Rattle.values.specs.Meanings.{indexNumber, limited, indexValue, asks, cellMeaning, worthOf, operandMeaning, argumentMeaning}
 use Rattle.values.specs.Fetching.{firstOf, elementQuestion, elementQuestions, asksEach, countValue, asksElements, fetchMeaning}
-use Rattle.commands.specs.declared.table.Table.{Table}
-use Rattle.commands.specs.Settling.{settled, integerFrom, quantityFrom, stringFrom, resultOf, millionthsOf, decimalFrom, integerMeaning}
-use Rattle.commands.specs.Setting.{integerOutcome, decimalOutcome, setNumbered, stored, newFrom, stringNew, setOf, setMeaning}
-use Rattle.commands.specs.Testing.{zeroTest, zeroJudged, textual, ignoring, numbersHold, ofNumbers, ofStrings, isMissing, compared, zeroMeaning, testMeaning}
+use Rattle.tables.specs.declared.table.Table.{Table}
+use Rattle.coercions.specs.Settling.{settled, integerFrom, quantityFrom, stringFrom, resultOf, millionthsOf, decimalFrom, integerMeaning}
+use Rattle.assignments.specs.Setting.{integerOutcome, decimalOutcome, setNumbered, stored, newFrom, stringNew, setOf, setMeaning}
+use Rattle.conditions.specs.Testing.{zeroTest, zeroJudged, textual, ignoring, numbersHold, ofNumbers, ofStrings, isMissing, compared, zeroMeaning, testMeaning}
 use Rattle.commands.specs.Fetching.{recordsMeaning}
-use Rattle.commands.specs.Looping.{loop, Looping, looping, newTable, begun, beginMeaning, exceeds, countedTo, counting, counted, endMeaning}
+use Rattle.tables.specs.Looping.{loop, Looping, looping, newTable, begun, beginMeaning, exceeds, countedTo, counting, counted, endMeaning}
 use Rattle.commands.specs.Selecting.{datasourceFrom, datasourceMeaning}
 
 -- IV1 is −7, IV2 is 1000, IV3 is 2,000,000,000; FV1 is 0.000001, FV2 is −1; SV1 is "cs", SV2 is empty; R1 has no elements

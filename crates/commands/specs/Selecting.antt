@@ -15,8 +15,8 @@ use Rattle.values.specs.Machine.{Machine}
 use Rattle.values.specs.Meanings.{indexNumber}
 use Rattle.values.specs.State.{machine}
 use Rattle.commands.specs.declared.datasource.Selected.{Selected}
-use Rattle.commands.specs.Settling.{Settled, settled, against, concluded}
-use Rattle.commands.specs.inner.Contracts.{Runs}
+use Rattle.coercions.specs.Settling.{Settled, settled, against, concluded}
+use Rattle.coercions.specs.inner.Contracts.{Runs}
 
 -- 8: "a $SETDS number outside 1–35"
 unfoldable pub datasourceFrom : ℤ → Settled ℕ

@@ -19,10 +19,10 @@ use Rattle.meaning.specs.declared.end.Ended.{Ended}
 use Rattle.meaning.specs.declared.end.Ended.the-variants.{Finished, Halted}
 use Rattle.values.specs.declared.scene.Scene.{Scene}
 use Rattle.values.proofs.Words.{map-set}
-use Rattle.commands.specs.declared.table.Looped.{Looped}
-use Rattle.commands.specs.declared.taking.Counted.{Counted}
-use Rattle.commands.specs.Looping.{loop, openOf}
-use Rattle.commands.specs.Setting.{setNumbered}
+use Rattle.tables.specs.declared.table.Looped.{Looped}
+use Rattle.coercions.specs.declared.taking.Counted.{Counted}
+use Rattle.tables.specs.Looping.{loop, openOf}
+use Rattle.assignments.specs.Setting.{setNumbered}
 use Rattle.pages.specs.declared.heading.Heading.{Heading}
 use Rattle.pages.specs.declared.page.Turned.{Turned}
 use Rattle.pages.specs.Heading.{headingIn, headingsOf}

@@ -1,8 +1,8 @@
 // Where a run goes on, and what its lines are executed in.
 use crate::state::Flow;
-use commands::table;
-use commands::table::Tables;
 use pages::page::Page;
+use tables::table;
+use tables::table::Tables;
 use template::seek;
 use template::seek::Sought;
 use values::scene::Scene;

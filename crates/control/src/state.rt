@@ -1,7 +1,7 @@
 // What stands between two lines of a run, and what a line hands back.
-use commands::table::Tables;
 use meaning::end::Ended;
 use pages::page::Page;
+use tables::table::Tables;
 
 // The line that is due by place and number, the datasource, whether a break writes a form feed, the page, the open tables.
 pub struct Flow {

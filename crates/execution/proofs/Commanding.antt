@@ -36,17 +36,19 @@ use Rattle.values.specs.State.{machine, texts, fetched}
 use Rattle.values.specs.Fetching.{Fetchable}
 use Rattle.arguments.specs.Parameter.{parameterOf}
 use Rattle.values.specs.inner.Yielding.{Askable, Sized}
-use Rattle.commands.specs.declared.table.Looped.{Looped}
-use Rattle.commands.specs.declared.taking.Counted.{Counted}
+use Rattle.tables.specs.declared.table.Looped.{Looped}
+use Rattle.coercions.specs.declared.taking.Counted.{Counted}
 use Rattle.commands.specs.declared.datasource.Selected.{Selected}
-use Rattle.commands.specs.declared.settle.Done.{Done}
-use Rattle.commands.specs.declared.test.Tested.{Tested}
-use Rattle.commands.specs.Settling.{integerMeaning}
-use Rattle.commands.specs.Setting.{setMeaning}
-use Rattle.commands.specs.Testing.{zeroMeaning, testMeaning}
-use Rattle.commands.specs.inner.Contracts as C
-use Rattle.commands.specs.inner.Contracts.{Runs, SetsVariable, TestsZero, Tests, TakesIntegerValue}
-use Rattle.commands.specs.Looping.{openOf, loopingOf, AtMostOpen, parameterIn, BeginsTable, EndsTable, beginMeaning, endMeaning}
+use Rattle.coercions.specs.declared.settle.Done.{Done}
+use Rattle.conditions.specs.declared.test.Tested.{Tested}
+use Rattle.coercions.specs.Settling.{integerMeaning}
+use Rattle.assignments.specs.Setting.{setMeaning}
+use Rattle.conditions.specs.Testing.{zeroMeaning, testMeaning}
+use Rattle.coercions.specs.inner.Contracts.{Runs, TakesIntegerValue}
+use Rattle.assignments.specs.inner.Contracts as C
+use Rattle.assignments.specs.inner.Contracts.{SetsVariable}
+use Rattle.conditions.specs.inner.Contracts.{TestsZero, Tests}
+use Rattle.tables.specs.Looping.{openOf, loopingOf, AtMostOpen, parameterIn, BeginsTable, EndsTable, beginMeaning, endMeaning}
 use Rattle.commands.specs.Fetching.{TakesRecords, TakesEntries, recordsMeaning, entriesMeaning}
 use Rattle.commands.specs.Selecting.{Selects, datasourceMeaning}
 use Rattle.commands.proofs.Clearing.{texts-cleared, fetched-cleared}
@@ -55,7 +57,7 @@ use Rattle.pages.specs.declared.heading.Heading.{Heading}
 use Rattle.pages.specs.declared.step.Paged.{Paged}
 use Rattle.pages.specs.Heading.{noHeading, headingIn, headingsOf, Small}
 use Rattle.pages.specs.Page.{headLine, headFrom, highestOf, breakMeaning, lineStep}
-use Rattle.pages.specs.inner.Pass.{lent}
+use Rattle.rendering.specs.inner.Pass.{lent}
 use Rattle.pages.specs.inner.Paging.{AllFit, headFields, TurnReady, StepReady, Steps}
 use Rattle.lines.proofs.Accepted as parsed
 use Rattle.texts.proofs.FieldLaws.{fields-few}

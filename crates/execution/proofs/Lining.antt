@@ -16,8 +16,8 @@ use Rattle.template.proofs.Opening.{checks-short, opens-line}
 use Rattle.values.specs.declared.scene.Scene.{Scene}
 use Rattle.values.specs.declared.fetch.Along.the-variants.{Records, Entries}
 use Rattle.values.specs.State.{texts, fetched}
-use Rattle.commands.specs.Looping.{openOf}
-use Rattle.commands.proofs.Tabling.{opened-length}
+use Rattle.tables.specs.Looping.{openOf}
+use Rattle.tables.proofs.Tabling.{opened-length}
 use Rattle.pages.specs.Heading.{headingIn}
 use Rattle.lines.proofs.Accepted.{parsed-sound}
 use Rattle.lines.specs.inner.Known.{formOf}

@@ -25,11 +25,11 @@ use Rattle.arguments.proofs.Parsed.{Between}
 use Rattle.values.specs.Machine.{Machine}
 use Rattle.values.proofs.Ranges.{IntegerWithin, DecimalWithin, Short, MachineWithin}
 use Rattle.template.specs.declared.seek.Sought.the-variants.{TableEnd}
-use Rattle.commands.specs.declared.table.Table.{Table}
-use Rattle.commands.specs.Settling.{integerMeaning}
-use Rattle.commands.specs.Setting.{setMeaning}
-use Rattle.commands.specs.Testing.{zeroMeaning, testMeaning}
-use Rattle.commands.specs.Looping.{Looping, loop, innermost, beginMeaning, endMeaning}
+use Rattle.tables.specs.declared.table.Table.{Table}
+use Rattle.coercions.specs.Settling.{integerMeaning}
+use Rattle.assignments.specs.Setting.{setMeaning}
+use Rattle.conditions.specs.Testing.{zeroMeaning, testMeaning}
+use Rattle.tables.specs.Looping.{Looping, loop, innermost, beginMeaning, endMeaning}
 use Rattle.commands.specs.Fetching.{recordsMeaning, entriesMeaning}
 use Rattle.commands.specs.Selecting.{datasourceMeaning}
 use Rattle.commands.proofs.Giving as G

@@ -6,8 +6,8 @@ use lib.IntN.{ℤ, pos}
 use lib.ListN.{replicate}
 use Rattle.meaning.specs.Answer.{Answer}
 use Rattle.values.specs.Machine.{Machine}
-use Rattle.commands.specs.declared.table.Table.{Table}
-use Rattle.commands.specs.Looping.{loop}
+use Rattle.tables.specs.declared.table.Table.{Table}
+use Rattle.tables.specs.Looping.{loop}
 use Rattle.pages.specs.declared.page.Page.{Page}
 use Rattle.pages.specs.declared.heading.Heading.{Heading}
 use Rattle.pages.specs.Heading.{noHeading}

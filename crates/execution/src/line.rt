@@ -1,10 +1,9 @@
 // One template line.
+use assignments::set;
+use coercions::taking;
 use commands::datasource;
 use commands::fetching;
-use commands::set;
-use commands::table;
-use commands::taking;
-use commands::test;
+use conditions::test;
 use control::arms;
 use control::flow;
 use control::state::Flow;
@@ -14,6 +13,7 @@ use lines::command::Line;
 use lines::command::Optional;
 use pages::heading::Heading;
 use pages::step;
+use tables::table;
 use values::scene::Scene;
 ghost use Rattle.execution.specs.Line.{formMeaning, lineMeaning};
 ghost use Rattle.execution.specs.inner.Executing.{held, stateAt, LineReady, FormReady, Executes, NewPageReady, NewPages};

@@ -25,7 +25,7 @@ use Rattle.values.specs.State.{answers}
 use Rattle.execution.specs.State.{State}
 use Rattle.execution.specs.Line.{lineMeaning}
 use Rattle.execution.proofs.Sounds.{On, line-keeps}
-use Rattle.report.specs.Report.{runFrom, startOf, runMeaning, Outcome, refusedWith, checkedOutcome, reportOf}
+use Rattle.runs.specs.Report.{runFrom, startOf, runMeaning, Outcome, refusedWith, checkedOutcome, reportOf}
 use Rattle.report.proofs.Sounding.{start-on}
 
 -- whatever is known at a run's end

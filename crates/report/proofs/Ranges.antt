@@ -25,8 +25,8 @@ use Rattle.execution.specs.State.{State, seen}
 use Rattle.execution.specs.Line.{lineMeaning}
 use Rattle.execution.proofs.Sounds.{On, line-keeps}
 use Rattle.execution.proofs.Ranges.{InRange, seen-within, range-cleared, line-in-range}
-use Rattle.report.specs.Report.{startOf}
-use Rattle.report.specs.inner.Stretch.{stretch}
+use Rattle.runs.specs.Report.{startOf}
+use Rattle.runs.specs.inner.Stretch.{stretch}
 use Rattle.report.proofs.Sounding.{start-on}
 
 -- a state whose variables, answers and tables are in range, and so is all that an argument sees

@@ -14,9 +14,9 @@ use Rattle.meaning.specs.declared.question.Question.{Question}
 use Rattle.meaning.specs.declared.end.Halt.{Halt}
 use Rattle.meaning.specs.declared.end.Ended.{Ended}
 use Rattle.meaning.specs.declared.end.Ended.the-variants.{Finished, Halted}
-use Rattle.commands.specs.declared.table.Looped.{Looped}
-use Rattle.commands.specs.declared.taking.Counted.{Counted}
-use Rattle.commands.specs.Setting.{setNumbered}
+use Rattle.tables.specs.declared.table.Looped.{Looped}
+use Rattle.coercions.specs.declared.taking.Counted.{Counted}
+use Rattle.assignments.specs.Setting.{setNumbered}
 use Rattle.pages.specs.declared.heading.Heading.{Heading}
 use Rattle.pages.specs.Heading.{headingsOf}
 use Rattle.pages.specs.Page.{breakMeaning}

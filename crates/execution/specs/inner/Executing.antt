@@ -21,7 +21,7 @@ use Rattle.lines.specs.declared.command.Optional.{Optional}
 use Rattle.lines.specs.declared.command.Line.{Line}
 use Rattle.lines.specs.declared.command.Line.the-variants.{BeginTable}
 use Rattle.values.specs.inner.Yielding.{Askable, Sized}
-use Rattle.commands.specs.Looping.{parameterIn}
+use Rattle.tables.specs.Looping.{parameterIn}
 use Rattle.pages.specs.Heading.{headingsOf}
 use Rattle.pages.specs.inner.Paging.{TurnReady}
 use Rattle.lines.proofs.Accepted as parsed

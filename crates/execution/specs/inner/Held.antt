@@ -6,7 +6,7 @@ use Rattle.meaning.specs.Answer.{Answer}
 use Rattle.meaning.specs.declared.question.Question.{Question}
 use Rattle.values.specs.declared.fetch.Along.the-variants.{Records, Entries}
 use Rattle.values.specs.State.{texts, fetched}
-use Rattle.commands.specs.Looping.{openOf}
+use Rattle.tables.specs.Looping.{openOf}
 use Rattle.pages.specs.Heading.{headingsOf}
 use Rattle.control.specs.declared.state.Flow.{Flow}
 use Rattle.execution.specs.State.{State}

@@ -9,11 +9,11 @@ use Rattle.execution.proofs.line.execute.Lts as lts
 use Rattle.commands.proofs.datasource.select.Reads as select-reads
 use Rattle.commands.proofs.fetching.fetch_entries.Reads as fetch-entries-reads
 use Rattle.commands.proofs.fetching.fetch_records.Reads as fetch-records-reads
-use Rattle.commands.proofs.set.set_variable.Reads as set-variable-reads
-use Rattle.commands.proofs.table.begin_table.Reads as begin-table-reads
-use Rattle.commands.proofs.table.end_table.Reads as end-table-reads
-use Rattle.commands.proofs.test.compare.Reads as compare-reads
-use Rattle.commands.proofs.test.if_zero.Reads as if-zero-reads
+use Rattle.assignments.proofs.set.set_variable.Reads as set-variable-reads
+use Rattle.tables.proofs.table.begin_table.Reads as begin-table-reads
+use Rattle.tables.proofs.table.end_table.Reads as end-table-reads
+use Rattle.conditions.proofs.test.compare.Reads as compare-reads
+use Rattle.conditions.proofs.test.if_zero.Reads as if-zero-reads
 use Rattle.control.proofs.arms.begun.Reads as begun-reads
 use Rattle.control.proofs.arms.branched.Reads as branched-reads
 use Rattle.control.proofs.arms.ended.Reads as ended-reads

@@ -4,7 +4,7 @@ use Rattle.execution.proofs.line.new_page.Statement.{statement}
 use Rattle.execution.proofs.line.new_page.Tie as tie
 use Rattle.execution.proofs.line.new_page.Reads as reads
 use Rattle.execution.proofs.line.new_page.Lts as lts
-use Rattle.commands.proofs.taking.integer_value.Reads as integer-value-reads
+use Rattle.coercions.proofs.taking.integer_value.Reads as integer-value-reads
 use Rattle.control.proofs.arms.break_line.Reads as break-line-reads
 use Rattle.control.proofs.arms.page_for.Reads as page-for-reads
 
