@@ -1,8 +1,6 @@
--- What the calls for C hand back of an answer, of an index and of an edit.
+-- What the calls for C hand back of an answer and of an edit.
 use mathlib.Core.Path.{_≡_}
-use mathlib.Core.Bool.{cond}
 use mathlib.Core.List.{List}
-use mathlib.Core.Option.{Option, none, some}
 use Prim.Native.Nat.{ℕ, _+_, _≤_}
 use lib.IntN.{ℤ, pos}
 use lib.ListN.{length, take, drop}
@@ -13,9 +11,8 @@ use Rattle.meaning.specs.declared.question.Question.{Question}
 use Rattle.meaning.specs.Number.{numberOf, endOf}
 use Rattle.cells.specs.declared.Answered.{Answered}
 use Rattle.cells.specs.declared.Answered.the-variants.{Missing, Integer, Decimal, Text, Highest}
-use Rattle.cells.specs.Cell.{Cell, integerKind, decimalKind, stringKind}
-use Rattle.cells.specs.Asking.{Reply, questionAllowed, answer}
-use Rattle.cells.specs.inner.Index.{Ready, Filled}
+use Rattle.cells.specs.Cell.{integerKind, decimalKind, stringKind}
+use Rattle.cells.specs.Asking.{Reply}
 use Rattle.store.specs.Edit.{Edit}
 
 -- a question by its five numbers
@@ -98,24 +95,6 @@ pub record Hands (a : Answered) (kind : ℕ) (value : ℤ) (place count : ℕ) :
   pub is-value : value ≡ valueHanded a
   pub is-place : place ≡ placeHanded a
   pub is-count : count ≡ countHanded a
-
--- over the index of a store in form, the answer of its cells
-pub record ToldLookUp (b places : List ℕ) (count : ℕ) (q : Question) (k : ℕ) (v : ℤ) (i n : ℕ) : Type 0 where
-  pub answer : (len : ℕ) (cs : List Cell) → Ready b len places count cs → ToldParts b len (cond (questionAllowed q) (answer q cs) missing) k v i n
-
--- 0 with the count of the cells, or 1 with the count left
-abbrev pub indexNumber : Option (List Cell) → ℕ
-indexNumber none = 1
-indexNumber (some cs) = 0
-
-abbrev pub countOr : ℕ → Option (List Cell) → ℕ
-countOr n none = n
-countOr n (some cs) = length cs
-
-pub record ToldIndex (i : List ℕ) (store : Option (List Cell)) (j : List ℕ) (n n′ r : ℕ) : Type 0 where
-  pub number : r ≡ indexNumber store
-  pub count : n′ ≡ countOr n store
-  pub filled : Filled i j store
 
 -- r is the number that the edit ends with, n the length and b the buffer that it hands back
 pub record ToldEdit (x : Edit) (b : List ℕ) (n r : ℕ) : Type 0 where

@@ -1,4 +1,3 @@
-pub mod Codes
 pub mod Answers
 pub mod Checks
 pub mod Reports
