@@ -17,7 +17,7 @@ use Rattle.numbers.specs.declared.Quantity.the-variants as Q
 use Rattle.meaning.specs.declared.question.Question.{Question}
 use Rattle.meaning.specs.declared.refusal.Refusal.the-variants.{BadRequest}
 use Rattle.cells.specs.declared.Answered.{Answered}
-use Rattle.cells.specs.Cell.{Cell, number, numberOf, printable, valueAllowed, cellAllowed}
+use Rattle.cells.specs.Cell.{Cell, number, keyNumber, printable, valueAllowed, cellAllowed}
 use Rattle.cells.specs.Store.{allowed, held}
 use Rattle.cells.specs.inner.Index.{Ready, Answers}
 use Rattle.cells.specs.Asking.{Query, theCell, highestRecord, highestEntry, queryOf, questionAllowed, lookup, found, highestOf, ofParameter, ofRecord, queryAnswer, answer, answeredAsk, refusedAsk, replied, askOf, meant}
@@ -57,7 +57,7 @@ value-within (string s) h = leb-true (length s) 16 (and-true (leb (length s) 16)
 lookup-within : (n : ℕ) (cs : List Cell) → allowed cs ≡ true → AnswerWithin (found (lookup n cs))
 unfolding allowed found lookup
 lookup-within n [] h = tt
-lookup-within n (c ∷ cs) h = go (eqb (numberOf c) n) (lookup-within n cs (t .1))
+lookup-within n (c ∷ cs) h = go (eqb (keyNumber c) n) (lookup-within n cs (t .1))
   where
     t : (cellAllowed c ≡ true) × (allowed cs ≡ true)
     t = and-true (cellAllowed c) (allowed cs) h

@@ -15,7 +15,7 @@ use Rattle.meaning.specs.declared.end.Ended.the-variants.{Finished, Halted}
 use Rattle.cells.specs.declared.Answered.{Answered}
 use Rattle.cells.specs.declared.Answered.the-variants.{Missing, Integer, Decimal, Text, Highest}
 use Rattle.cells.specs.declared.Asked.{Asked}
-use Rattle.cells.specs.Cell.{Key, keyOf, Cell, number, numberOf, keyAllowed}
+use Rattle.cells.specs.Cell.{Key, keyOf, Cell, number, keyNumber, keyAllowed}
 use Rattle.cells.specs.Store.{held}
 
 -- the key that the four numbers are
@@ -60,7 +60,7 @@ questionAllowed q = queryAllowed (queryOf q)
 -- the cell of a key
 unfoldable pub lookup : ℕ → List Cell → Option Cell
 lookup n [] = none
-lookup n (c ∷ cs) = cond (eqb (numberOf c) n) (some c) (lookup n cs)
+lookup n (c ∷ cs) = cond (eqb (keyNumber c) n) (some c) (lookup n cs)
 
 -- the cell's "kind and value, or missing"
 unfoldable pub found : Option Cell → Answer

@@ -145,8 +145,8 @@ pub record Cell : Type 0 where
   pub key : Key
   pub value : Value
 
-abbrev pub numberOf : Cell → ℕ
-numberOf c = number (c .key)
+abbrev pub keyNumber : Cell → ℕ
+keyNumber c = number (c .key)
 
 unfoldable pub cellAllowed : Cell → Bool
 cellAllowed c = keyAllowed (c .key) && valueAllowed (c .value)

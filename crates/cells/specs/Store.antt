@@ -5,7 +5,7 @@ use mathlib.Core.Option.{Option, none, some}
 use Prim.Native.Nat.{ℕ, zero, suc}
 use lib.Dec.{leb, ltb}
 use lib.ListN.{length, take, drop}
-use Rattle.cells.specs.Cell.{Cell, numberOf, cellAllowed, cellBytes, front}
+use Rattle.cells.specs.Cell.{Cell, keyNumber, cellAllowed, cellBytes, front}
 
 abbrev pub capacity : ℕ
 capacity = 65536
@@ -23,12 +23,12 @@ allowed (c ∷ cs) = cellAllowed c && allowed cs
 -- every key is above n
 unfoldable pub above : ℕ → List Cell → Bool
 above n [] = true
-above n (c ∷ cs) = ltb n (numberOf c) && above n cs
+above n (c ∷ cs) = ltb n (keyNumber c) && above n cs
 
 -- "Keys rise strictly."
 unfoldable pub rising : List Cell → Bool
 rising [] = true
-rising (c ∷ cs) = above (numberOf c) cs && rising cs
+rising (c ∷ cs) = above (keyNumber c) cs && rising cs
 
 -- with a cell put before what was read
 unfoldable pub before : Cell → Option (List Cell) → Option (List Cell)

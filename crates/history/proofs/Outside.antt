@@ -14,7 +14,7 @@ use Rattle.meaning.specs.Answer.{highest}
 use Rattle.meaning.specs.declared.question.Question.{Question}
 use Rattle.meaning.specs.declared.end.Ended.{Ended}
 use Rattle.meaning.specs.declared.end.Ended.the-variants.{Finished, Halted}
-use Rattle.cells.specs.Cell.{Key, Cell, number, numberOf, keyAllowed, cellAllowed, wholeCell, wholeKey}
+use Rattle.cells.specs.Cell.{Key, Cell, number, keyNumber, keyAllowed, cellAllowed, wholeCell, wholeKey}
 use Rattle.cells.specs.Store.{allowed}
 use Rattle.cells.specs.Asking.{asked, Query, theCell, queryAllowed, questionAllowed, lookup, highestOf, ofParameter, ofRecord, queryAnswer, answer, Reply, answeredAsk, refusedAsk, replied, askOf}
 use Rattle.cells.proofs.BigEndian.{and-true}
@@ -40,19 +40,19 @@ module _ (p : Key → Bool) (f : Cell → ℕ) where
   top-append (x ∷ xs) ys = omega (arith, top-append xs ys)
 
   -- where no cell with the number n passes, those below and those above it have the highest
-  top-around : (n : ℕ) (cs : List Cell) → Each (λ c. numberOf c ≡ n → p (c .key) ≡ false) cs → max (top (lower n cs)) (top (higher n cs)) ≡ top cs
+  top-around : (n : ℕ) (cs : List Cell) → Each (λ c. keyNumber c ≡ n → p (c .key) ≡ false) cs → max (top (lower n cs)) (top (higher n cs)) ≡ top cs
   unfolding highestOf lower higher
   top-around n [] h = omega arith
-  top-around n (c ∷ cs) h = go (ltb (numberOf c) n) refl (ltb n (numberOf c)) refl (top-around n cs (h .1))
+  top-around n (c ∷ cs) h = go (ltb (keyNumber c) n) refl (ltb n (keyNumber c)) refl (top-around n cs (h .1))
     where
-      go : (s : Bool) → ltb (numberOf c) n ≡ s → (t : Bool) → ltb n (numberOf c) ≡ t → max (top (lower n cs)) (top (higher n cs)) ≡ top cs → max (top (cond s (c ∷ lower n cs) (lower n cs))) (top (cond t (c ∷ higher n cs) (higher n cs))) ≡ max (cond (p (c .key)) (f c) 0) (top cs)
-      go true e true u r = absurd (omega (arith, ltb-true (numberOf c) n e, ltb-true n (numberOf c) u))
+      go : (s : Bool) → ltb (keyNumber c) n ≡ s → (t : Bool) → ltb n (keyNumber c) ≡ t → max (top (lower n cs)) (top (higher n cs)) ≡ top cs → max (top (cond s (c ∷ lower n cs) (lower n cs))) (top (cond t (c ∷ higher n cs) (higher n cs))) ≡ max (cond (p (c .key)) (f c) 0) (top cs)
+      go true e true u r = absurd (omega (arith, ltb-true (keyNumber c) n e, ltb-true n (keyNumber c) u))
       go true e false u r = omega (arith, r)
       go false e true u r = omega (arith, r)
-      go false e false u r = rw (h .0 (omega (arith, ltb-false (numberOf c) n e, ltb-false n (numberOf c) u))) (omega (arith, r))
+      go false e false u r = rw (h .0 (omega (arith, ltb-false (keyNumber c) n e, ltb-false n (keyNumber c) u))) (omega (arith, r))
 
   -- cells with the number of a key within the limits have that key
-  none-of : (l : Key) → keyAllowed l ≡ true → p l ≡ false → (cs : List Cell) → allowed cs ≡ true → Each (λ c. numberOf c ≡ number l → p (c .key) ≡ false) cs
+  none-of : (l : Key) → keyAllowed l ≡ true → p l ≡ false → (cs : List Cell) → allowed cs ≡ true → Each (λ c. keyNumber c ≡ number l → p (c .key) ≡ false) cs
   unfolding allowed
   none-of l a n [] h = tt
   none-of l a n (c ∷ cs) h =
@@ -62,8 +62,8 @@ module _ (p : Key → Bool) (f : Cell → ℕ) where
   top-with : (c : Cell) → keyAllowed (c .key) ≡ true → p (c .key) ≡ false → (cs : List Cell) → allowed cs ≡ true → top (with c cs) ≡ top cs
   unfolding with highestOf
   top-with c a n cs h =
-      let e : top (c ∷ higher (numberOf c) cs) ≡ top (higher (numberOf c) cs) = rw n (omega arith) in
-      omega (arith, top-append (lower (numberOf c) cs) (c ∷ higher (numberOf c) cs), e, top-around (numberOf c) cs (none-of (c .key) a n cs h))
+      let e : top (c ∷ higher (keyNumber c) cs) ≡ top (higher (keyNumber c) cs) = rw n (omega arith) in
+      omega (arith, top-append (lower (keyNumber c) cs) (c ∷ higher (keyNumber c) cs), e, top-around (keyNumber c) cs (none-of (c .key) a n cs h))
 
   top-without : (l : Key) → keyAllowed l ≡ true → p l ≡ false → (cs : List Cell) → allowed cs ≡ true → top (without (number l) cs) ≡ top cs
   unfolding without

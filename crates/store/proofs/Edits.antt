@@ -15,7 +15,7 @@ use Rattle.cells.specs.declared.index.Indexed.{Indexed}
 use Rattle.cells.specs.declared.index.Indexed.the-variants.{Count, BadStore}
 use Rattle.cells.specs.declared.request.Request.{Request}
 use Rattle.cells.specs.declared.request.Request.the-variants as R
-use Rattle.cells.specs.Cell.{Key, Cell, number, numberOf, cellBytes, wholeCell, wholeKey}
+use Rattle.cells.specs.Cell.{Key, Cell, number, keyNumber, cellBytes, wholeCell, wholeKey}
 use Rattle.cells.specs.Store.{encode, held}
 use Rattle.cells.specs.Asking.{lookup}
 use Rattle.cells.specs.inner.Index.{Indexes}
@@ -38,7 +38,7 @@ unfolding requested
 bad-cell none e = refl
 bad-cell (some c) e = absurd (apart e)
 
-good-cell : (k : ℕ) (o : Option Cell) → R.Key k ≡ requested o → (c : Cell) × (o ≡ some c) × (k ≡ numberOf c)
+good-cell : (k : ℕ) (o : Option Cell) → R.Key k ≡ requested o → (c : Cell) × (o ≡ some c) × (k ≡ keyNumber c)
 unfolding requested
 good-cell k none e = absurd (apart (sym e))
 good-cell k (some c) e = (c, refl, cc)
@@ -79,9 +79,9 @@ module _ (b : List ℕ) (n : ℕ) (cs : List Cell) (k at size : ℕ) (t : Stretc
       ∙ ap (λ (x : List ℕ). x ++ z) (sym e) in
       (l ∙ omega (arith, t .inside), ap (sets b 0) w ∙ ap (λ (m : ℕ). sets b 0 (encode ds ++ replicate (n - m) 0)) (sym l))
 
-encode-with : (c : Cell) (cs : List Cell) → encode (with c cs) ≡ encode (lower (numberOf c) cs) ++ (cellBytes c ++ encode (higher (numberOf c) cs))
+encode-with : (c : Cell) (cs : List Cell) → encode (with c cs) ≡ encode (lower (keyNumber c) cs) ++ (cellBytes c ++ encode (higher (keyNumber c) cs))
 unfolding with encode
-encode-with c cs = encode-append (lower (numberOf c) cs) (c ∷ higher (numberOf c) cs)
+encode-with c cs = encode-append (lower (keyNumber c) cs) (c ∷ higher (keyNumber c) cs)
 
 encode-without : (k : ℕ) (cs : List Cell) → encode (without k cs) ≡ encode (lower k cs) ++ ([] ++ encode (higher k cs))
 unfolding without
@@ -126,8 +126,8 @@ module _ (b : List ℕ) (n : ℕ) (p p′ : List ℕ) (r : Indexed) (i : Indexes
           let c = good-cell k (wholeCell s) (sym u ∙ a .told) in
           let h = held-some b n (g .0) (g .1 .holds) in
           let w = whole-some s (c .0) (c .1) in
-          let f : Stretch b n (g .0) (numberOf (c .0)) (t .at) (t .size) = subst (λ (x : ℕ). Stretch b n (g .0) x (t .at) (t .size)) (c .2) (o .stretch (g .0) (g .1)) in
-          let m = between b n (g .0) (numberOf (c .0)) (t .at) (t .size) f h s (with (c .0) (g .0)) (encode-with (c .0) (g .0) ∙ ap (λ (x : List ℕ). encode (lower (numberOf (c .0)) (g .0)) ++ (x ++ encode (higher (numberOf (c .0)) (g .0)))) (sym (w .bytes))) in
+          let f : Stretch b n (g .0) (keyNumber (c .0)) (t .at) (t .size) = subst (λ (x : ℕ). Stretch b n (g .0) x (t .at) (t .size)) (c .2) (o .stretch (g .0) (g .1)) in
+          let m = between b n (g .0) (keyNumber (c .0)) (t .at) (t .size) f h s (with (c .0) (g .0)) (encode-with (c .0) (g .0) ∙ ap (λ (x : List ℕ). encode (lower (keyNumber (c .0)) (g .0)) ++ (x ++ encode (higher (keyNumber (c .0)) (g .0)))) (sym (w .bytes))) in
           record {
             cells = g .0;
             cell = c .0;

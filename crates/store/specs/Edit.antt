@@ -10,7 +10,7 @@ use Rattle.meaning.specs.declared.refusal.Refusal.{Refusal}
 use Rattle.meaning.specs.declared.refusal.Refusal.the-variants.{BadStore, BadRequest, StoreFull, NoCell}
 use Rattle.meaning.specs.declared.end.Ended.{Ended}
 use Rattle.meaning.specs.declared.end.Ended.the-variants.{Finished, Halted}
-use Rattle.cells.specs.Cell.{Key, Cell, number, numberOf, wholeCell, wholeKey}
+use Rattle.cells.specs.Cell.{Key, Cell, number, keyNumber, wholeCell, wholeKey}
 use Rattle.cells.specs.Store.{capacity, encode, held}
 use Rattle.cells.specs.Asking.{refusedWith, lookup}
 use Rattle.store.specs.declared.Edited.{Edited}
@@ -18,14 +18,14 @@ use Rattle.store.specs.declared.Edited.{Edited}
 -- the cells whose keys are below n, and above n
 unfoldable pub lower : ℕ → List Cell → List Cell
 lower n [] = []
-lower n (c ∷ cs) = cond (ltb (numberOf c) n) (c ∷ lower n cs) (lower n cs)
+lower n (c ∷ cs) = cond (ltb (keyNumber c) n) (c ∷ lower n cs) (lower n cs)
 
 unfoldable pub higher : ℕ → List Cell → List Cell
 higher n [] = []
-higher n (c ∷ cs) = cond (ltb n (numberOf c)) (c ∷ higher n cs) (higher n cs)
+higher n (c ∷ cs) = cond (ltb n (keyNumber c)) (c ∷ higher n cs) (higher n cs)
 
 unfoldable pub with : Cell → List Cell → List Cell
-with c cs = lower (numberOf c) cs ++ (c ∷ higher (numberOf c) cs)
+with c cs = lower (keyNumber c) cs ++ (c ∷ higher (keyNumber c) cs)
 
 unfoldable pub without : ℕ → List Cell → List Cell
 without n cs = lower n cs ++ higher n cs
