@@ -16,6 +16,6 @@ outcome ZeroDivisor = refused 12
 outcome OutOfRange = refused 13
 
 -- "0 is success"
-abbrev pub numberOf : Outcome → ℕ
-numberOf (success z) = 0
-numberOf (refused n) = n
+abbrev pub outcomeNumber : Outcome → ℕ
+outcomeNumber (success z) = 0
+outcomeNumber (refused n) = n

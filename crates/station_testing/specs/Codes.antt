@@ -9,7 +9,7 @@ use Rattle.numbers.specs.declared.Quantity.the-variants.{Integer, Decimal}
 use Rattle.numbers.specs.declared.Rounded.{Rounded}
 use Rattle.numbers.specs.declared.Rounded.the-variants.{Units, OutOfRange}
 use Rattle.numbers.specs.Range.{integerLimit, decimalLimit}
-use Rattle.numbers.specs.Outcome.{Outcome, success, refused, numberOf}
+use Rattle.numbers.specs.Outcome.{Outcome, success, refused, outcomeNumber}
 use Rattle.numbers.specs.Arithmetic.{sumOf, differenceOf, integerProduct, integerQuotient, decimalProduct, decimalQuotient, absoluteOf, inMillionths}
 use Rattle.fields.specs.declared.Places.{Places}
 use Rattle.fields.specs.declared.Places.the-variants.{Unsaid, Said}
@@ -60,7 +60,7 @@ valueOr v (refused n) = v
 
 -- r is the number, and v′ what is left where v was
 pub record Told (o : Outcome) (v v′ : ℤ) (r : ℕ) : Type 0 where
-  pub number : r ≡ numberOf o
+  pub number : r ≡ outcomeNumber o
   pub value : v′ ≡ valueOr v o
 
 -- whether there are units, and the units, else what was there
