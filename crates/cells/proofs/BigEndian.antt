@@ -11,7 +11,7 @@ use lib.IntN.{ℤ, pos, negsuc, natAbs}
 use lib.ListN.{length, getD, drop}
 use lib.Seq.{drop-cons, drop-append-seam, getD-drop}
 use Rattle.cells.specs.Cell.{number, keyAt}
-use Rattle.cells.specs.Bytes.{pair, quad, octet, pairAt, quadAt, octetAt, unsigned, signed, begins}
+use Rattle.cells.specs.Bytes.{pair, quad, octet, pairAt, quadAt, octetAt, inComplement, fromComplement, begins}
 
 -- every element is a byte
 abbrev pub Bytes : List ℕ → Type 0
@@ -56,18 +56,18 @@ quad-reads n = omega arith
 pub octet-reads : (n : ℕ) → n / 4294967296 * 4294967296 + n % 4294967296 ≡ n
 octet-reads n = omega arith
 
-pub signed-unsigned : (m : ℕ) (z : ℤ) → 2 * natAbs z < m → signed m (unsigned m z) ≡ z
-unfolding signed unsigned
+pub signed-unsigned : (m : ℕ) (z : ℤ) → 2 * natAbs z < m → fromComplement m (inComplement m z) ≡ z
+unfolding fromComplement inComplement
 signed-unsigned m (pos n) h = rw (lt-ltb (2 * n) m (omega arith))
 signed-unsigned m (negsuc n) h = rw (le-ltb (2 * (m - suc n)) m (omega arith)) (ap negsuc (omega arith))
 
 -- ---- writing what was read
 
-pub unsigned-signed : (m n : ℕ) → n < m → unsigned m (signed m n) ≡ n
-unfolding signed unsigned
+pub unsigned-signed : (m n : ℕ) → n < m → inComplement m (fromComplement m n) ≡ n
+unfolding fromComplement inComplement
 unsigned-signed m n h = go (ltb (2 * n) m)
   where
-    go : (t : Bool) → unsigned m (cond t (pos n) (negsuc (m - suc n))) ≡ n
+    go : (t : Bool) → inComplement m (cond t (pos n) (negsuc (m - suc n))) ≡ n
     go true = refl
     go false = omega arith
 

@@ -14,7 +14,7 @@ use Rattle.meaning.specs.Answer.{Value, integer, decimal, string}
 use Rattle.meaning.specs.Answer as A
 use Rattle.numbers.specs.declared.Quantity.the-variants as Q
 use Rattle.numbers.specs.Range.{integerLimit, decimalLimit, within}
-use Rattle.cells.specs.Bytes.{pair, quad, octet, pairAt, quadAt, octetAt, unsigned, signed, word, long, begins}
+use Rattle.cells.specs.Bytes.{pair, quad, octet, pairAt, quadAt, octetAt, inComplement, fromComplement, word, long, begins}
 use Rattle.cells.specs.Cell.{Key, between, keyAllowed, keyBytes, number, each, printable, Kind, integers, decimals, strings, kinds, rowIn, heldIn, kindOf, valueAllowed, valueBytes, integerKind, decimalKind, stringKind, Cell, cellAllowed, cellBytes, keyAt, cellBy, cellOf, passing, front}
 use Rattle.cells.specs.inner.Tests.{sizeBy, sizeOf, zeros, stringFormed, valueFormed, sizeFound, frontSize, Sized}
 use Rattle.cells.proofs.BigEndian.{Bytes, and-true, both, begins-self, begins-says, pair-reads, quad-reads, octet-reads, signed-unsigned, unsigned-signed, quad-below, octet-below, next, pair-back, quad-back, octet-back, quad-at, octet-at}
@@ -98,7 +98,7 @@ integers-sound =
       sized = λ z e. refl;
       reads = λ z r e.
           let h : natAbs z ≤ integerLimit = leb-true _ _ e in
-          rw (quad-reads (unsigned word z)) (signed-unsigned word z (omega arith));
+          rw (quad-reads (inComplement word z)) (signed-unsigned word z (omega arith));
     }
 
 decimals-sound : Sound decimals
@@ -108,7 +108,7 @@ decimals-sound =
       sized = λ z e. refl;
       reads = λ z r e.
           let h : natAbs z ≤ decimalLimit = leb-true _ _ e in
-          rw (quad-reads (unsigned long z / 4294967296), quad-reads (unsigned long z % 4294967296), octet-reads (unsigned long z))
+          rw (quad-reads (inComplement long z / 4294967296), quad-reads (inComplement long z % 4294967296), octet-reads (inComplement long z))
           (signed-unsigned long z (omega arith));
     }
 
@@ -251,15 +251,15 @@ module _ (s : List ℕ) (bytes : Bytes s) where
   read-front v n h k e a b =
       record { value = v; read = ap front (sym (cell-back v n h k e)) ∙ front-cell (record { key = keyAt s 1; value = v }) (drop n s) (both a b) }
 
-  formed-integer : getD s 0 0 ≡ integerKind → 12 ≤ length s → keyAllowed (keyAt s 1) ≡ true → within integerLimit (signed word (quadAt s 8)) ≡ true → FrontOf s
+  formed-integer : getD s 0 0 ≡ integerKind → 12 ≤ length s → keyAllowed (keyAt s 1) ≡ true → within integerLimit (fromComplement word (quadAt s 8)) ≡ true → FrontOf s
   unfolding kindOf valueBytes valueAllowed
   formed-integer k h a e =
-      read-front (integer (signed word (quadAt s 8))) 12 (omega arith) (sym k) (rw (unsigned-signed word (quadAt s 8) (quad-below s bytes 8)) (quad-back s bytes 8 (omega arith))) a e
+      read-front (integer (fromComplement word (quadAt s 8))) 12 (omega arith) (sym k) (rw (unsigned-signed word (quadAt s 8) (quad-below s bytes 8)) (quad-back s bytes 8 (omega arith))) a e
 
-  formed-decimal : getD s 0 0 ≡ decimalKind → 16 ≤ length s → keyAllowed (keyAt s 1) ≡ true → within decimalLimit (signed long (octetAt s 8)) ≡ true → FrontOf s
+  formed-decimal : getD s 0 0 ≡ decimalKind → 16 ≤ length s → keyAllowed (keyAt s 1) ≡ true → within decimalLimit (fromComplement long (octetAt s 8)) ≡ true → FrontOf s
   unfolding kindOf valueBytes valueAllowed
   formed-decimal k h a e =
-      read-front (decimal (signed long (octetAt s 8))) 16 (omega arith) (sym k) (rw (unsigned-signed long (octetAt s 8) (octet-below s bytes 8)) (octet-back s bytes 8 (omega arith))) a e
+      read-front (decimal (fromComplement long (octetAt s 8))) 16 (omega arith) (sym k) (rw (unsigned-signed long (octetAt s 8) (octet-below s bytes 8)) (octet-back s bytes 8 (omega arith))) a e
 
   formed-string : getD s 0 0 ≡ stringKind → 25 ≤ length s → keyAllowed (keyAt s 1) ≡ true → stringFormed s ≡ true → FrontOf s
   unfolding kindOf valueBytes valueAllowed stringFormed
@@ -305,15 +305,15 @@ module _ (k : Key) (r : List ℕ) where
   abbrev laid : Value → List ℕ
   laid v = cellBytes (record { key = k; value = v }) ++ r
 
-  read-integer : (z : ℤ) → valueAllowed (integer z) ≡ true → signed word (quadAt (laid (integer z)) 8) ≡ z
+  read-integer : (z : ℤ) → valueAllowed (integer z) ≡ true → fromComplement word (quadAt (laid (integer z)) 8) ≡ z
   unfolding valueAllowed valueBytes
   read-integer z e =
-      ap (signed word) (sym (quad-at (laid (integer z)) 8 0) ∙ ap (λ (l : List ℕ). quadAt l 0) (value-behind (record { key = k; value = integer z }) r)) ∙ integers-sound .reads z r e
+      ap (fromComplement word) (sym (quad-at (laid (integer z)) 8 0) ∙ ap (λ (l : List ℕ). quadAt l 0) (value-behind (record { key = k; value = integer z }) r)) ∙ integers-sound .reads z r e
 
-  read-decimal : (z : ℤ) → valueAllowed (decimal z) ≡ true → signed long (octetAt (laid (decimal z)) 8) ≡ z
+  read-decimal : (z : ℤ) → valueAllowed (decimal z) ≡ true → fromComplement long (octetAt (laid (decimal z)) 8) ≡ z
   unfolding valueAllowed valueBytes
   read-decimal z e =
-      ap (signed long) (sym (octet-at (laid (decimal z)) 8 0) ∙ ap (λ (l : List ℕ). octetAt l 0) (value-behind (record { key = k; value = decimal z }) r)) ∙ decimals-sound .reads z r e
+      ap (fromComplement long) (sym (octet-at (laid (decimal z)) 8 0) ∙ ap (λ (l : List ℕ). octetAt l 0) (value-behind (record { key = k; value = decimal z }) r)) ∙ decimals-sound .reads z r e
 
   formed-text : (s : List ℕ) → valueAllowed (string s) ≡ true → stringFormed (laid (string s)) ≡ true
   unfolding valueAllowed cellBytes kindOf keyBytes valueBytes pair

@@ -16,7 +16,7 @@ use mir.Val.{SFits, toZ, ofZ}
 use mir.ValLaws.{toZ-ofZ}
 use Rattle.meaning.specs.Answer.{integer, decimal, string, cell}
 use Rattle.cells.specs.declared.Answered.the-variants.{Missing, Integer, Decimal, Text}
-use Rattle.cells.specs.Bytes.{quadAt, octetAt, signed, word, long}
+use Rattle.cells.specs.Bytes.{quadAt, octetAt, fromComplement, word, long}
 use Rattle.cells.specs.Cell.{Kind, integers, decimals, strings, kinds, rowIn, kindOf, integerKind, decimalKind, Cell, cellAllowed, cellBytes, cellBy, cellOf}
 use Rattle.cells.specs.inner.Tests.{sizeOf}
 use Rattle.cells.specs.Asking.{meant, InStore}
@@ -29,12 +29,12 @@ use Rattle.cells.proofs.BigEndian.{quad-at, octet-at}
 -- ---- two's complement
 
 module _ (top n : ℕ) where
-  pub signed-low : n ≤ top / 2 → pos n ≡ signed (top + 1) n
-  unfolding signed
+  pub signed-low : n ≤ top / 2 → pos n ≡ fromComplement (top + 1) n
+  unfolding fromComplement
   signed-low h = rw (lt-ltb (2 * n) (top + 1) (omega arith))
 
-  pub signed-high : n ≤ top → top / 2 < n → negsuc (top - n) ≡ signed (top + 1) n
-  unfolding signed
+  pub signed-high : n ≤ top → top / 2 < n → negsuc (top - n) ≡ fromComplement (top + 1) n
+  unfolding fromComplement
   signed-high h k =
       let d : top + 1 - suc n ≡ top - n = omega arith in
       rw (le-ltb (2 * n) (top + 1) (omega arith), d)
@@ -44,8 +44,8 @@ minus-one zero = refl
 minus-one (suc m) = ap negsuc (omega arith)
 
 -- 32 bits, half of the width up and down again
-pub signed-around : (n : ℕ) → n < 4294967296 → pos ((n + 2147483648) % 4294967296) -ℤ pos 2147483648 ≡ signed 4294967296 n
-unfolding signed
+pub signed-around : (n : ℕ) → n < 4294967296 → pos ((n + 2147483648) % 4294967296) -ℤ pos 2147483648 ≡ fromComplement 4294967296 n
+unfolding fromComplement
 signed-around n h = go (ltb (2 * n) 4294967296) refl
   where
     go : (t : Bool) → ltb (2 * n) 4294967296 ≡ t → pos ((n + 2147483648) % 4294967296) -ℤ pos 2147483648 ≡ cond t (pos n) (negsuc (4294967296 - suc n))
@@ -57,16 +57,16 @@ signed-around n h = go (ltb (2 * n) 4294967296) refl
         rw (lt-ltb ((n + 2147483648) % 4294967296) 2147483648 (omega arith)) (ap negsuc (omega arith))
 
 -- a number of two's complement in 64 bits is read back from its bits
-pub signed-fits : (top n : ℕ) → n ≤ top → top < 2 ^ 64 → SFits w64 (signed (top + 1) n)
-unfolding signed
+pub signed-fits : (top n : ℕ) → n ≤ top → top < 2 ^ 64 → SFits w64 (fromComplement (top + 1) n)
+unfolding fromComplement
 signed-fits top n h k = go (ltb (2 * n) (top + 1)) refl
   where
     go : (t : Bool) → ltb (2 * n) (top + 1) ≡ t → SFits w64 (cond t (pos n) (negsuc (top + 1 - suc n)))
     go true e = record { sfits = omega (arith, ltb-true (2 * n) (top + 1) e) }
     go false e = record { sfits = omega (arith, ltb-false (2 * n) (top + 1) e) }
 
-pub bits-back : (top n : ℕ) (z : ℤ) → z ≡ signed (top + 1) n → n ≤ top → top < 2 ^ 64 → toZ w64 (ofZ w64 z) ≡ signed (top + 1) n
-bits-back top n z e h k = ap (λ (x : ℤ). toZ w64 (ofZ w64 x)) e ∙ toZ-ofZ w64 (signed (top + 1) n) (signed-fits top n h k)
+pub bits-back : (top n : ℕ) (z : ℤ) → z ≡ fromComplement (top + 1) n → n ≤ top → top < 2 ^ 64 → toZ w64 (ofZ w64 z) ≡ fromComplement (top + 1) n
+bits-back top n z e h k = ap (λ (x : ℤ). toZ w64 (ofZ w64 x)) e ∙ toZ-ofZ w64 (fromComplement (top + 1) n) (signed-fits top n h k)
 
 -- ---- the value
 
@@ -102,19 +102,19 @@ module _ (b : List ℕ) (at : ℕ) where
   unfolding InStore
   value-short room size r s h = record { value = λ c q a e. absurd (omega (arith, has-room c q a e)); inside = λ c q a e. tt }
 
-  pub value-integer : getD b at 0 ≡ integerKind → (n : ℕ) → n ≡ quadAt b (at + 8) → (z : ℤ) → z ≡ signed word n → ValueAt b at (Integer z)
+  pub value-integer : getD b at 0 ≡ integerKind → (n : ℕ) → n ≡ quadAt b (at + 8) → (z : ℤ) → z ≡ fromComplement word n → ValueAt b at (Integer z)
   unfolding meant InStore
   value-integer k n q z s =
       record {
-        value = λ c r a e. ap (λ (x : ℤ). cell (integer x)) (s ∙ ap (signed word) (q ∙ sym (quad-at (drop at b) 8 0 ∙ quad-at b at 8))) ∙ ap cell (value-by c r a e integers (rw (eq-eqb _ _ k)));
+        value = λ c r a e. ap (λ (x : ℤ). cell (integer x)) (s ∙ ap (fromComplement word) (q ∙ sym (quad-at (drop at b) 8 0 ∙ quad-at b at 8))) ∙ ap cell (value-by c r a e integers (rw (eq-eqb _ _ k)));
         inside = λ c r a e. tt;
       }
 
-  pub value-decimal : (getD b at 0 ≡ integerKind → ⊥) → getD b at 0 ≡ decimalKind → (n : ℕ) → n ≡ octetAt b (at + 8) → (z : ℤ) → z ≡ signed long n → ValueAt b at (Decimal z)
+  pub value-decimal : (getD b at 0 ≡ integerKind → ⊥) → getD b at 0 ≡ decimalKind → (n : ℕ) → n ≡ octetAt b (at + 8) → (z : ℤ) → z ≡ fromComplement long n → ValueAt b at (Decimal z)
   unfolding meant InStore
   value-decimal j k n q z s =
       record {
-        value = λ c r a e. ap (λ (x : ℤ). cell (decimal x)) (s ∙ ap (signed long) (q ∙ sym (octet-at (drop at b) 8 0 ∙ octet-at b at 8))) ∙ ap cell (value-by c r a e decimals (rw (ne-eqb _ _ j, eq-eqb _ _ k)));
+        value = λ c r a e. ap (λ (x : ℤ). cell (decimal x)) (s ∙ ap (fromComplement long) (q ∙ sym (octet-at (drop at b) 8 0 ∙ octet-at b at 8))) ∙ ap cell (value-by c r a e decimals (rw (ne-eqb _ _ j, eq-eqb _ _ k)));
         inside = λ c r a e. tt;
       }
 

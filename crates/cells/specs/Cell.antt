@@ -10,7 +10,7 @@ use Rattle.meaning.specs.Answer.{Value, integer, decimal, string}
 use Rattle.meaning.specs.Answer as A
 use Rattle.numbers.specs.declared.Quantity.the-variants as Q
 use Rattle.numbers.specs.Range.{integerLimit, decimalLimit, within}
-use Rattle.cells.specs.Bytes.{pair, quad, octet, pairAt, quadAt, octetAt, unsigned, signed, word, long, begins, same}
+use Rattle.cells.specs.Bytes.{pair, quad, octet, pairAt, quadAt, octetAt, inComplement, fromComplement, word, long, begins, same}
 
 pub record Key : Type 0 where
   pub datasource : ℕ
@@ -71,8 +71,8 @@ integers =
       byte = 73;
       size = 4;
       allowed = within integerLimit;
-      bytes = λ z. quad (unsigned word z);
-      read = λ s. signed word (quadAt s 0);
+      bytes = λ z. quad (inComplement word z);
+      read = λ s. fromComplement word (quadAt s 0);
     }
 
 -- "0x46 decimal (8 bytes, a count of millionths)"; "so within ±2×10^15 millionths"
@@ -84,8 +84,8 @@ decimals =
       byte = 70;
       size = 8;
       allowed = within decimalLimit;
-      bytes = λ z. octet (unsigned long z);
-      read = λ s. signed long (octetAt s 0);
+      bytes = λ z. octet (inComplement long z);
+      read = λ s. fromComplement long (octetAt s 0);
     }
 
 -- "0x53 string (a length 0–16, then 16 bytes: that many of 0x20–0x7E, the rest zero)"

@@ -4,7 +4,7 @@ ghost use mathlib.Core.Path.{_≡_};
 ghost use Prim.Native.Nat.{_+_, _≤_, _<_};
 ghost use lib.ListN.{length, getD};
 ghost use Rattle.numbers.specs.Range.{within};
-ghost use Rattle.cells.specs.Bytes.{signed};
+ghost use Rattle.cells.specs.Bytes.{fromComplement};
 ghost use Rattle.cells.specs.Cell.{keyOf, between, each, keyAllowed, keyAt};
 ghost use Rattle.cells.specs.inner.Tests.{sizeOf, stringFormed, valueFormed, Sized};
 
@@ -55,7 +55,7 @@ pub fn key_allowed(s: &[u8], at: usize) -> bool
 // Whether a number in two's complement, `top` being the highest of its width, lies within ±limit.
 pub fn number_allowed(n: u64, top: u64, limit: u64) -> bool
     requires { ⌜ n ≤ top ⌝ }
-    ensures { λ r. ⌜ r ≡ within limit (signed (top + 1) n) ⌝ }
+    ensures { λ r. ⌜ r ≡ within limit (fromComplement (top + 1) n) ⌝ }
 {
     if n <= top / 2 {
         return n <= limit;
