@@ -85,9 +85,9 @@ unfoldable pub fieldOf : ℕ → Places → Option Value → Option (List ℕ)
 fieldOf w p v = cond (widthAllowed w) (shown w p v) none
 
 -- whether a field lies in the buffer, and the buffer with it there
-unfoldable pub fits : List ℕ → ℕ → Option (List ℕ) → Bool
-fits b n none = false
-fits b n (some s) = room b n (length s)
+unfoldable pub fieldFits : List ℕ → ℕ → Option (List ℕ) → Bool
+fieldFits b n none = false
+fieldFits b n (some s) = room b n (length s)
 
 unfoldable pub with : List ℕ → ℕ → Option (List ℕ) → List ℕ
 with b n none = b
@@ -95,5 +95,5 @@ with b n (some s) = stored b n s
 
 -- b′ is the buffer after the field f was to be put at n, and r the answer
 pub record Put (b : List ℕ) (n : ℕ) (f : Option (List ℕ)) (b′ : List ℕ) (r : Bool) : Type 0 where
-  pub told : r ≡ fits b n f
+  pub told : r ≡ fieldFits b n f
   pub buffer : b′ ≡ with b n f
