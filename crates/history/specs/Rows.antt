@@ -12,7 +12,7 @@ use Rattle.cells.specs.Bytes.{pair, quad, octet, pairAt, quadAt, octetAt, inCom
 use Rattle.cells.specs.Cell.{Key, between, keyAllowed, keyBytes, number, each, valueAllowed, cellAllowed, kindOf, valueBytes, cellBytes, keyAt, cellBy, cellOf, passing, front, wholeCell, wholeKey}
 use Rattle.cells.specs.Store.{encode, above, rising, before, run, ordered, cells, held}
 use Rattle.cells.specs.Asking.{unused, queryOf, queryAllowed, questionAllowed, lookup, found, queryAnswer, answer, replied, askOf, refusedWith}
-use Rattle.store.specs.Edit.{lower, higher, with, without, written, fits, putOn, takenOut, removeOn, writtenBy, checked, putOf, removeOf}
+use Rattle.store.specs.Edit.{lower, higher, with, without, written, fits, putOn, takenOut, removeOn, writtenBy, checkedEdit, putOf, removeOf}
 use Rattle.history.specs.State.{State, answerIn, cellQuestion}
 use Rattle.history.specs.Change.{put, remove, handedBack}
 use Rattle.history.specs.History.{after, ends}
@@ -114,7 +114,7 @@ unfolding
     takenOut
     removeOn
     writtenBy
-    checked
+    checkedEdit
     putOf
     removeOf
     within

@@ -25,7 +25,7 @@ use Rattle.cells.proofs.Locating.{HeldAs, held-some}
 use Rattle.cells.proofs.Requests.{whole-some}
 use Rattle.cells.proofs.Replies.{not-held, index-ready, built}
 use Rattle.store.specs.declared.Slot.{Slot}
-use Rattle.store.specs.Edit.{lower, higher, with, without, refusedEdit, refusedOn, doneOn, written, writtenBy, writtenOut, fits, putOn, takenOut, removeOn, checked, putOf, removeOf}
+use Rattle.store.specs.Edit.{lower, higher, with, without, refusedEdit, refusedOn, doneOn, written, writtenBy, writtenOut, fits, putOn, takenOut, removeOn, checkedEdit, putOf, removeOf}
 use Rattle.store.specs.inner.Slot.{replaced, Stretch, SlotOf}
 
 -- ---- what the request tells
@@ -103,20 +103,20 @@ pub record Putting (b : List ℕ) (n : ℕ) (s : List ℕ) (at size : ℕ) : Typ
 
 module _ (b : List ℕ) (n : ℕ) (p p′ : List ℕ) (r : Indexed) (i : Indexes p (held b n) p′ r) (s : List ℕ) where
   pub put-bad-store : r ≡ BadStore → refusedEdit b n F.BadStore ≡ putOf b n s
-  unfolding putOf checked
+  unfolding putOf checkedEdit
   put-bad-store e = rw (not-held b n p p′ r i e)
 
   pub remove-bad-store : r ≡ BadStore → refusedEdit b n F.BadStore ≡ removeOf b n s
-  unfolding removeOf checked
+  unfolding removeOf checkedEdit
   remove-bad-store e = rw (not-held b n p p′ r i e)
 
   module _ (count : ℕ) (e : r ≡ Count count) (q : Request) where
     pub put-bad-request : CellAsked s (wholeCell s) q → q ≡ R.Bad → refusedEdit b n F.BadRequest ≡ putOf b n s
-    unfolding putOf checked putOn writtenBy
+    unfolding putOf checkedEdit putOn writtenBy
     put-bad-request a u = rw (built b n p p′ r i count e .held, bad-cell (wholeCell s) (sym u ∙ a .told))
 
     pub remove-bad-request : KeyAsked (wholeKey s) q → q ≡ R.Bad → refusedEdit b n F.BadRequest ≡ removeOf b n s
-    unfolding removeOf checked removeOn writtenBy
+    unfolding removeOf checkedEdit removeOn writtenBy
     remove-bad-request a u = rw (built b n p p′ r i count e .held, bad-key (wholeKey s) (sym u ∙ a .told))
 
     module _ (l : 5461 ≤ length p) (k : ℕ) (u : q ≡ R.Key k) (t : Slot) (o : SlotOf b n p′ count k t) where
@@ -142,7 +142,7 @@ module _ (b : List ℕ) (n : ℕ) (p p′ : List ℕ) (r : Indexed) (i : Indexes
           }
 
       pub remove-none : KeyAsked (wholeKey s) q → t .size < 1 → refusedEdit b n F.NoCell ≡ removeOf b n s
-      unfolding removeOf checked removeOn takenOut writtenBy
+      unfolding removeOf checkedEdit removeOn takenOut writtenBy
       remove-none a z =
           let g = index-ready b n p p′ r i count e l in
           let c = good-key k (wholeKey s) (sym u ∙ a .told) in
@@ -156,7 +156,7 @@ module _ (b : List ℕ) (n : ℕ) (p p′ : List ℕ) (r : Indexed) (i : Indexes
           (o .stretch (g .0) (g .1) .inside, held-some b n (g .0) (g .1 .holds) .inside)
 
       pub remove-done : KeyAsked (wholeKey s) q → 1 ≤ t .size → (b′ : List ℕ) → b′ ≡ replaced b n (t .at) (t .size) [] → record { end = Finished; length = n - t .size; buffer = b′ } ≡ removeOf b n s
-      unfolding removeOf checked removeOn takenOut writtenBy written
+      unfolding removeOf checkedEdit removeOn takenOut writtenBy written
       remove-done a z b′ y =
           let g = index-ready b n p p′ r i count e l in
           let c = good-key k (wholeKey s) (sym u ∙ a .told) in
@@ -168,11 +168,11 @@ module _ (b : List ℕ) (n : ℕ) (p p′ : List ℕ) (r : Indexed) (i : Indexes
 
 module _ (b : List ℕ) (n : ℕ) (s : List ℕ) (at size : ℕ) (w : Putting b n s at size) where
   pub put-full : length b < n - size + length s → refusedEdit b n F.StoreFull ≡ putOf b n s
-  unfolding putOf checked putOn fits writtenBy
+  unfolding putOf checkedEdit putOn fits writtenBy
   put-full h = rw (w .holds, w .whole, w .size-is, lt-leb (n - size + length s) (length b) h)
 
   pub put-over : 65536 < n - size + length s → refusedEdit b n F.StoreFull ≡ putOf b n s
-  unfolding putOf checked putOn fits writtenBy
+  unfolding putOf checkedEdit putOn fits writtenBy
   put-over h = rw (w .holds, w .whole, w .size-is, lt-leb (n - size + length s) 65536 h) (go (leb (n - size + length s) (length b)))
     where
       go : (t : Bool) → refusedEdit b n F.StoreFull ≡ writtenOut b n (cond (t && false) (doneOn (with (w .cell) (w .cells))) (refusedOn F.StoreFull (w .cells)))
@@ -180,7 +180,7 @@ module _ (b : List ℕ) (n : ℕ) (s : List ℕ) (at size : ℕ) (w : Putting b 
       go false = refl
 
   pub put-done : n - size + length s ≤ length b → n - size + length s ≤ 65536 → (b′ : List ℕ) → b′ ≡ replaced b n at size s → record { end = Finished; length = n - size + length s; buffer = b′ } ≡ putOf b n s
-  unfolding putOf checked putOn fits writtenBy written
+  unfolding putOf checkedEdit putOn fits writtenBy written
   put-done h k b′ e =
       rw (w .holds, w .whole, le-leb (length (encode (with (w .cell) (w .cells)))) (length b) (omega (arith, w .size-is)), le-leb (length (encode (with (w .cell) (w .cells)))) 65536 (omega (arith, w .size-is)))
       (λ j. record { end = Finished; length = sym (w .size-is) j; buffer = (e ∙ w .bytes) j })

@@ -89,16 +89,16 @@ abbrev pub writtenOut : List ℕ → ℕ → CellEdit → Edit
 writtenOut b n x = writtenBy b n (x .left) (x .end)
 
 -- 1, before the others: "Ask, put and remove check 1, 15, 16, 17."
-unfoldable pub checked : List ℕ → ℕ → (List Cell → CellEdit) → Option (List Cell) → Edit
-checked b n f none = refusedEdit b n BadStore
-checked b n f (some cs) = writtenOut b n (f cs)
+unfoldable pub checkedEdit : List ℕ → ℕ → (List Cell → CellEdit) → Option (List Cell) → Edit
+checkedEdit b n f none = refusedEdit b n BadStore
+checkedEdit b n f (some cs) = writtenOut b n (f cs)
 
 -- put and remove, on a buffer and a length, with the bytes of a cell or a key
 unfoldable pub putOf : List ℕ → ℕ → List ℕ → Edit
-putOf b n s = checked b n (putOn (length b) (wholeCell s)) (held b n)
+putOf b n s = checkedEdit b n (putOn (length b) (wholeCell s)) (held b n)
 
 unfoldable pub removeOf : List ℕ → ℕ → List ℕ → Edit
-removeOf b n s = checked b n (removeOn (wholeKey s)) (held b n)
+removeOf b n s = checkedEdit b n (removeOn (wholeKey s)) (held b n)
 
 -- what a call handed back, as an edit
 abbrev pub edit : Edited → List ℕ → Edit

@@ -10,7 +10,7 @@ use Rattle.cells.specs.Bytes.{pair, quad, octet, pairAt, quadAt, octetAt, inCom
 use Rattle.cells.specs.Cell.{between, keyAllowed, keyBytes, number, each, valueAllowed, cellAllowed, kindOf, valueBytes, cellBytes, keyAt, cellBy, cellOf, passing, front, wholeCell, wholeKey}
 use Rattle.cells.specs.Store.{encode, above, rising, before, run, ordered, cells, held}
 use Rattle.cells.specs.Asking.{lookup}
-use Rattle.store.specs.Edit.{lower, higher, with, without, refusedEdit, written, fits, putOn, takenOut, removeOn, writtenBy, checked, putOf, removeOf}
+use Rattle.store.specs.Edit.{lower, higher, with, without, refusedEdit, written, fits, putOn, takenOut, removeOn, writtenBy, checkedEdit, putOf, removeOf}
 
 -- two integers, and a string with the first one's key
 abbrev first : List ℕ
@@ -91,7 +91,7 @@ unfolding
     takenOut
     removeOn
     writtenBy
-    checked
+    checkedEdit
     putOf
     removeOf
     within

@@ -49,7 +49,7 @@ lines (l ∷ ls) = ascii l ++ (10 ∷ lines ls)
 
 -- what the checks say of a template, or where a search goes on
 pub data Result : Type 0 where
-  checked : Checked → Result
+  checkIs : Checked → Result
   found : Skip → Result
 
 pub record Row : Type 0 where
@@ -58,7 +58,7 @@ pub record Row : Type 0 where
 
 -- a template, the caller's name, and what is expected
 abbrev check : List ℕ → String → Checked → Row
-check t name e = record { computed = checked (templateChecked t (ascii name)); expected = checked e }
+check t name e = record { computed = checkIs (templateChecked t (ascii name)); expected = checkIs e }
 
 abbrev run : ℕ → ℕ → ℕ → Checked
 run start line end = Accepted (record { start = start; line = line; end = end })
