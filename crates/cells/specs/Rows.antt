@@ -11,7 +11,7 @@ use Rattle.meaning.specs.declared.question.Question.{Question}
 use Rattle.numbers.specs.Range.{within}
 use Rattle.cells.specs.Bytes.{pair, quad, octet, pairAt, quadAt, octetAt, inComplement, fromComplement, begins}
 use Rattle.cells.specs.Cell.{Key, Cell, between, keyAllowed, keyBytes, number, each, valueAllowed, cellAllowed, kindOf, valueBytes, cellBytes, keyAt, cellBy, cellOf, passing, front}
-use Rattle.cells.specs.Store.{encode, above, rising, before, run, ordered, cells}
+use Rattle.cells.specs.Store.{encode, above, rising, before, cellRun, ordered, cells}
 use Rattle.cells.specs.Asking.{lookup, found, unused, queryOf, queryAllowed, questionAllowed, highestOf, ofParameter, ofRecord, queryAnswer, answer}
 
 abbrev key : ℕ → ℕ → ℕ → ℕ → Key
@@ -89,7 +89,7 @@ unfolding
     above
     rising
     before
-    run
+    cellRun
     ordered
     cells
     unused

@@ -8,7 +8,7 @@ use Rattle.meaning.specs.declared.end.Ended.the-variants.{Finished}
 use Rattle.numbers.specs.Range.{within}
 use Rattle.cells.specs.Bytes.{pair, quad, octet, pairAt, quadAt, octetAt, inComplement, fromComplement, begins, same}
 use Rattle.cells.specs.Cell.{between, keyAllowed, keyBytes, number, each, valueAllowed, cellAllowed, kindOf, valueBytes, cellBytes, keyAt, cellBy, cellOf, passing, front, wholeCell, wholeKey}
-use Rattle.cells.specs.Store.{encode, above, rising, before, run, ordered, cells, held}
+use Rattle.cells.specs.Store.{encode, above, rising, before, cellRun, ordered, cells, held}
 use Rattle.cells.specs.Asking.{lookup}
 use Rattle.store.specs.Edit.{lower, higher, with, without, refusedEdit, written, fits, putOn, takenOut, removeOn, writtenBy, checkedEdit, putOf, removeOf}
 
@@ -76,7 +76,7 @@ unfolding
     above
     rising
     before
-    run
+    cellRun
     ordered
     cells
     held
