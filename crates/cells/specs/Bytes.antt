@@ -46,5 +46,5 @@ begins [] s = true
 begins (x ∷ p) [] = false
 begins (x ∷ p) (y ∷ s) = eqb x y && begins p s
 
-unfoldable pub same : List ℕ → List ℕ → Bool
-same p s = begins p s && eqb (length p) (length s)
+unfoldable pub equalBytes : List ℕ → List ℕ → Bool
+equalBytes p s = begins p s && eqb (length p) (length s)

@@ -10,7 +10,7 @@ use Rattle.meaning.specs.Answer.{Value, integer, decimal, string}
 use Rattle.meaning.specs.Answer as A
 use Rattle.numbers.specs.declared.Quantity.the-variants as Q
 use Rattle.numbers.specs.Range.{integerLimit, decimalLimit, within}
-use Rattle.cells.specs.Bytes.{pair, quad, octet, pairAt, quadAt, octetAt, inComplement, fromComplement, word, long, begins, same}
+use Rattle.cells.specs.Bytes.{pair, quad, octet, pairAt, quadAt, octetAt, inComplement, fromComplement, word, long, begins, equalBytes}
 
 pub record Key : Type 0 where
   pub datasource : ℕ
@@ -177,7 +177,7 @@ front s = passing (λ b. begins b s) (cellOf s)
 
 -- the cell within the limits, and the key, whose bytes are s, or none
 unfoldable pub wholeCell : List ℕ → Option Cell
-wholeCell s = passing (λ b. same b s) (cellOf s)
+wholeCell s = passing (λ b. equalBytes b s) (cellOf s)
 
 unfoldable pub wholeKey : List ℕ → Option Key
-wholeKey s = cond (keyAllowed (keyAt s 0) && same (keyBytes (keyAt s 0)) s) (some (keyAt s 0)) none
+wholeKey s = cond (keyAllowed (keyAt s 0) && equalBytes (keyBytes (keyAt s 0)) s) (some (keyAt s 0)) none

@@ -14,7 +14,7 @@ use Rattle.meaning.specs.declared.end.Ended.{Ended}
 use Rattle.meaning.specs.declared.end.Ended.the-variants.{Finished, Halted}
 use Rattle.meaning.specs.declared.refusal.Refusal.{Refusal}
 use Rattle.meaning.specs.declared.refusal.Refusal.the-variants.{BadStore, BadRequest, StoreFull, NoCell}
-use Rattle.cells.specs.Bytes.{same}
+use Rattle.cells.specs.Bytes.{equalBytes}
 use Rattle.cells.specs.Cell.{Key, Cell, number, cellAllowed, keyAllowed, cellBytes, keyBytes, keyAt, cellOf, wholeCell, wholeKey}
 use Rattle.cells.specs.Store.{capacity, encode, cells, held}
 use Rattle.cells.specs.Asking.{lookup}
@@ -34,12 +34,12 @@ chosen false x y e = absurd (none-some e)
 
 pub cell-allowed : (s : List ℕ) (c : Cell) → wholeCell s ≡ some c → cellAllowed c ≡ true
 unfolding wholeCell
-cell-allowed s c e = passing-some (λ b. same b s) (cellOf s) c e .0
+cell-allowed s c e = passing-some (λ b. equalBytes b s) (cellOf s) c e .0
 
 pub key-allowed : (s : List ℕ) (k : Key) → wholeKey s ≡ some k → keyAllowed k ≡ true
 unfolding wholeKey
 key-allowed s k e =
-    let t = chosen (keyAllowed (keyAt s 0) && same (keyBytes (keyAt s 0)) s) (keyAt s 0) k e in
+    let t = chosen (keyAllowed (keyAt s 0) && equalBytes (keyBytes (keyAt s 0)) s) (keyAt s 0) k e in
     subst (λ (x : Key). keyAllowed x ≡ true) (t .1) (and-true _ _ (t .0) .0)
 
 -- ---- a store in form
