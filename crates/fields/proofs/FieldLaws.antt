@@ -18,7 +18,7 @@ use Rattle.numbers.specs.declared.Rounded.the-variants.{Units, OutOfRange}
 use Rattle.numbers.specs.Places.{roundedTo}
 use Rattle.fields.specs.declared.Places.{Places}
 use Rattle.fields.specs.Digits.{digits, digitCount}
-use Rattle.fields.specs.Field.{space, asterisk, hyphen, point, questionMark, placesOf, negative, minus, fraction, unsigned, rightIn, leftIn, widthAllowed, roundedField, shown, fieldOf, fieldFits, with, Put}
+use Rattle.fields.specs.Field.{space, asterisk, hyphen, point, questionMark, placesOf, negative, minus, fraction, unsigned, rightIn, leftIn, widthAllowed, roundedField, shown, fieldOf, fieldFits, bufferWith, Put}
 use Rattle.fields.proofs.DigitLaws.{length-digits}
 
 -- ---- the sign and the fraction
@@ -158,16 +158,16 @@ unfolding widthAllowed
 at-least-one w h = rw (le-leb 1 w h)
 
 pub put-none : (b : List ℕ) (n : ℕ) (f : Option (List ℕ)) → f ≡ none → Put b n f b false
-unfolding fieldFits with
+unfolding fieldFits bufferWith
 put-none b n f e = record { told = rw e; buffer = rw e }
 
 module _ (b : List ℕ) (n w : ℕ) (f : Option (List ℕ)) (s : List ℕ) (e : f ≡ some s) (l : length s ≡ w) where
   pub put-short : room b n w ≡ false → Put b n f b false
-  unfolding fieldFits with stored
+  unfolding fieldFits bufferWith stored
   put-short r = record { told = rw (e, l, r); buffer = rw (e, l, r) }
 
   pub put-there : (b′ : List ℕ) → room b n w ≡ true → b′ ≡ sets b n s → Put b n f b′ true
-  unfolding fieldFits with stored
+  unfolding fieldFits bufferWith stored
   put-there b′ r h = record { told = rw (e, l, r); buffer = rw (e, l, r) h }
 
 pub field-none : (w : ℕ) (p : Places) (v : Option Value) → widthAllowed w ≡ false → fieldOf w p v ≡ none
