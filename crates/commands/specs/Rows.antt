@@ -1,4 +1,4 @@
--- Rows of document 01, each computed from the meaning of a whole command. Assumes nothing.
+-- Rows of document 01, each computed from the meaning of a whole command.
 use mathlib.Core.Path.{_≡_, refl}
 use mathlib.Core.Bool.{Bool, true, false}
 use mathlib.Core.List.{List, [], _∷_}

@@ -1,4 +1,4 @@
--- The names of sections. Assumes nothing.
+-- The names of sections.
 use mathlib.Core.Bool.{Bool, cond, _&&_}
 use mathlib.Core.List.{List, [], _∷_}
 use Prim.Native.Nat.{ℕ, _+_, _*_, _%_}

@@ -1,4 +1,4 @@
--- How a calculation ends, by the numbers that a run can end with. Assumes nothing.
+-- How a calculation ends, by the numbers that a run can end with.
 use Prim.Native.Nat.{ℕ}
 use lib.IntN.{ℤ}
 use Rattle.numbers.specs.declared.Number.{Number}

@@ -1,4 +1,4 @@
--- Rows of document 01 and cases at the limits, each computed from the definitions. Assumes nothing.
+-- Rows of document 01 and cases at the limits, each computed from the definitions.
 use mathlib.Core.Path.{_≡_, refl}
 use mathlib.Core.Bool.{true}
 use mathlib.Core.List.{List, [], _∷_}

@@ -1,5 +1,5 @@
 -- The rows of document 01 that are marked *, and its sample sheet: each is the report of a whole template on an empty store, and
--- antt computes it. Assumes nothing.
+-- antt computes it.
 use mathlib.Core.Path.{_≡_, refl}
 use mathlib.Core.List.{List, [], _∷_, _++_, map}
 use Prim.Native.Nat.{ℕ}

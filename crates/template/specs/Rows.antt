@@ -1,4 +1,4 @@
--- Small templates, each with what the definitions say of it: antt computes each. Assumes nothing.
+-- Small templates, each with what the definitions say of it: antt computes each.
 use mathlib.Core.Path.{_≡_, refl}
 use mathlib.Core.List.{List, [], _∷_, _++_, map}
 use Prim.Native.Nat.{ℕ}

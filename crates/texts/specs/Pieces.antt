@@ -1,4 +1,4 @@
--- The pieces of an accepted text, and its fields. Assumes nothing.
+-- The pieces of an accepted text, and its fields.
 use mathlib.Core.List.{List, [], _∷_}
 use mathlib.Core.Option.{Option, none, some}
 use Prim.Native.Nat.{ℕ, _+_}

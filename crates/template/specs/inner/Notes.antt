@@ -1,4 +1,4 @@
--- What check 5 notes of the names before, to seek few of them; what it says doesn't depend on it. Assumes nothing.
+-- What check 5 notes of the names before, to seek few of them; what it says doesn't depend on it.
 use mathlib.Core.Path.{_≡_}
 use mathlib.Core.Bool.{cond}
 use mathlib.Core.List.{List}

@@ -1,4 +1,4 @@
--- The number goes up by half of the width, wraps, and comes down again. Assumes nothing.
+-- The number goes up by half of the width, wraps, and comes down again.
 use native.Mathlib.Omega.{arith}
 use Prim.Native.Nat.{_+_, _%_}
 use mir.Syntax.{w64}
