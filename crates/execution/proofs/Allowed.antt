@@ -30,8 +30,8 @@ use Rattle.commands.proofs.Allowed.{set-asks, integer-asks, zero-asks, test-ask
 use Rattle.pages.specs.declared.page.Page.{Page}
 use Rattle.pages.specs.Page.{breakMeaning, lineStep}
 use Rattle.pages.proofs.Allowed.{step-asks}
-use Rattle.execution.specs.State.{State, seen, withMachine, withDatasource, withPage}
-use Rattle.execution.specs.Line.{past, setting, branched, testing, tableBegun, tableEnded, breaking, breakingFor, newPageMeaning, formMeaning, lineMeaning}
+use Rattle.control.specs.State.{State, seen, withMachine, withDatasource, withPage}
+use Rattle.control.specs.Line.{past, setting, branched, testing, tableBegun, tableEnded, breaking, breakingFor, newPageMeaning, formMeaning, lineMeaning}
 
 module _ (t : List ℕ) (start l : ℕ) (body : List ℕ) (s : State) (d : Between 1 35 (s .datasource)) where
   sets : (x : Meaning Machine) → AsksAllowed x → AsksAllowed (setting s x)

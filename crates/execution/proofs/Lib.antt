@@ -1,6 +1,5 @@
 pub mod Places
 pub mod Sounds
-pub mod Commanding
 pub mod Lining
 pub mod Ranges
 pub mod Allowed

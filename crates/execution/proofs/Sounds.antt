@@ -47,9 +47,9 @@ use Rattle.pages.specs.Page.{headLine, headFrom, breakMeaning, lineStep}
 use Rattle.pages.proofs.Turning.{blank-fits}
 use Rattle.lines.proofs.Accepted.{heading-accepted}
 use Rattle.pages.proofs.Sixty as P
-use Rattle.execution.specs.State.{State, seen, withPlace, withMachine, withDatasource, withTables, withFeeds, withPage, cleared}
-use Rattle.execution.specs.Line.{past, jumped, setting, branched, testing, tableBegun, tableEnded, breaking, breakingFor, newPageMeaning, headed, formMeaning, lineMeaning}
-use Rattle.execution.specs.inner.Sound.{Nested, Fit, Sound}
+use Rattle.control.specs.State.{State, seen, withPlace, withMachine, withDatasource, withTables, withFeeds, withPage, cleared}
+use Rattle.control.specs.Line.{past, jumped, setting, branched, testing, tableBegun, tableEnded, breaking, breakingFor, newPageMeaning, headed, formMeaning, lineMeaning}
+use Rattle.control.specs.inner.Sound.{Nested, Fit, Sound}
 use Rattle.execution.proofs.Places.{nested-plain, nested-remark, nested-section, nested-end-test, nested-test, nested-failed, nested-else, nested-begun, nested-skipped, nested-ended, nested-again}
 
 -- LINENUM is one more than the lines on the page

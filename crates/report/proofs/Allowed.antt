@@ -25,8 +25,8 @@ use Rattle.numbers.specs.Range.{integerLimit}
 use Rattle.values.specs.Source.{answers}
 use Rattle.values.proofs.Ranges.{answers-within}
 use Rattle.values.proofs.Allowed.{Allowed, AsksAllowed}
-use Rattle.execution.specs.State.{State}
-use Rattle.execution.specs.Line.{lineMeaning}
+use Rattle.control.specs.State.{State}
+use Rattle.control.specs.Line.{lineMeaning}
 use Rattle.execution.proofs.Sounds.{On, line-keeps}
 use Rattle.execution.proofs.Ranges.{InRange, line-in-range}
 use Rattle.execution.proofs.Allowed.{line-asks}

@@ -24,11 +24,11 @@ use Rattle.values.specs.inner.Word.{unpacked, questions}
 use Rattle.runs.specs.declared.Report.{Report}
 use Rattle.runs.specs.declared.state.Saved.{Saved}
 use Rattle.runs.specs.declared.state.Stretch.{Stretch}
-use Rattle.execution.specs.State.{State}
+use Rattle.control.specs.State.{State}
 use Rattle.runs.specs.Report.{runFrom, startOf, runMeaning, ranTo, checkedOutcome, reportOf}
 use Rattle.report.specs.Reported.{HandsBack, Reported}
 use Rattle.runs.specs.inner.Stretch.{stretch, stateIn, storeOf, Standing, RunReady, fresh, Ran, Begun}
-use Rattle.execution.specs.inner.Executing.{sourceOf, Kept}
+use Rattle.control.specs.inner.Executing.{sourceOf, Kept}
 use Rattle.runs.proofs.Splitting.{run-split}
 use Rattle.template.proofs.Accepted.{accepted-runs}
 use Rattle.report.proofs.Sounding.{start-standing}

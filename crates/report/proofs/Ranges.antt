@@ -21,8 +21,8 @@ use Rattle.numbers.specs.Range.{integerLimit}
 use Rattle.cells.proofs.Limits.{AnswerWithin}
 use Rattle.values.specs.Source.{answers}
 use Rattle.values.proofs.Ranges.{MachineWithin, answers-within}
-use Rattle.execution.specs.State.{State, seen}
-use Rattle.execution.specs.Line.{lineMeaning}
+use Rattle.control.specs.State.{State, seen}
+use Rattle.control.specs.Line.{lineMeaning}
 use Rattle.execution.proofs.Sounds.{On, line-keeps}
 use Rattle.execution.proofs.Ranges.{InRange, seen-within, range-cleared, line-in-range}
 use Rattle.runs.specs.Report.{startOf}

@@ -11,7 +11,7 @@ use Rattle.template.specs.Order.{templateChecked}
 use Rattle.template.proofs.Accepted.{accepted-runs}
 use Rattle.meaning.specs.Answer.{Answer}
 use Rattle.pages.specs.Heading.{noHeading}
-use Rattle.execution.specs.inner.Sound.{Fit}
+use Rattle.control.specs.inner.Sound.{Fit}
 use Rattle.execution.proofs.Places.{none-open}
 use Rattle.execution.proofs.Sounds.{On, each-same, blank-heading}
 use Rattle.runs.specs.Report.{startOf}

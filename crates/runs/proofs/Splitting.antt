@@ -7,8 +7,8 @@ use native.Mathlib.Omega.{arith}
 use lib.Dec.{ltb}
 use Rattle.meaning.specs.Tree.{done, bind}
 use Rattle.meaning.proofs.Binding.{bind-assoc, bind-same}
-use Rattle.execution.specs.State.{State}
-use Rattle.execution.specs.Line.{lineMeaning}
+use Rattle.control.specs.State.{State}
+use Rattle.control.specs.Line.{lineMeaning}
 use Rattle.runs.specs.Report.{runFrom}
 use Rattle.runs.specs.inner.Stretch.{stretch}
 

@@ -8,7 +8,7 @@ use Rattle.meaning.specs.declared.question.Question.{Question}
 use Rattle.values.specs.inner.State.{texts, wordsFrom, fetched}
 use Rattle.tables.specs.inner.Open.{opened}
 use Rattle.pages.specs.inner.Packed.{headingIn}
-use Rattle.execution.specs.inner.Held.{stateOf}
+use Rattle.control.specs.inner.Held.{stateOf}
 use Rattle.runs.specs.Report.{startOf}
 use Rattle.runs.specs.inner.Start.{startFlow, startSaved}
 use Rattle.runs.specs.inner.Stretch.{heldIn}

@@ -30,10 +30,10 @@ use Rattle.values.specs.declared.fetch.Along.the-variants.{Records, Entries}
 use Rattle.pages.specs.inner.Packed.{headingIn}
 use Rattle.control.specs.declared.state.Flow.{Flow}
 use Rattle.control.specs.declared.state.Lined.{Lined}
-use Rattle.execution.specs.inner.Held.{Held, stateOf}
-use Rattle.execution.specs.State.{State}
-use Rattle.execution.specs.Line.{lineMeaning}
-use Rattle.execution.specs.inner.Executing.{sourceOf, stateAt, LineReady, Executes}
+use Rattle.control.specs.inner.Held.{Held, stateOf}
+use Rattle.control.specs.State.{State}
+use Rattle.control.specs.Line.{lineMeaning}
+use Rattle.control.specs.inner.Executing.{sourceOf, stateAt, LineReady, Executes}
 use Rattle.execution.proofs.Sounds.{On, sound-more, line-keeps}
 use Rattle.runs.specs.declared.state.Saved.{Saved}
 use Rattle.runs.specs.declared.state.Stretch.{Stretch}

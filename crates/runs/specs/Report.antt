@@ -24,8 +24,8 @@ use Rattle.values.specs.Source.{answers}
 use Rattle.pages.specs.Heading.{noHeading}
 use Rattle.pages.specs.Page.{newPage}
 use Rattle.runs.specs.declared.Report.{Report}
-use Rattle.execution.specs.State.{State}
-use Rattle.execution.specs.Line.{lineMeaning}
+use Rattle.control.specs.State.{State}
+use Rattle.control.specs.Line.{lineMeaning}
 
 -- the lines up to a place of the template, where n may still be executed. 7: "50,000 lines were executed and another is due,
 -- which is named."

@@ -20,11 +20,11 @@ use Rattle.runs.specs.declared.state.Saved.{Saved}
 use Rattle.runs.specs.declared.state.Log.{Log}
 use Rattle.runs.specs.declared.state.Stretch.{Stretch}
 use Rattle.runs.specs.declared.Report.{Report}
-use Rattle.execution.specs.inner.Held.{Held, stateOf}
-use Rattle.execution.specs.State.{State}
-use Rattle.execution.specs.Line.{lineMeaning}
-use Rattle.execution.specs.inner.Sound.{Sound}
-use Rattle.execution.specs.inner.Executing.{sourceOf, Kept}
+use Rattle.control.specs.inner.Held.{Held, stateOf}
+use Rattle.control.specs.State.{State}
+use Rattle.control.specs.Line.{lineMeaning}
+use Rattle.control.specs.inner.Sound.{Sound}
+use Rattle.control.specs.inner.Executing.{sourceOf, Kept}
 use Rattle.runs.specs.Report.{runFrom, startOf, Outcome, textIn, reportOf, reportIn}
 
 -- at most k lines

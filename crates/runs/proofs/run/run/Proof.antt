@@ -1,7 +1,7 @@
 -- Each turn of the loop executes a line. The loop keeps where the lines so far led, and what the rest of the run needs.
 use mathlib.Core.Path.{refl, sym}
 use native.Mathlib.Omega.{arith}
-use Rattle.execution.specs.inner.Executing.{held}
+use Rattle.control.specs.inner.Executing.{held}
 use Rattle.runs.proofs.Stretching.{Going, going-start, asked-fit, run-ends, run-exceeds, run-full, line-ready, asked-next, text-next, run-halts, going-next}
 use borrow.Author.Needs.{needs}
 use Rattle.runs.proofs.run.run.Statement.{statement}

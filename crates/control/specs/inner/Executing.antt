@@ -18,21 +18,16 @@ use Rattle.values.specs.Machine.{Machine}
 use Rattle.values.specs.Source.{answers}
 use Rattle.values.specs.inner.State.{machine}
 use Rattle.arguments.specs.declared.argument.Argument.{Argument}
-use Rattle.lines.specs.declared.command.Optional.{Optional}
 use Rattle.lines.specs.declared.command.Line.{Line}
 use Rattle.lines.specs.declared.command.Line.the-variants.{BeginTable}
-use Rattle.values.specs.inner.Yielding.{Askable, Sized}
-use Rattle.tables.specs.inner.Open.{parameterIn}
 use Rattle.pages.specs.inner.Packed.{headingsOf}
-use Rattle.pages.specs.inner.Paging.{TurnReady}
 use Rattle.lines.proofs.Accepted as parsed
-use Rattle.execution.specs.Line.{newPageMeaning}
 use Rattle.control.specs.inner.Going.{sceneOf}
 use Rattle.control.specs.declared.state.Flow.{Flow}
 use Rattle.control.specs.declared.state.Lined.{Lined}
-use Rattle.execution.specs.inner.Held.{Held, stateOf}
-use Rattle.execution.specs.State.{State}
-use Rattle.execution.specs.inner.Sound.{Fit, Sound}
+use Rattle.control.specs.inner.Held.{Held, stateOf}
+use Rattle.control.specs.State.{State}
+use Rattle.control.specs.inner.Sound.{Fit, Sound}
 
 -- the store's bytes as a source of answers
 abbrev pub sourceOf : List ℕ → Question → Answer
@@ -98,14 +93,3 @@ pub record FormReady (body b index : List ℕ) (count : ℕ) (t : List ℕ) (h :
   pub heads : Each (Fit t) (headingsOf (h .headings))
   pub room : u ≤ length T
   pub places : a + 330 ≤ 512
-
--- What `new_page` requires and says.
-pub record NewPageReady (body b index : List ℕ) (count : ℕ) (scene : Scene) (k : Optional) (a : ℕ) (f : Flow) (T : List ℕ) (u : ℕ) : Type 0 where
-  pub kept : Kept b index count
-  pub sized : Sized body b
-  pub askable : Askable (scene .datasource) 1 (parameterIn k) a
-  pub turn : TurnReady (f .page) T u
-
-pub record NewPages (body b : List ℕ) (integers decimals : List ℤ) (rows : List (List ℕ)) (lengths records entries : List ℕ) (scene : Scene) (k : Optional) (log : List ℕ) (a p : ℕ) (T : List ℕ) (u : ℕ) (f : Flow) (log′ T′ : List ℕ) (r : Lined) : Type 0 where
-  pub executes : (headings : List ℕ) → scene ≡ sceneOf f (scene .number) → Executes (newPageMeaning (scene .number) body (stateAt b (held integers decimals rows lengths records entries headings) f) k) b (held integers decimals rows lengths records entries headings) f T u log a p (held integers decimals rows lengths records entries headings) T′ log′ r
-  pub kept : length T′ ≡ length T

@@ -1,9 +1,9 @@
-use Rattle.execution.proofs.Commanding.{value-ready, page-always, page-if}
+use Rattle.readonly.proofs.Reading.{value-ready, page-always, page-if}
 use borrow.Author.Needs.{needs}
-use Rattle.execution.proofs.line.new_page.Statement.{statement}
-use Rattle.execution.proofs.line.new_page.Tie as tie
-use Rattle.execution.proofs.line.new_page.Reads as reads
-use Rattle.execution.proofs.line.new_page.Lts as lts
+use Rattle.readonly.proofs.read.new_page.Statement.{statement}
+use Rattle.readonly.proofs.read.new_page.Tie as tie
+use Rattle.readonly.proofs.read.new_page.Reads as reads
+use Rattle.readonly.proofs.read.new_page.Lts as lts
 use Rattle.coercions.proofs.taking.integer_value.Reads as integer-value-reads
 use Rattle.control.proofs.arms.break_line.Reads as break-line-reads
 use Rattle.control.proofs.arms.page_for.Reads as page-for-reads

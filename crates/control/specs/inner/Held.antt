@@ -8,8 +8,8 @@ use Rattle.values.specs.declared.fetch.Along.the-variants.{Records, Entries}
 use Rattle.values.specs.inner.State.{texts, fetched}
 use Rattle.tables.specs.inner.Open.{openOf}
 use Rattle.pages.specs.inner.Packed.{headingsOf}
 use Rattle.control.specs.declared.state.Flow.{Flow}
-use Rattle.execution.specs.State.{State}
+use Rattle.control.specs.State.{State}
 
 -- the rows that are lent: IV and FV; SV by its bytes and lengths; R, T and headings, each as one number
 pub record Held : Type 0 where

@@ -26,7 +26,7 @@ use Rattle.commands.specs.Selecting.{datasourceMeaning}
 use Rattle.pages.specs.declared.heading.Heading.{Heading}
 use Rattle.pages.specs.Heading.{noHeading}
 use Rattle.pages.specs.Page.{breakMeaning, lineStep}
-use Rattle.execution.specs.State.{State, seen, withPlace, withMachine, withDatasource, withTables, withHeadings, withFeeds, withPage, cleared}
+use Rattle.control.specs.State.{State, seen, withPlace, withMachine, withDatasource, withTables, withHeadings, withFeeds, withPage, cleared}
 
 -- behind a line of n bytes
 abbrev pub past : State → ℕ → State

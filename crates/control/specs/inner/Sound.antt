@@ -11,7 +11,7 @@ use Rattle.meaning.specs.Each.{Each}
 use Rattle.tables.specs.declared.table.Table.{Table}
 use Rattle.pages.specs.declared.heading.Heading.{Heading}
 use Rattle.pages.specs.Page.{headLine, headFrom}
-use Rattle.execution.specs.State.{State}
+use Rattle.control.specs.State.{State}
 
 -- the open tables of the run are the tables among what check 4 has open, and each goes on behind its $BT
 abbrev pub Tabled : List ℕ → List Table → List Mark → Type 0
