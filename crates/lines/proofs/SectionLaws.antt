@@ -15,7 +15,7 @@ use Rattle.scan.specs.Run.{span}
 use Rattle.scan.specs.Line.{byteAt, byteIs}
 use Rattle.scan.specs.Words.{begins, standsAt, Spelled, firstOf}
 use Rattle.scan.proofs.RunLaws.{window-end, run-within}
-use Rattle.scan.proofs.OnwardLaws.{picked}
+use Rattle.scan.proofs.TestLaws.{picked}
 use Rattle.texts.specs.readers.Text.{textFits}
 use Rattle.lines.specs.declared.command.Operation.{Operation}
 use Rattle.lines.specs.declared.command.Comparison.{Comparison}

@@ -4,7 +4,6 @@ use mir.ValLaws.{toZ-ofZ}
 use mir.Val.{SFits}
 use mir.Syntax.{w64}
 use borrow.Author.Needs.{needs}
-use borrow.Author.Needs.{needs}
 use Rattle.assignments.proofs.set.assigned.Statement.{statement}
 use Rattle.assignments.proofs.set.assigned.Tie as tie
 

@@ -1,7 +1,6 @@
 -- The argument ended the run, or its value is given to the variable.
 use Rattle.assignments.proofs.Sets.{set-over, set-follows}
 use borrow.Author.Needs.{needs}
-use borrow.Author.Needs.{needs}
 use Rattle.assignments.proofs.set.set_variable.Statement.{statement}
 use Rattle.assignments.proofs.set.set_variable.Tie as tie
 

@@ -1,7 +1,6 @@
 -- The row and the length are set where the variable has them.
 use Rattle.assignments.proofs.Copying.{string-none, string-in, string-past}
 use borrow.Author.Needs.{needs}
-use borrow.Author.Needs.{needs}
 use Rattle.assignments.proofs.string.put.Statement.{statement}
 use Rattle.assignments.proofs.string.put.Tie as tie
 

@@ -1,7 +1,6 @@
 -- A refusal, or the bytes of the string are copied, then SVn is set.
 use Rattle.assignments.proofs.Copying.{string-refused, string-stored}
 use borrow.Author.Needs.{needs}
-use borrow.Author.Needs.{needs}
 use Rattle.assignments.proofs.string.stored.Statement.{statement}
 use Rattle.assignments.proofs.string.stored.Tie as tie
 

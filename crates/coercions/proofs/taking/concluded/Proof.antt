@@ -5,7 +5,6 @@ use mir.ValLaws.{toZ-ofZ}
 use mir.Val.{SFits}
 use mir.Syntax.{w64}
 use borrow.Author.Needs.{needs}
-use borrow.Author.Needs.{needs}
 use Rattle.coercions.proofs.taking.concluded.Statement.{statement}
 use Rattle.coercions.proofs.taking.concluded.Tie as tie
 

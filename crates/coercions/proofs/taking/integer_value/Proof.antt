@@ -1,7 +1,6 @@
 -- The argument ended the run, or its integer is taken.
 use Rattle.coercions.proofs.Running.{integer-over, integer-follows}
 use borrow.Author.Needs.{needs}
-use borrow.Author.Needs.{needs}
 use Rattle.coercions.proofs.taking.integer_value.Statement.{statement}
 use Rattle.coercions.proofs.taking.integer_value.Tie as tie
 

@@ -4,7 +4,6 @@ use Rattle.numbers.proofs.Machine.{read}
 use lib.IntN.{pos, natAbs}
 use lib.Signed.{ltZ}
 use borrow.Author.Needs.{needs}
-use borrow.Author.Needs.{needs}
 use Rattle.tables.proofs.table.begun.Statement.{statement}
 use Rattle.tables.proofs.table.begun.Tie as tie
 

@@ -9,7 +9,6 @@ use mir.Val.{Fits}
 use native.Mathlib.Omega.{arith}
 use Prim.Native.Nat.{_≤_, _+_}
 use borrow.Author.Needs.{needs}
-use borrow.Author.Needs.{needs}
 use Rattle.tables.proofs.table.counted.Statement.{statement}
 use Rattle.tables.proofs.table.counted.Tie as tie
 

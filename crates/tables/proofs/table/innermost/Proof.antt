@@ -4,7 +4,6 @@ use mathlib.Core.Path.{_≡_, _∙_}
 use lib.ListN.{length}
 use native.Mathlib.Omega.{arith}
 use borrow.Author.Needs.{needs}
-use borrow.Author.Needs.{needs}
 use Rattle.tables.proofs.table.innermost.Statement.{statement}
 use Rattle.tables.proofs.table.innermost.Tie as tie
 

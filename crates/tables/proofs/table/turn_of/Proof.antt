@@ -7,7 +7,6 @@ use mir.Val.{SFits}
 use mir.Syntax.{w64}
 use mathlib.Core.Path.{ap, _∙_}
 use borrow.Author.Needs.{needs}
-use borrow.Author.Needs.{needs}
 use Rattle.tables.proofs.table.turn_of.Statement.{statement}
 use Rattle.tables.proofs.table.turn_of.Tie as tie
 
