@@ -12,5 +12,6 @@ pub mod Beginning
 pub mod Driving
 pub mod Reprint
 pub mod Pages
+pub mod Moments
 pub mod Ranges
 pub mod Allowed
