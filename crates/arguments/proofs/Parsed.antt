@@ -19,7 +19,7 @@ use Rattle.scan.specs.Run.{span}
 use Rattle.scan.specs.Line.{byteAt, byteIs, window}
 use Rattle.scan.specs.readers.Digits.{digitsAt, numberAt}
 use Rattle.scan.specs.Words.{standsAt, firstOf}
-use Rattle.scan.proofs.OnwardLaws.{picked, tested}
+use Rattle.scan.proofs.TestLaws.{picked, tested}
 use Rattle.scan.proofs.DigitLaws.{digits-power}
 use Rattle.scan.proofs.NumberLaws.{Counts, Within, number-within}
 use Rattle.scan.proofs.RunLaws.{length-span, byte-within}

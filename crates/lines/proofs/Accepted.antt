@@ -5,7 +5,7 @@ use mathlib.Core.List.{List}
 use Prim.Native.Nat.{ℕ, _≤_}
 use lib.ListN.{length}
 use Rattle.scan.specs.Line.{byteIs}
-use Rattle.scan.proofs.OnwardLaws.{picked}
+use Rattle.scan.proofs.TestLaws.{picked}
 use Rattle.scan.proofs.WordLaws.{EachForm, all, _besides_, found-form}
 use Rattle.arguments.specs.declared.argument.Argument.{Argument}
 use Rattle.arguments.specs.Parameter.{parameterOf}

@@ -13,7 +13,7 @@ use Rattle.scan.specs.declared.digits.Numeral.{Numeral}
 use Rattle.scan.specs.declared.digits.Numeral.the-variants.{Value, NoNumeral}
 use Rattle.scan.specs.Line.{byteAt}
 use Rattle.scan.specs.readers.Digits.{digitsAt, numberAt}
-use Rattle.scan.proofs.OnwardLaws.{picked, tested}
+use Rattle.scan.proofs.TestLaws.{picked, tested}
 use Rattle.scan.proofs.RunLaws.{byte-within}
 use Rattle.scan.proofs.NumberLaws.{Within, number-within}
 use Rattle.arguments.specs.declared.operand.Operand.{Operand}

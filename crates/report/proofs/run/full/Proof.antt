@@ -2,8 +2,6 @@ use mathlib.Core.Path.{refl}
 use Rattle.report.specs.inner.Start.{fullAt}
 use Rattle.report.proofs.run.full.Statement.{statement}
 use Rattle.report.proofs.run.full.Tie as tie
-use Rattle.report.proofs.run.full.Reads as reads
-use Rattle.report.proofs.run.full.Lts as lts
 
 returns : tie.Need-returns
 unfolding fullAt

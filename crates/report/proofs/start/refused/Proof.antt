@@ -2,11 +2,6 @@ use Rattle.report.specs.inner.Start.{refusedAt}
 use borrow.Author.Needs.{needs}
 use Rattle.report.proofs.start.refused.Statement.{statement}
 use Rattle.report.proofs.start.refused.Tie as tie
-use Rattle.report.proofs.start.refused.Reads as reads
-use Rattle.report.proofs.start.refused.Lts as lts
-use Rattle.meaning.proofs.refusal.Refusal.number.Reads as number-reads
-use Rattle.report.proofs.start.no_log.Reads as no-log-reads
-use Rattle.report.proofs.start.nothing.Reads as nothing-reads
 
 nothing-requires : tie.Need-nothing-requires
 nothing-requires c κs = search needs
