@@ -4,5 +4,6 @@ pub mod Sounding
 pub mod Driving
 pub mod Reprint
 pub mod Pages
+pub mod Moments
 pub mod Ranges
 pub mod Allowed

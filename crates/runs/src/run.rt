@@ -27,6 +27,7 @@ fn over(
 {
     let saved = start::nothing();
     let words = *words;
+    let questions = at + logged;
     Stretch {
         more: false,
         log: Log {
@@ -39,7 +40,7 @@ fn over(
             line: end.line(),
             pages: page,
             bytes: printed,
-            questions: at + logged,
+            questions,
         },
         saved,
     }

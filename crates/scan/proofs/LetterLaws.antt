@@ -6,7 +6,6 @@ use Prim.Native.Nat.{ℕ, zero, suc, _+_, _/_}
 use lib.Dec.{eqb}
 use lib.ListN.{length, getD, drop}
 use lib.Seq.{getD-drop}
-use borrow.Author.Tests.{eqb-true}
 use Rattle.scan.specs.declared.words.WordRead.{WordRead}
 use Rattle.scan.specs.declared.words.WordRead.the-variants.{Word, NoWord}
 use Rattle.scan.specs.Line.{byteAt}

@@ -20,7 +20,8 @@ use Rattle.template.specs.declared.Checked.the-variants.{Accepted, Refused}
 use Rattle.station.specs.Checks.{ToldCheck}
 use Rattle.store.specs.declared.Edited.{Edited}
 use Rattle.store.specs.Edit.{Edit, edit}
-use Rattle.station.specs.Answers.{kindTold, valueTold, countTold, PlaceTold, ToldParts, kindHanded, valueHanded, placeHanded, countHanded, Hands, ToldAnswer, ToldEdit}
+use Rattle.station.specs.Answers.{kindTold, valueTold, countTold, PlaceTold, ToldParts, ToldAnswer, ToldEdit}
+use Rattle.station.specs.inner.Handing.{kindHanded, valueHanded, placeHanded, countHanded, Hands}
 
 -- ---- questions
 

@@ -9,8 +9,6 @@ use Rattle.meaning.specs.Answer as A
 use Rattle.meaning.specs.Answer.{string, Answer, missing, cell, highest}
 use Rattle.meaning.specs.declared.question.Question.{Question}
 use Rattle.meaning.specs.Number.{numberOf, endOf}
-use Rattle.cells.specs.declared.Answered.{Answered}
-use Rattle.cells.specs.declared.Answered.the-variants.{Missing, Integer, Decimal, Text, Highest}
 use Rattle.cells.specs.Cell.{integerKind, decimalKind, stringKind}
 use Rattle.cells.specs.Asking.{Reply}
 use Rattle.store.specs.Edit.{Edit}
@@ -60,41 +58,6 @@ pub record ToldParts (b : List ℕ) (n : ℕ) (x : Answer) (kind : ℕ) (value :
 pub record ToldAnswer (b : List ℕ) (len : ℕ) (x : Reply) (k : ℕ) (v : ℤ) (i n r : ℕ) : Type 0 where
   pub number : r ≡ numberOf (endOf (tt {0}) (x .end))
   pub answer : ToldParts b len (x .answer) k v i n
-
--- the same of an answer of the code
-unfoldable pub kindHanded : Answered → ℕ
-kindHanded Missing = 0
-kindHanded (Integer z) = integerKind
-kindHanded (Decimal z) = decimalKind
-kindHanded (Text i n) = stringKind
-kindHanded (Highest n) = 1
-
-unfoldable pub valueHanded : Answered → ℤ
-valueHanded Missing = pos 0
-valueHanded (Integer z) = z
-valueHanded (Decimal z) = z
-valueHanded (Text i n) = pos 0
-valueHanded (Highest n) = pos 0
-
-unfoldable pub placeHanded : Answered → ℕ
-placeHanded Missing = 0
-placeHanded (Integer z) = 0
-placeHanded (Decimal z) = 0
-placeHanded (Text i n) = i
-placeHanded (Highest n) = 0
-
-unfoldable pub countHanded : Answered → ℕ
-countHanded Missing = 0
-countHanded (Integer z) = 0
-countHanded (Decimal z) = 0
-countHanded (Text i n) = n
-countHanded (Highest n) = n
-
-pub record Hands (a : Answered) (kind : ℕ) (value : ℤ) (place count : ℕ) : Type 0 where
-  pub is-kind : kind ≡ kindHanded a
-  pub is-value : value ≡ valueHanded a
-  pub is-place : place ≡ placeHanded a
-  pub is-count : count ≡ countHanded a
 
 -- r is the number that the edit ends with, n the length and b the buffer that it hands back
 pub record ToldEdit (x : Edit) (b : List ℕ) (n r : ℕ) : Type 0 where

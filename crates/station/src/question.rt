@@ -3,7 +3,8 @@ use crate::edit;
 use cells::Answered;
 use meaning::question::Question;
 ghost use Rattle.cells.specs.Asking.{askOf};
-ghost use Rattle.station.specs.Answers.{questionOf, Hands, ToldAnswer};
+ghost use Rattle.station.specs.Answers.{questionOf, ToldAnswer};
+ghost use Rattle.station.specs.inner.Handing.{Hands};
 
 // An answer as a kind, with what that kind needs: a value, or the place and the length of a string. The rest is 0.
 pub fn hand_answer(

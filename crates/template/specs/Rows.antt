@@ -24,7 +24,6 @@ use Rattle.lines.specs.readers.Simple.{singleAt, bareAt, optionalAt}
 use Rattle.lines.specs.readers.Fetch.{parameterAt, fetchedAt, fetchAt}
 use Rattle.lines.specs.readers.Title.{nameAt, sectionAt, headingOf, headingAt, remarkAt}
 use Rattle.lines.specs.readers.Command.{commands, parseLine}
-use Rattle.meaning.specs.declared.refusal.Refusal.{Refusal}
 use Rattle.meaning.specs.declared.refusal.Refusal.the-variants.{BadTemplate, BadLine, BadNesting, RepeatedSection, NoSection}
 use Rattle.nesting.specs.Nest.{tests, tables, sectionBegun, testTurned, testEnded, tableEnded, inSection, behind, allClosed}
 use Rattle.names.specs.Name.{nameOf}

@@ -2,8 +2,6 @@ use mathlib.Core.Path.{refl}
 use Rattle.runs.specs.inner.Start.{fullAt}
 use Rattle.runs.proofs.run.full.Statement.{statement}
 use Rattle.runs.proofs.run.full.Tie as tie
-use Rattle.runs.proofs.run.full.Reads as reads
-use Rattle.runs.proofs.run.full.Lts as lts
 
 returns : tie.Need-returns
 unfolding fullAt

@@ -6,11 +6,6 @@ use Rattle.runs.proofs.Stretching.{Going, going-start, asked-fit, run-e
 use borrow.Author.Needs.{needs}
 use Rattle.runs.proofs.run.run.Statement.{statement}
 use Rattle.runs.proofs.run.run.Tie as tie
-use Rattle.runs.proofs.run.run.Reads as reads
-use Rattle.runs.proofs.run.run.Lts as lts
-use Rattle.execution.proofs.line.line.Reads as line-reads
-use Rattle.runs.proofs.run.full.Reads as full-reads
-use Rattle.runs.proofs.run.over.Reads as over-reads
 
 abbrev Inv-loop : tie.InvT-loop
 Inv-loop template store index text₀ strings₀ saved len part end count asked places integers₀ decimals₀ lengths₀ records₀ entries₀ headings₀ flow₀ left₀ printed₀ words₀ logged₀ text strings integers decimals lengths records entries headings flow left printed words logged =

@@ -2,12 +2,6 @@ use Rattle.runs.proofs.Beginning.{bad-store, template-refused, may-star
 use borrow.Author.Needs.{needs}
 use Rattle.runs.proofs.start.begin.Statement.{statement}
 use Rattle.runs.proofs.start.begin.Tie as tie
-use Rattle.runs.proofs.start.begin.Reads as reads
-use Rattle.runs.proofs.start.begin.Lts as lts
-use Rattle.cells.proofs.index.build.Reads as build-reads
-use Rattle.runs.proofs.start.refused.Reads as refused-reads
-use Rattle.runs.proofs.start.started.Reads as started-reads
-use Rattle.template.proofs.check.Reads as check-reads
 
 build-requires : tie.Need-build-requires
 build-requires c κs = search needs

@@ -2,9 +2,6 @@ use Rattle.runs.specs.inner.Start.{startFlow}
 use borrow.Author.Needs.{needs}
 use Rattle.runs.proofs.start.flow.Statement.{statement}
 use Rattle.runs.proofs.start.flow.Tie as tie
-use Rattle.runs.proofs.start.flow.Reads as reads
-use Rattle.runs.proofs.start.flow.Lts as lts
-use Rattle.pages.proofs.page.Page.new.Reads as new-reads
 
 new-requires : tie.Need-new-requires
 new-requires c κs = search needs

@@ -2,8 +2,6 @@ use mathlib.Core.Path.{refl}
 use Rattle.runs.specs.inner.Start.{noLog}
 use Rattle.runs.proofs.start.no_log.Statement.{statement}
 use Rattle.runs.proofs.start.no_log.Tie as tie
-use Rattle.runs.proofs.start.no_log.Reads as reads
-use Rattle.runs.proofs.start.no_log.Lts as lts
 
 returns : tie.Need-returns
 unfolding noLog

@@ -2,9 +2,6 @@ use Rattle.runs.specs.inner.Start.{nothingSaved}
 use borrow.Author.Needs.{needs}
 use Rattle.runs.proofs.start.nothing.Statement.{statement}
 use Rattle.runs.proofs.start.nothing.Tie as tie
-use Rattle.runs.proofs.start.nothing.Reads as reads
-use Rattle.runs.proofs.start.nothing.Lts as lts
-use Rattle.runs.proofs.start.saved.Reads as saved-reads
 
 saved-requires : tie.Need-saved-requires
 saved-requires c κs = search needs

@@ -2,11 +2,6 @@ use Rattle.runs.specs.inner.Start.{refusedAt}
 use borrow.Author.Needs.{needs}
 use Rattle.runs.proofs.start.refused.Statement.{statement}
 use Rattle.runs.proofs.start.refused.Tie as tie
-use Rattle.runs.proofs.start.refused.Reads as reads
-use Rattle.runs.proofs.start.refused.Lts as lts
-use Rattle.meaning.proofs.refusal.Refusal.number.Reads as number-reads
-use Rattle.runs.proofs.start.no_log.Reads as no-log-reads
-use Rattle.runs.proofs.start.nothing.Reads as nothing-reads
 
 nothing-requires : tie.Need-nothing-requires
 nothing-requires c κs = search needs

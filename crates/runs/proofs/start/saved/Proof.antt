@@ -2,9 +2,6 @@ use Rattle.runs.specs.inner.Start.{startSaved}
 use borrow.Author.Needs.{needs}
 use Rattle.runs.proofs.start.saved.Statement.{statement}
 use Rattle.runs.proofs.start.saved.Tie as tie
-use Rattle.runs.proofs.start.saved.Reads as reads
-use Rattle.runs.proofs.start.saved.Lts as lts
-use Rattle.runs.proofs.start.flow.Reads as flow-reads
 
 flow-requires : tie.Need-flow-requires
 flow-requires c κs = search needs

@@ -2,10 +2,6 @@ use Rattle.runs.specs.inner.Start.{startedAt}
 use borrow.Author.Needs.{needs}
 use Rattle.runs.proofs.start.started.Statement.{statement}
 use Rattle.runs.proofs.start.started.Tie as tie
-use Rattle.runs.proofs.start.started.Reads as reads
-use Rattle.runs.proofs.start.started.Lts as lts
-use Rattle.runs.proofs.start.no_log.Reads as no-log-reads
-use Rattle.runs.proofs.start.saved.Reads as saved-reads
 
 saved-requires : tie.Need-saved-requires
 saved-requires c κs = search needs
