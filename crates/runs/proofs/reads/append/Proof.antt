@@ -59,7 +59,9 @@ use Rattle.runs.proofs.state.Log as L
 use Rattle.runs.proofs.state.Log.Laws as L′
 use Rattle.values.proofs.word.unpacked as unpack
 use Rattle.values.proofs.word.unpacked.Symbol as unpack-def
+use Rattle.values.proofs.word.unpacked.Symbol.{name as #values·word·unpacked}
 use Rattle.values.proofs.word.unpacked.Met as unpack-thm
+use Rattle.runs.proofs.reads.append.Key.{name as #report·reads·append}
 use Rattle.runs.proofs.reads.append as f
 use Rattle.runs.proofs.reads.append.Statement as stated
 use Rattle.runs.proofs.reads.append.Code as code
