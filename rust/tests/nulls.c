@@ -1,22 +1,12 @@
 /* Every call of station.h with null for slices of length 0, and with lengths past their buffers. Prints what isn't so. */
-#include "station_testing.h"
-#include <stdio.h>
-
-static int faults;
-#define IS(call, wanted) \
-    do { \
-        uint32_t got = (call); \
-        if (got != (wanted)) { \
-            printf("nulls.c:%d: %s gives %u\n", __LINE__, #call, got); \
-            faults = 1; \
-        } \
-    } while (0)
+#include "station.h"
+#include "is.h"
 
 int main(void) {
     uint8_t answered = 9;
     int64_t value;
     size_t place, count, left = 7, bytes, questions;
-    uint32_t line, start = 7, pages, lines = 7;
+    uint32_t line, start = 7, pages;
     IS(station_ask(NULL, 0, 0, 1, 1, 1, 0, 0, &answered, &value, &place, &count), 0);
     IS(answered, STATION_MISSING);
     IS(station_ask(NULL, 0, 0, 2, 1, 1, 0, 0, &answered, &value, &place, &count), 0);
@@ -35,12 +25,5 @@ int main(void) {
     IS(start, 0);
     IS(station_report(NULL, 0, NULL, 0, NULL, 0, 0, NULL, 0, NULL, 0, &line, &pages, &bytes, &questions), 6);
     IS(station_report(NULL, 0, NULL, 0, NULL, 0, 1, NULL, 0, NULL, 0, &line, &pages, &bytes, &questions), 1);
-    IS(station_index(NULL, 0, 0, NULL, 0, &count), 0);
-    IS(count, 0);
-    IS(station_line(NULL, 0, NULL, 0), 0);
-    station_skip(NULL, 0, 0, &bytes, &lines);
-    IS(bytes, 0);
-    IS(lines, 0);
-    IS(station_string_field(NULL, 0, 0, 1, NULL, 0), 0);
     return faults;
 }

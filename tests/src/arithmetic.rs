@@ -1,7 +1,7 @@
 //! Calculations, comparison and rounding.
 
-use station::testing;
-pub use station::testing::{compare, whole};
+use crate::ffi;
+pub use crate::ffi::{compare, whole};
 
 pub const INTEGER: u8 = 0x49;
 pub const DECIMAL: u8 = 0x46;
@@ -21,20 +21,20 @@ fn told(call: impl FnOnce(&mut i64) -> u32) -> Result<i64, u32> {
 }
 
 pub fn integers(operation: u32, a: i64, b: i64) -> Result<i64, u32> {
-    told(|result| testing::integers(operation, a, b, result))
+    told(|result| ffi::integers(operation, a, b, result))
 }
 
 pub fn decimals(operation: u32, a: i64, b: i64) -> Result<i64, u32> {
-    told(|result| testing::decimals(operation, a, b, result))
+    told(|result| ffi::decimals(operation, a, b, result))
 }
 
 pub fn one(operation: u32, a: i64) -> Result<i64, u32> {
-    told(|result| testing::one(operation, a, result))
+    told(|result| ffi::one(operation, a, result))
 }
 
 pub fn rounded(kind: u8, n: i64, places: usize) -> Option<u64> {
     let mut units = BEFORE as u64;
-    let there = testing::rounded(kind, n, places, &mut units);
+    let there = ffi::rounded(kind, n, places, &mut units);
     assert!(
         there || units == BEFORE as u64,
         "units changed though there are none"

@@ -1,5 +1,3 @@
 //! Fields in a lent buffer.
 
-pub use station::testing::{
-    missing_field as missing, number_field as number, string_field as string,
-};
+pub use crate::ffi::{missing_field as missing, number_field as number, string_field as string};

@@ -1,7 +1,8 @@
-//! The calls of libstation.a, by `station::testing`, in the second interpreter's terms, and what the tests share.
+//! The calls of libstation.a, by `station::testing`, and of libstation_testing.a in the second interpreter's terms, and what the tests share.
 
 pub mod arithmetic;
 pub mod compared;
+mod ffi;
 pub mod field;
 pub mod generated;
 pub mod line;

@@ -1,6 +1,6 @@
 //! The parsed form of a line, and of a piece of its text, as rows of numbers.
 
-pub use station::testing::{line as write_line, piece as write_piece};
+pub use crate::ffi::{line as write_line, piece as write_piece};
 
 /// What a line or a piece is, its number, and two arguments of seven numbers.
 pub type Row = [u64; 16];

@@ -1,5 +1,6 @@
 //! The store: questions, puts, removes and the index.
 
+use crate::ffi;
 use crate::report::asked;
 use second::{Answer, Asked, Edited, Question, Value};
 use station::testing;
@@ -25,16 +26,19 @@ pub fn ask(buffer: &[u8], length: usize, q: Question) -> Asked {
     }
 }
 
-/// The number of cells, with their places written down; none where the store is out of form.
+/// The number; the places of the cells go to `places`, their count to `count`.
+pub use crate::ffi::index as index_in;
+
+/// The number of cells, with their places written down; none where the store is out of form or the places are too few.
 pub fn index(buffer: &[u8], length: usize, places: &mut [u16]) -> Option<usize> {
     let mut count = 0;
-    let number = testing::index(buffer, length, places, &mut count);
+    let number = ffi::index(buffer, length, places, &mut count);
     (number == 0).then_some(count)
 }
 
 /// A question over the places of a store's cells.
 pub fn look_up(buffer: &[u8], places: &[u16], known: usize, q: Question, h: &mut Handed) {
-    testing::look_up(buffer, places, known, asked(q), h);
+    ffi::look_up(buffer, places, known, asked(q), h);
 }
 
 pub fn looked_up(buffer: &[u8], places: &[u16], known: usize, q: Question) -> Answer {

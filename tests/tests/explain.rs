@@ -1,9 +1,9 @@
 //! What the package `station` says of a refused line, beside the proved parser: something of every line without a form, and
 //! nothing of a line that has one.
 
-use station::testing::line as parsed;
 use station::{Explanation, Refusal, Refused, Template};
 use station_tests::generated::template;
+use station_tests::line::write_line as parsed;
 use station_tests::random::Random;
 use station_tests::samples::{damage, LINES};
 

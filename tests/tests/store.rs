@@ -2,7 +2,7 @@
 
 use second::{Question, Value};
 use station_tests::random::Random;
-use station_tests::store::{ask, cell, index, key, looked_up, put, remove, MOST_CELLS};
+use station_tests::store::{ask, cell, index, index_in, key, looked_up, put, remove, MOST_CELLS};
 use std::collections::BTreeMap;
 
 /// The longest store.
@@ -270,6 +270,35 @@ fn full_store(cells: u16, buffer: usize) -> (Vec<u8>, usize) {
     let length = bytes.len();
     bytes.resize(buffer, PAST);
     (bytes, length)
+}
+
+/// The index of a store, whole: 1 out of form and 16 with too few places write nothing; else the places and their count, and no more.
+#[test]
+fn the_index_with_every_number_of_places() {
+    for cells in [0, 1, 2, 40, MOST_CELLS as u16] {
+        let (mut buffer, length) = full_store(cells, LIMIT + 10);
+        let all = usize::from(cells);
+        let starts: Vec<u16> = (0..cells).map(|n| n * 12).collect();
+        for room in [0, 1, all.saturating_sub(1), all, all + 1, MOST_CELLS + 1] {
+            let (mut places, mut count) = (vec![9; room], 7);
+            let number = index_in(&buffer, length, &mut places, &mut count);
+            if room < all {
+                assert_eq!((number, count), (16, 7));
+                assert_eq!(places, vec![9; room]);
+            } else {
+                assert_eq!((number, count), (0, all));
+                assert_eq!(places[..all], starts);
+                assert_eq!(places[all..], vec![9; room - all]);
+            }
+        }
+        let (mut places, mut count) = (vec![9; MOST_CELLS], 7);
+        if 0 < length {
+            buffer[length - 12] = 0;
+        }
+        let broken = if 0 < length { length } else { 1 };
+        assert_eq!(index_in(&buffer, broken, &mut places, &mut count), 1);
+        assert_eq!((places, count), (vec![9; MOST_CELLS], 7));
+    }
 }
 
 /// Stores of 0, 1 and 5,461 cells: every cell is found, and edits at the start, the middle and the end.

@@ -19,7 +19,7 @@ use Rattle.scan.specs.Run.{span}
 use Rattle.scan.specs.Line.{byteAt, byteIs, window}
 use Rattle.scan.specs.readers.Digits.{digitsAt, numberAt}
 use Rattle.scan.specs.Words.{standsAt, firstOf}
-use Rattle.scan.proofs.OnwardLaws.{picked, tested}
+use Rattle.scan.proofs.TestLaws.{picked, tested}
 use Rattle.scan.proofs.DigitLaws.{digits-power}
 use Rattle.scan.proofs.NumberLaws.{Counts, Within, number-within}
 use Rattle.scan.proofs.RunLaws.{length-span, byte-within}
@@ -42,7 +42,7 @@ use Rattle.arguments.specs.readers.Index.{loopWord, variableWord, variab
 use Rattle.arguments.specs.readers.Operand.{stringEnd, stringAt, entryOf, recordOf, cellOf, cellAt, wholeAt, numberedOf, numberedAt, names, namedAt, numberOr, operandAt}
 use Rattle.arguments.specs.Admitted.{countOf, admits}
 use Rattle.arguments.specs.readers.Argument.{filteredAt, filters, argumentOf, argumentAt}
-use Rattle.arguments.specs.Parameter.{parameterOf}
+use Rattle.arguments.specs.inner.Parameter.{parameterOf}
 pub use Rattle.arguments.proofs.Bounds.{Between, QuantityWithin, IndexWithin, StringWithin, OperandWithin, ArgumentWithin, questionsOf}
 
 -- what is read from `from` on lies within its limits and moves on

@@ -1,4 +1,4 @@
--- Which filters may follow an operand. Assumes nothing.
+-- Which filters may follow an operand.
 use mathlib.Core.Bool.{Bool, true, false}
 use Rattle.arguments.specs.declared.operand.Operand.{Operand}
 use Rattle.arguments.specs.declared.operand.Operand.the-variants.{Number, Text, IntegerVariable, DecimalVariable, StringVariable, PageNumber, LineNumber, LoopCounter, RecordElement, EntryElement, Parameter, Record, Entry}

@@ -1,8 +1,8 @@
--- Laws of `sets`, of room, and of the loops that copy, fill and move: d is what the buffer b holds after j steps.
+-- Laws of `set`, `sets` and `map`, of room, and of the loops that copy, fill and move: d is what the buffer b holds after j steps.
 use mathlib.Core.Path.{_≡_, refl, sym, ap, _∙_}
-use mathlib.Core.List.{List, [], _∷_, _++_}
+use mathlib.Core.List.{List, [], _∷_, _++_, map}
 use mathlib.Core.Bool.{Bool, true, false, cond}
-use Prim.Native.Nat.{ℕ, suc, _+_, _-_, _≤_, _<_}
+use Prim.Native.Nat.{ℕ, zero, suc, _+_, _-_, _≤_, _<_}
 use native.Mathlib.Nat.{add-zero, add-suc, le-antisymm}
 use native.Mathlib.Numerals.{add-one}
 use native.Mathlib.Omega.{arith}
@@ -38,6 +38,22 @@ module _ {A : Type 0} where
   pub getD-behind : (v b : List A) (i n : ℕ) (z : A) → n + length v ≤ i → getD (sets b n v) i z ≡ getD b i z
   getD-behind [] b i n z h = refl
   getD-behind (y ∷ v) b i n z h = getD-behind v (set b n y) i (suc n) z (omega arith) ∙ getD-set-other b n i y z (λ e. omega arith)
+
+-- a function on each element, of what is stored and of a part
+module _ {A B : Type 0} (f : A → B) where
+  pub map-set : (l : List A) (i : ℕ) (x : A) → map f (set l i x) ≡ set (map f l) i (f x)
+  map-set [] i x = refl
+  map-set (y ∷ l) zero x = refl
+  map-set (y ∷ l) (suc i) x = ap (λ (k : List B). f y ∷ k) (map-set l i x)
+
+  pub map-sets : (l : List A) (i : ℕ) (v : List A) → map f (sets l i v) ≡ sets (map f l) i (map f v)
+  map-sets l i [] = refl
+  map-sets l i (x ∷ v) = map-sets (set l i x) (suc i) v ∙ ap (λ (k : List B). sets k (suc i) (map f v)) (map-set l i x)
+
+  pub map-take : (n : ℕ) (l : List A) → map f (take n l) ≡ take n (map f l)
+  map-take zero l = refl
+  map-take (suc n) [] = refl
+  map-take (suc n) (x ∷ l) = ap (λ (k : List B). f x ∷ k) (map-take n l)
 
 -- a copy from the first element on: more, and all
 module _ {A : Type 0} (d b s : List A) (n j : ℕ) (inv : d ≡ sets b n (take j s)) where

@@ -15,12 +15,13 @@ use Rattle.meaning.specs.Answer.{missing}
 use Rattle.cells.specs.declared.Answered.{Answered}
 use Rattle.cells.specs.declared.Answered.the-variants.{Missing, Integer, Decimal, Text, Highest}
 use Rattle.cells.specs.Bytes.{pair, pairAt}
-use Rattle.cells.specs.Cell.{Cell, keyBytes, number, numberOf, keyAt, cellAllowed, cellBytes}
+use Rattle.cells.specs.Cell.{Cell, keyBytes, number, keyNumber, keyAt, cellAllowed, cellBytes}
 use Rattle.cells.specs.Store.{allowed}
 use Rattle.cells.specs.Asking.{lookup, found, highestOf, meant, InStore}
 use Rattle.cells.specs.inner.Index as I
 use Rattle.cells.specs.inner.Index.{Ready, Position, ValueAt, CellAnswer, LastOf, nothing, last}
-use Rattle.cells.proofs.Locating.{held-some, pair-at, keys, key-here, keys-rise, allowed-in, Located, locate, cell-inside, sorted, lower-keys, higher-keys}
+use Rattle.cells.proofs.BigEndian.{pair-at}
+use Rattle.cells.proofs.Locating.{held-some, keys, key-here, keys-rise, allowed-in, Located, locate, cell-inside, sorted, lower-keys, higher-keys}
 
 head-length : (c : Cell) → 8 ≤ length (cellBytes c)
 unfolding cellBytes keyBytes pair
@@ -46,15 +47,15 @@ pub lookup-none : (k : ℕ) (cs : List Cell) → ((i : ℕ) → i < length cs �
 unfolding lookup
 lookup-none k [] h = refl
 lookup-none k (c ∷ cs) h =
-    rw (ne-eqb (numberOf c) k (h 0 (omega arith))) (lookup-none k cs (λ i l. h (suc i) (omega arith)))
+    rw (ne-eqb (keyNumber c) k (h 0 (omega arith))) (lookup-none k cs (λ i l. h (suc i) (omega arith)))
 
-lookup-at : (k : ℕ) (xs : List Cell) (c : Cell) (ys : List Cell) → ((i : ℕ) → i < length xs → getD (keys (xs ++ (c ∷ ys))) i 0 ≡ k → ⊥) → numberOf c ≡ k → lookup k (xs ++ (c ∷ ys)) ≡ some c
+lookup-at : (k : ℕ) (xs : List Cell) (c : Cell) (ys : List Cell) → ((i : ℕ) → i < length xs → getD (keys (xs ++ (c ∷ ys))) i 0 ≡ k → ⊥) → keyNumber c ≡ k → lookup k (xs ++ (c ∷ ys)) ≡ some c
 unfolding lookup
 lookup-at k [] c ys h e = rw (eq-eqb _ _ e)
 lookup-at k (x ∷ xs) c ys h e =
-    rw (ne-eqb (numberOf x) k (h 0 (omega arith))) (lookup-at k xs c ys (λ i l. h (suc i) (omega arith)) e)
+    rw (ne-eqb (keyNumber x) k (h 0 (omega arith))) (lookup-at k xs c ys (λ i l. h (suc i) (omega arith)) e)
 
-pub lookup-here : (k : ℕ) (cs xs : List Cell) (c : Cell) (ys : List Cell) → cs ≡ xs ++ (c ∷ ys) → ((i : ℕ) → i < length xs → getD (keys cs) i 0 ≡ k → ⊥) → numberOf c ≡ k → lookup k cs ≡ some c
+pub lookup-here : (k : ℕ) (cs xs : List Cell) (c : Cell) (ys : List Cell) → cs ≡ xs ++ (c ∷ ys) → ((i : ℕ) → i < length xs → getD (keys cs) i 0 ≡ k → ⊥) → keyNumber c ≡ k → lookup k cs ≡ some c
 lookup-here k cs xs c ys s h e =
     ap (lookup k) s ∙ lookup-at k xs c ys (λ i l q. h i l (ap (λ (z : List Cell). getD (keys z) i 0) s ∙ q)) e
 
@@ -148,16 +149,16 @@ module _ (m : Cell → Bool) (f : Cell → ℕ) where
 
 -- the cells that are meant are those whose keys lie in a range, and the number rises with the key
 pub record Range (m : Cell → Bool) (f : Cell → ℕ) (low end : ℕ) : Type 0 where
-  pub from : (c : Cell) → cellAllowed c ≡ true → m c ≡ true → low ≤ numberOf c
-  pub below : (c : Cell) → cellAllowed c ≡ true → m c ≡ true → numberOf c < end
-  pub means : (c : Cell) → cellAllowed c ≡ true → low ≤ numberOf c → numberOf c < end → m c ≡ true
-  pub rises : (c d : Cell) → cellAllowed c ≡ true → cellAllowed d ≡ true → m c ≡ true → m d ≡ true → numberOf c ≤ numberOf d → f c ≤ f d
+  pub from : (c : Cell) → cellAllowed c ≡ true → m c ≡ true → low ≤ keyNumber c
+  pub below : (c : Cell) → cellAllowed c ≡ true → m c ≡ true → keyNumber c < end
+  pub means : (c : Cell) → cellAllowed c ≡ true → low ≤ keyNumber c → keyNumber c < end → m c ≡ true
+  pub rises : (c d : Cell) → cellAllowed c ≡ true → cellAllowed d ≡ true → m c ≡ true → m d ≡ true → keyNumber c ≤ keyNumber d → f c ≤ f d
 
 pub highest-in : (m : Cell → Bool) (f : Cell → ℕ) (low end offset : ℕ) → Range m f low end → ((c : Cell) → f c ≡ pairAt (cellBytes c) offset) → (cs : List Cell) → allowed cs ≡ true → (r : ℕ) → LastOf cs low end offset r → r ≡ highestOf m f cs
 highest-in m f low end offset g o cs a r (nothing n) =
     sym (highest-none m f cs (each-split (λ c. m c ≡ false) cs (λ xs c ys e. go c (allowed-in cs xs c ys a e) (n xs c ys e) (m c) refl)))
   where
-    go : (c : Cell) → cellAllowed c ≡ true → (low ≤ numberOf c → numberOf c < end → ⊥) → (t : Bool) → m c ≡ t → t ≡ false
+    go : (c : Cell) → cellAllowed c ≡ true → (low ≤ keyNumber c → keyNumber c < end → ⊥) → (t : Bool) → m c ≡ t → t ≡ false
     go c b x true e = absurd (x (g .from c b e) (g .below c b e))
     go c b x false e = refl
 highest-in m f low end offset g o cs a r (last xs c ys s l h e n) =
@@ -170,7 +171,7 @@ highest-in m f low end offset g o cs a r (last xs c ys s l h e n) =
 -- the answers of `highest`
 module _ (b index : List ℕ) (count low end offset p : ℕ) (q : Position b index count end p) where
   -- a cell whose key is below the end stands before the position
-  stands-before : (n : ℕ) (cs : List Cell) → Ready b n index count cs → (xs : List Cell) (c : Cell) (ys : List Cell) → cs ≡ xs ++ (c ∷ ys) → numberOf c < end → length xs < p
+  stands-before : (n : ℕ) (cs : List Cell) → Ready b n index count cs → (xs : List Cell) (c : Cell) (ys : List Cell) → cs ≡ xs ++ (c ∷ ys) → keyNumber c < end → length xs < p
   stands-before n cs r xs c ys e h =
       split-at (length xs) p (λ a. a) (λ a. absurd (wrong (omega arith))) (λ a. absurd (wrong (omega arith)))
     where
@@ -190,11 +191,11 @@ module _ (b index : List ℕ) (count low end offset p : ℕ) (q : Position b ind
       at-last : Located b index cs (p - 1)
       at-last = locate b n index count cs r (p - 1) (omega (arith, few))
 
-      last-key : key ≡ numberOf (at-last .picked .cell)
+      last-key : key ≡ keyNumber (at-last .picked .cell)
       last-key = ke (omega (arith, at-last .room)) ∙ ap (λ (x : ℕ). number (keyAt b (x + 1))) pl ∙ at-last .key ∙ at-last .number
 
       -- it is the highest key below the end
-      highest-key : (xs : List Cell) (c : Cell) (ys : List Cell) → cs ≡ xs ++ (c ∷ ys) → numberOf c < end → numberOf c ≤ numberOf (at-last .picked .cell)
+      highest-key : (xs : List Cell) (c : Cell) (ys : List Cell) → cs ≡ xs ++ (c ∷ ys) → keyNumber c < end → keyNumber c ≤ keyNumber (at-last .picked .cell)
       highest-key xs c ys e u =
           let v : length xs < p = stands-before n cs r xs c ys e u in
           let k = key-here cs xs c ys e in

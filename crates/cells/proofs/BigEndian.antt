@@ -9,9 +9,9 @@ use borrow.Author.Tests.{lt-ltb, le-ltb, eqb-true, eq-eqb}
 use lib.Dec.{T, ltb}
 use lib.IntN.{ℤ, pos, negsuc, natAbs}
 use lib.ListN.{length, getD, drop}
-use lib.Seq.{drop-cons, drop-append-seam}
+use lib.Seq.{drop-cons, drop-append-seam, getD-drop}
 use Rattle.cells.specs.Cell.{number, keyAt}
-use Rattle.cells.specs.Bytes.{pair, quad, octet, pairAt, quadAt, octetAt, unsigned, signed, begins}
+use Rattle.cells.specs.Bytes.{pair, quad, octet, pairAt, quadAt, octetAt, inComplement, fromComplement, begins}
 
 -- every element is a byte
 abbrev pub Bytes : List ℕ → Type 0
@@ -56,18 +56,18 @@ quad-reads n = omega arith
 pub octet-reads : (n : ℕ) → n / 4294967296 * 4294967296 + n % 4294967296 ≡ n
 octet-reads n = omega arith
 
-pub signed-unsigned : (m : ℕ) (z : ℤ) → 2 * natAbs z < m → signed m (unsigned m z) ≡ z
-unfolding signed unsigned
+pub signed-unsigned : (m : ℕ) (z : ℤ) → 2 * natAbs z < m → fromComplement m (inComplement m z) ≡ z
+unfolding fromComplement inComplement
 signed-unsigned m (pos n) h = rw (lt-ltb (2 * n) m (omega arith))
 signed-unsigned m (negsuc n) h = rw (le-ltb (2 * (m - suc n)) m (omega arith)) (ap negsuc (omega arith))
 
 -- ---- writing what was read
 
-pub unsigned-signed : (m n : ℕ) → n < m → unsigned m (signed m n) ≡ n
-unfolding signed unsigned
+pub unsigned-signed : (m n : ℕ) → n < m → inComplement m (fromComplement m n) ≡ n
+unfolding fromComplement inComplement
 unsigned-signed m n h = go (ltb (2 * n) m)
   where
-    go : (t : Bool) → unsigned m (cond t (pos n) (negsuc (m - suc n))) ≡ n
+    go : (t : Bool) → inComplement m (cond t (pos n) (negsuc (m - suc n))) ≡ n
     go true = refl
     go false = omega arith
 
@@ -118,3 +118,40 @@ module _ (s : List ℕ) (bytes : Bytes s) where
       let m : (quadAt s i * 4294967296 + quadAt s (i + 4)) % 4294967296 ≡ quadAt s (i + 4) = omega (arith, quad-below (i + 4)) in
       let j : i + 8 ≡ i + 4 + 4 = omega arith in
       rw (d, m, append-assoc (quad (quadAt s i)) (quad (quadAt s (i + 4))) (drop (i + 8) s), j, quad-back (i + 4) (omega arith)) (quad-back i (omega arith))
+
+-- ---- reading at a place is reading at the front of what begins there
+
+module _ (b : List ℕ) (at : ℕ) where
+  read-at : (i : ℕ) → getD (drop at b) i 0 ≡ getD b (at + i) 0
+  read-at i = getD-drop at b i 0
+
+  pub pair-at : (i : ℕ) → pairAt (drop at b) i ≡ pairAt b (at + i)
+  unfolding pairAt
+  pair-at i =
+      let e : at + (i + 1) ≡ at + i + 1 = omega arith in
+      rw (read-at i, read-at (i + 1), e)
+
+  pub quad-at : (i : ℕ) → quadAt (drop at b) i ≡ quadAt b (at + i)
+  unfolding quadAt
+  quad-at i =
+      let e : at + (i + 2) ≡ at + i + 2 = omega arith in
+      rw (pair-at i, pair-at (i + 2), e)
+
+  pub octet-at : (i : ℕ) → octetAt (drop at b) i ≡ octetAt b (at + i)
+  unfolding octetAt
+  octet-at i =
+      let e : at + (i + 4) ≡ at + i + 4 = omega arith in
+      rw (quad-at i, quad-at (i + 4), e)
+
+  pub key-at : keyAt (drop at b) 1 ≡ keyAt b (at + 1)
+  unfolding keyAt
+  key-at =
+      let e : at + (1 + 1) ≡ at + 1 + 1 = omega arith in
+      let f : at + (1 + 3) ≡ at + 1 + 3 = omega arith in
+      let g : at + (1 + 5) ≡ at + 1 + 5 = omega arith in
+      λ i. record {
+        datasource = read-at 1 i;
+        parameter = (pair-at (1 + 1) ∙ ap (pairAt b) e) i;
+        recordNumber = (pair-at (1 + 3) ∙ ap (pairAt b) f) i;
+        entryNumber = (pair-at (1 + 5) ∙ ap (pairAt b) g) i;
+      }

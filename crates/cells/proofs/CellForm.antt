@@ -11,11 +11,13 @@ use lib.IntN.{ℤ, natAbs}
 use lib.ListN.{length, getD, take, drop, replicate, length-append, length-replicate, length-drop, take-append-drop}
 use lib.Seq.{take-append-seam, drop-append-seam, length-take-le, drop-drop, take-at}
 use Rattle.meaning.specs.Answer.{Value, integer, decimal, string}
+use Rattle.meaning.specs.Answer as A
+use Rattle.numbers.specs.declared.Quantity.the-variants as Q
 use Rattle.numbers.specs.Range.{integerLimit, decimalLimit, within}
-use Rattle.cells.specs.Bytes.{pair, quad, octet, pairAt, quadAt, octetAt, unsigned, signed, word, long, begins}
-use Rattle.cells.specs.Cell.{Key, Cell, between, keyAllowed, keyBytes, number, each, printable, valueAllowed, cellAllowed, kindOf, integerKind, decimalKind, stringKind, valueBytes, cellBytes, keyAt, valueOf, cellOf, front}
-use Rattle.cells.specs.inner.Tests.{sizeOf, zeros, stringFormed, valueFormed, sizeFound, frontSize, Sized}
-use Rattle.cells.proofs.BigEndian.{Bytes, and-true, both, begins-self, begins-says, pair-reads, quad-reads, octet-reads, signed-unsigned, unsigned-signed, quad-below, octet-below, next, pair-back, quad-back, octet-back}
+use Rattle.cells.specs.Bytes.{pair, quad, octet, pairAt, quadAt, octetAt, inComplement, fromComplement, word, long, begins}
+use Rattle.cells.specs.Cell.{Key, between, keyAllowed, keyBytes, number, each, printable, Kind, integers, decimals, strings, kinds, rowIn, heldIn, kindOf, valueAllowed, valueBytes, integerKind, decimalKind, stringKind, Cell, cellAllowed, cellBytes, keyAt, cellBy, cellOf, passing, front}
+use Rattle.cells.specs.inner.Tests.{sizeBy, sizeOf, zeros, stringFormed, valueFormed, sizeFound, frontSize, Sized}
+use Rattle.cells.proofs.BigEndian.{Bytes, and-true, both, begins-self, begins-says, pair-reads, quad-reads, octet-reads, signed-unsigned, unsigned-signed, quad-below, octet-below, next, pair-back, quad-back, octet-back, quad-at, octet-at}
 
 -- ---- the limits of a key
 
@@ -82,20 +84,79 @@ cell-key c r =
       entryNumber = pair-reads (c .key .entryNumber) i;
     }
 
-pub value-reads : (k : Key) (v : Value) (r : List ℕ) → valueAllowed v ≡ true → valueOf (cellBytes (record { key = k; value = v }) ++ r) ≡ v
-unfolding cellBytes valueOf keyBytes valueBytes valueAllowed kindOf pair quad octet pairAt quadAt octetAt within
-value-reads k (integer z) r e =
-    let h : natAbs z ≤ integerLimit = leb-true _ _ e in
-    rw (quad-reads (unsigned word z)) (ap integer (signed-unsigned word z (omega arith)))
-value-reads k (decimal z) r e =
-    let h : natAbs z ≤ decimalLimit = leb-true _ _ e in
-    rw (quad-reads (unsigned long z / 4294967296), quad-reads (unsigned long z % 4294967296), octet-reads (unsigned long z))
-    (ap decimal (signed-unsigned long z (omega arith)))
-value-reads k (string s) r e =
-    ap string (ap (take (length s)) (append-assoc s (replicate (16 - length s) 0) r) ∙ take-append-seam s (replicate (16 - length s) 0 ++ r))
+-- ---- the rows of the table of kinds
 
-pub cell-reads : (c : Cell) (r : List ℕ) → valueAllowed (c .value) ≡ true → cellOf (cellBytes c ++ r) ≡ c
-cell-reads c r e = λ i. record { key = cell-key c r i; value = value-reads (c .key) (c .value) r e i }
+-- the columns of a row agree: a value's bytes are as many as the row says, and are read back
+pub record Sound (k : Kind) : Type 0 where
+  pub sized : (x : k .Body) → k .allowed x ≡ true → length (k .bytes x) ≡ k .size
+  pub reads : (x : k .Body) (r : List ℕ) → k .allowed x ≡ true → k .read (k .bytes x ++ r) ≡ x
+
+integers-sound : Sound integers
+unfolding pair quad pairAt quadAt within
+integers-sound =
+    record {
+      sized = λ z e. refl;
+      reads = λ z r e.
+          let h : natAbs z ≤ integerLimit = leb-true _ _ e in
+          rw (quad-reads (inComplement word z)) (signed-unsigned word z (omega arith));
+    }
+
+decimals-sound : Sound decimals
+unfolding pair quad octet pairAt quadAt octetAt within
+decimals-sound =
+    record {
+      sized = λ z e. refl;
+      reads = λ z r e.
+          let h : natAbs z ≤ decimalLimit = leb-true _ _ e in
+          rw (quad-reads (inComplement long z / 4294967296), quad-reads (inComplement long z % 4294967296), octet-reads (inComplement long z))
+          (signed-unsigned long z (omega arith));
+    }
+
+strings-sound : Sound strings
+strings-sound =
+    record {
+      sized = λ t e.
+          let h : length t ≤ 16 = leb-true _ _ (and-true (leb (length t) 16) (printable t) e .0) in
+          simp (length-append, length-replicate) (omega arith);
+      reads = λ t r e. ap (take (length t)) (append-assoc t (replicate (16 - length t) 0) r) ∙ take-append-seam t (replicate (16 - length t) 0 ++ r);
+    }
+
+row-sound : (v : Value) → Sound (heldIn v .kind)
+row-sound (A.number (Q.Integer z)) = integers-sound
+row-sound (A.number (Q.Decimal z)) = decimals-sound
+row-sound (string t) = strings-sound
+
+row-found : (v : Value) → rowIn kinds (kindOf v) ≡ some (heldIn v .kind)
+unfolding kindOf
+row-found (A.number (Q.Integer z)) = refl
+row-found (A.number (Q.Decimal z)) = refl
+row-found (string t) = refl
+
+row-value : (v : Value) → heldIn v .kind .value (heldIn v .body) ≡ v
+row-value (A.number (Q.Integer z)) = refl
+row-value (A.number (Q.Decimal z)) = refl
+row-value (string t) = refl
+
+-- ---- a cell read back
+
+value-behind : (c : Cell) (r : List ℕ) → drop 8 (cellBytes c ++ r) ≡ valueBytes (c .value) ++ r
+unfolding cellBytes keyBytes pair
+value-behind c r = refl
+
+value-reads : (v : Value) (r : List ℕ) → valueAllowed v ≡ true → heldIn v .kind .value (heldIn v .kind .read (valueBytes v ++ r)) ≡ v
+unfolding valueAllowed valueBytes
+value-reads v r e = ap (heldIn v .kind .value) (row-sound v .reads (heldIn v .body) r e) ∙ row-value v
+
+pub first-byte : (c : Cell) (r : List ℕ) → getD (cellBytes c ++ r) 0 0 ≡ kindOf (c .value)
+unfolding cellBytes
+first-byte c r = refl
+
+pub cell-reads : (c : Cell) (r : List ℕ) → valueAllowed (c .value) ≡ true → cellOf (cellBytes c ++ r) ≡ some c
+unfolding cellOf cellBy
+cell-reads c r e =
+    let k : Kind = heldIn (c .value) .kind in
+    let v : k .value (k .read (drop 8 (cellBytes c ++ r))) ≡ c .value = ap (λ (s : List ℕ). k .value (k .read s)) (value-behind c r) ∙ value-reads (c .value) r e in
+    ap (λ (o : Option Kind). cellBy o (cellBytes c ++ r)) (ap (rowIn kinds) (first-byte c r) ∙ row-found (c .value)) ∙ (λ i. some (record { key = cell-key c r i; value = v i }))
 
 -- the cell whose bytes a list begins with is read, and only that
 pub key-allowed : (c : Cell) → cellAllowed c ≡ true → keyAllowed (c .key) ≡ true
@@ -107,10 +168,18 @@ unfolding cellAllowed
 value-allowed c e = and-true (keyAllowed (c .key)) _ e .1
 
 pub front-cell : (c : Cell) (r : List ℕ) → cellAllowed c ≡ true → front (cellBytes c ++ r) ≡ some c
-unfolding front
+unfolding front passing
 front-cell c r e =
-    ap (λ (x : Cell). cond (cellAllowed x && begins (cellBytes x) (cellBytes c ++ r)) (some x) none) (cell-reads c r (value-allowed c e))
-    ∙ rw (e, begins-self (cellBytes c) r)
+    ap (passing (λ b. begins b (cellBytes c ++ r))) (cell-reads c r (value-allowed c e)) ∙ rw (e, begins-self (cellBytes c) r)
+
+pub passing-some : (test : List ℕ → Bool) (o : Option Cell) (c : Cell) → passing test o ≡ some c → (cellAllowed c ≡ true) × (test (cellBytes c) ≡ true)
+unfolding passing
+passing-some test none c e = let z : _≡_ {A = ℕ} 0 1 = cc in absurd (omega arith)
+passing-some test (some d) c e = go (cellAllowed d && test (cellBytes d)) refl e
+  where
+    go : (t : Bool) → cellAllowed d && test (cellBytes d) ≡ t → cond t (some d) none ≡ some c → (cellAllowed c ≡ true) × (test (cellBytes c) ≡ true)
+    go true t q = let w : d ≡ c = cc in subst (λ (x : Cell). (cellAllowed x ≡ true) × (test (cellBytes x) ≡ true)) w (and-true _ _ t)
+    go false t q = let z : _≡_ {A = ℕ} 0 1 = cc in absurd (omega arith)
 
 pub record Front (s : List ℕ) (c : Cell) : Type 0 where
   pub allowed : cellAllowed c ≡ true
@@ -118,28 +187,21 @@ pub record Front (s : List ℕ) (c : Cell) : Type 0 where
 
 pub front-some : (s : List ℕ) (c : Cell) → front s ≡ some c → Front s c
 unfolding front
-front-some s c e = go (cellAllowed (cellOf s) && begins (cellBytes (cellOf s)) s) refl e
-  where
-    go : (t : Bool) → cellAllowed (cellOf s) && begins (cellBytes (cellOf s)) s ≡ t → cond t (some (cellOf s)) none ≡ some c → Front s c
-    go true t q =
-        let h = and-true _ _ t in
-        let w : cellOf s ≡ c = cc in
-        subst (λ (x : Cell). Front s x) w (record { allowed = h .0; bytes = begins-says _ _ (h .1) })
-    go false t q = let z : _≡_ {A = ℕ} 0 1 = cc in absurd (omega arith)
+front-some s c e = let h = passing-some (λ b. begins b s) (cellOf s) c e in record { allowed = h .0; bytes = begins-says _ _ (h .1) }
 
 pub cell-size : (k : Key) (v : Value) → valueAllowed v ≡ true → length (cellBytes (record { key = k; value = v })) ≡ sizeOf (kindOf v)
-unfolding cellBytes keyBytes valueBytes pair quad octet kindOf sizeOf valueAllowed
-cell-size k (integer z) e = refl
-cell-size k (decimal z) e = refl
-cell-size k (string s) e =
-    let h : length s ≤ 16 = leb-true _ _ (and-true _ _ e .0) in
-    simp (length-append, length-replicate) (omega arith)
+unfolding cellBytes keyBytes valueBytes pair sizeOf sizeBy valueAllowed
+cell-size k v e = rw (row-found v) (omega (arith, row-sound v .sized (heldIn v .body) e))
+
+pub known-kind : (v : Value) → 0 < sizeOf (kindOf v)
+unfolding sizeOf sizeBy
+known-kind v = rw (row-found v) (omega arith)
 
 -- a string's length stands behind the key
 pub string-short : (k : Key) (v : Value) (r : List ℕ) → valueAllowed v ≡ true → (kindOf v ≡ integerKind → ⊥) → (kindOf v ≡ decimalKind → ⊥) → getD (cellBytes (record { key = k; value = v }) ++ r) 8 0 ≤ 16
 unfolding cellBytes keyBytes valueBytes pair kindOf valueAllowed
-string-short k (integer z) r e j h = absurd (j refl)
-string-short k (decimal z) r e j h = absurd (h refl)
+string-short k (A.number (Q.Integer z)) r e j h = absurd (j refl)
+string-short k (A.number (Q.Decimal z)) r e j h = absurd (h refl)
 string-short k (string s) r e j h = leb-true _ _ (and-true _ _ e .0)
 
 -- ---- the tests that the code makes
@@ -149,6 +211,11 @@ pub record Formed (s : List ℕ) : Type 0 where
   pub fits : sizeOf (getD s 0 0) ≤ length s
   pub key : keyAllowed (keyAt s 1) ≡ true
   pub value : valueFormed s ≡ true
+
+-- s begins with a cell that has the key at 1
+record FrontOf (s : List ℕ) : Type 0 where
+  value : Value
+  read : front s ≡ some (record { key = keyAt s 1; value = value })
 
 zeros-are : (s : List ℕ) (n : ℕ) → length s ≡ n → zeros s ≡ true → replicate n 0 ≡ s
 unfolding each between
@@ -179,25 +246,23 @@ module _ (s : List ℕ) (bytes : Bytes s) where
       rw (append-assoc (keyBytes (keyAt s 1)) (valueBytes v) (drop n s), e, k, key-back 1 (omega arith))
       (sym (next s 0 (omega arith)))
 
-  read-front : (v : Value) (n : ℕ) → valueOf s ≡ v → 8 ≤ length s → kindOf v ≡ getD s 0 0 → valueBytes v ++ drop n s ≡ drop 8 s → keyAllowed (keyAt s 1) ≡ true → valueAllowed v ≡ true → front s ≡ some (cellOf s)
+  read-front : (v : Value) (n : ℕ) → 8 ≤ length s → kindOf v ≡ getD s 0 0 → valueBytes v ++ drop n s ≡ drop 8 s → keyAllowed (keyAt s 1) ≡ true → valueAllowed v ≡ true → FrontOf s
   unfolding cellAllowed
-  read-front v n w h k e a b =
-      let c : Cell = record { key = keyAt s 1; value = v } in
-      let q : cellOf s ≡ c = ap (λ (x : Value). record { key = keyAt s 1; value = x }) w in
-      ap front (sym (cell-back v n h k e)) ∙ front-cell c (drop n s) (both a b) ∙ ap some (sym q)
+  read-front v n h k e a b =
+      record { value = v; read = ap front (sym (cell-back v n h k e)) ∙ front-cell (record { key = keyAt s 1; value = v }) (drop n s) (both a b) }
 
-  formed-integer : getD s 0 0 ≡ integerKind → 12 ≤ length s → keyAllowed (keyAt s 1) ≡ true → within integerLimit (signed word (quadAt s 8)) ≡ true → front s ≡ some (cellOf s)
-  unfolding valueOf kindOf valueBytes valueAllowed
+  formed-integer : getD s 0 0 ≡ integerKind → 12 ≤ length s → keyAllowed (keyAt s 1) ≡ true → within integerLimit (fromComplement word (quadAt s 8)) ≡ true → FrontOf s
+  unfolding kindOf valueBytes valueAllowed
   formed-integer k h a e =
-      read-front (integer (signed word (quadAt s 8))) 12 (rw k) (omega arith) (sym k) (rw (unsigned-signed word (quadAt s 8) (quad-below s bytes 8)) (quad-back s bytes 8 (omega arith))) a e
+      read-front (integer (fromComplement word (quadAt s 8))) 12 (omega arith) (sym k) (rw (unsigned-signed word (quadAt s 8) (quad-below s bytes 8)) (quad-back s bytes 8 (omega arith))) a e
 
-  formed-decimal : getD s 0 0 ≡ decimalKind → 16 ≤ length s → keyAllowed (keyAt s 1) ≡ true → within decimalLimit (signed long (octetAt s 8)) ≡ true → front s ≡ some (cellOf s)
-  unfolding valueOf kindOf valueBytes valueAllowed
+  formed-decimal : getD s 0 0 ≡ decimalKind → 16 ≤ length s → keyAllowed (keyAt s 1) ≡ true → within decimalLimit (fromComplement long (octetAt s 8)) ≡ true → FrontOf s
+  unfolding kindOf valueBytes valueAllowed
   formed-decimal k h a e =
-      read-front (decimal (signed long (octetAt s 8))) 16 (rw k) (omega arith) (sym k) (rw (unsigned-signed long (octetAt s 8) (octet-below s bytes 8)) (octet-back s bytes 8 (omega arith))) a e
+      read-front (decimal (fromComplement long (octetAt s 8))) 16 (omega arith) (sym k) (rw (unsigned-signed long (octetAt s 8) (octet-below s bytes 8)) (octet-back s bytes 8 (omega arith))) a e
 
-  formed-string : getD s 0 0 ≡ stringKind → 25 ≤ length s → keyAllowed (keyAt s 1) ≡ true → stringFormed s ≡ true → front s ≡ some (cellOf s)
-  unfolding valueOf kindOf valueBytes valueAllowed stringFormed
+  formed-string : getD s 0 0 ≡ stringKind → 25 ≤ length s → keyAllowed (keyAt s 1) ≡ true → stringFormed s ≡ true → FrontOf s
+  unfolding kindOf valueBytes valueAllowed stringFormed
   formed-string k h a e =
       let n = getD s 8 0 in
       let t = and-true (leb n 16) (printable (take n (drop 9 s)) && zeros (take (16 - n) (drop (9 + n) s))) e in
@@ -210,16 +275,16 @@ module _ (s : List ℕ) (bytes : Bytes s) where
       let r : drop 25 s ≡ drop (16 - n) (drop (9 + n) s) = ap (λ (i : ℕ). drop i s) (sym j) ∙ sym (drop-drop (16 - n) (9 + n) s) in
       let q : take n (drop 9 s) ++ drop (9 + n) s ≡ drop 9 s = ap (λ (x : List ℕ). take n (drop 9 s) ++ x) (sym (drop-drop n 9 s)) ∙ take-append-drop n (drop 9 s) in
       let w : replicate (16 - n) 0 ++ drop 25 s ≡ drop (9 + n) s = ap₂ (λ (x y : List ℕ). x ++ y) z r ∙ take-append-drop (16 - n) (drop (9 + n) s) in
-      read-front (string (take n (drop 9 s))) 25 (rw k) (omega arith) (sym k)
+      read-front (string (take n (drop 9 s))) 25 (omega arith) (sym k)
       (rw (m, append-assoc (take n (drop 9 s)) (replicate (16 - n) 0) (drop 25 s), w, q) (sym (next s 8 (omega arith))))
       a
       (rw m (both (t .0) (u .0)))
 
-  pub formed-front : Formed s → front s ≡ some (cellOf s)
-  unfolding sizeOf valueFormed
+  formed-front : Formed s → FrontOf s
+  unfolding sizeOf sizeBy valueFormed
   formed-front f = go (eqb (getD s 0 0) integerKind) refl (eqb (getD s 0 0) decimalKind) refl (eqb (getD s 0 0) stringKind) refl
     where
-      go : (p : Bool) → eqb (getD s 0 0) integerKind ≡ p → (q : Bool) → eqb (getD s 0 0) decimalKind ≡ q → (r : Bool) → eqb (getD s 0 0) stringKind ≡ r → front s ≡ some (cellOf s)
+      go : (p : Bool) → eqb (getD s 0 0) integerKind ≡ p → (q : Bool) → eqb (getD s 0 0) decimalKind ≡ q → (r : Bool) → eqb (getD s 0 0) stringKind ≡ r → FrontOf s
       go true e q e₁ r e₂ = formed-integer (eqb-true _ _ e) (rw e at (f .fits)) (f .key) (rw e at (f .value))
       go false e true e₁ r e₂ = formed-decimal (eqb-true _ _ e₁) (rw (e, e₁) at (f .fits)) (f .key) (rw (e, e₁) at (f .value))
       go false e false e₁ true e₂ = formed-string (eqb-true _ _ e₂) (rw (e, e₁, e₂) at (f .fits)) (f .key) (rw (e, e₁) at (f .value))
@@ -240,23 +305,15 @@ module _ (k : Key) (r : List ℕ) where
   abbrev laid : Value → List ℕ
   laid v = cellBytes (record { key = k; value = v }) ++ r
 
-  pub first-byte : (v : Value) → getD (laid v) 0 0 ≡ kindOf v
-  unfolding cellBytes
-  first-byte v = refl
+  read-integer : (z : ℤ) → valueAllowed (integer z) ≡ true → fromComplement word (quadAt (laid (integer z)) 8) ≡ z
+  unfolding valueAllowed valueBytes
+  read-integer z e =
+      ap (fromComplement word) (sym (quad-at (laid (integer z)) 8 0) ∙ ap (λ (l : List ℕ). quadAt l 0) (value-behind (record { key = k; value = integer z }) r)) ∙ integers-sound .reads z r e
 
-  pub known-kind : (v : Value) → 0 < sizeOf (kindOf v)
-  unfolding kindOf sizeOf
-  known-kind (integer z) = omega arith
-  known-kind (decimal z) = omega arith
-  known-kind (string s) = omega arith
-
-  read-integer : (z : ℤ) → valueAllowed (integer z) ≡ true → signed word (quadAt (laid (integer z)) 8) ≡ z
-  unfolding valueOf cellBytes kindOf
-  read-integer z e = let w = value-reads k (integer z) r e in cc
-
-  read-decimal : (z : ℤ) → valueAllowed (decimal z) ≡ true → signed long (octetAt (laid (decimal z)) 8) ≡ z
-  unfolding valueOf cellBytes kindOf
-  read-decimal z e = let w = value-reads k (decimal z) r e in cc
+  read-decimal : (z : ℤ) → valueAllowed (decimal z) ≡ true → fromComplement long (octetAt (laid (decimal z)) 8) ≡ z
+  unfolding valueAllowed valueBytes
+  read-decimal z e =
+      ap (fromComplement long) (sym (octet-at (laid (decimal z)) 8 0) ∙ ap (λ (l : List ℕ). octetAt l 0) (value-behind (record { key = k; value = decimal z }) r)) ∙ decimals-sound .reads z r e
 
   formed-text : (s : List ℕ) → valueAllowed (string s) ≡ true → stringFormed (laid (string s)) ≡ true
   unfolding valueAllowed cellBytes kindOf keyBytes valueBytes pair
@@ -266,15 +323,15 @@ module _ (k : Key) (r : List ℕ) where
 
   formed-value : (v : Value) → valueAllowed v ≡ true → valueFormed (laid v) ≡ true
   unfolding valueFormed kindOf valueAllowed
-  formed-value (integer z) e = rw (first-byte (integer z), read-integer z e) e
-  formed-value (decimal z) e = rw (first-byte (decimal z), read-decimal z e) e
-  formed-value (string s) e = rw (first-byte (string s)) (formed-text s e)
+  formed-value (A.number (Q.Integer z)) e = rw (first-byte (record { key = k; value = integer z }) r, read-integer z e) e
+  formed-value (A.number (Q.Decimal z)) e = rw (first-byte (record { key = k; value = decimal z }) r, read-decimal z e) e
+  formed-value (string s) e = rw (first-byte (record { key = k; value = string s }) r) (formed-text s e)
 
   cell-formed : (v : Value) → keyAllowed k ≡ true → valueAllowed v ≡ true → Formed (laid v)
   cell-formed v a b =
       record {
-        known = rw (first-byte v) (known-kind v);
-        fits = rw (first-byte v) (omega (arith, length-append (cellBytes (record { key = k; value = v })) r, cell-size k v b));
+        known = rw (first-byte (record { key = k; value = v }) r) (known-kind v);
+        fits = rw (first-byte (record { key = k; value = v }) r) (omega (arith, length-append (cellBytes (record { key = k; value = v })) r, cell-size k v b));
         key = rw (cell-key (record { key = k; value = v }) r) a;
         value = formed-value v b;
       }
@@ -287,36 +344,41 @@ front-formed s c e =
 -- ---- the size of the cell
 
 pub size-integer : (k : ℕ) → k ≡ integerKind → sizeOf k ≡ 12
-unfolding sizeOf
+unfolding sizeOf sizeBy
 size-integer k e = rw e
 
 pub size-decimal : (k : ℕ) → k ≡ decimalKind → sizeOf k ≡ 16
-unfolding sizeOf
+unfolding sizeOf sizeBy
 size-decimal k e = rw e
 
-pub size-string : (k : ℕ) → (k ≡ integerKind → ⊥) → (k ≡ decimalKind → ⊥) → 0 < sizeOf k → sizeOf k ≡ 25
-unfolding sizeOf
-size-string k a b h = go (eqb k stringKind) refl
+-- a kind that is none of the others is the last
+pub string-row : (k : ℕ) → (k ≡ integerKind → ⊥) → (k ≡ decimalKind → ⊥) → 0 < sizeOf k → rowIn kinds k ≡ some strings
+unfolding sizeOf sizeBy
+string-row k a b h = go (eqb k stringKind) refl
   where
-    go : (t : Bool) → eqb k stringKind ≡ t → sizeOf k ≡ 25
+    go : (t : Bool) → eqb k stringKind ≡ t → rowIn kinds k ≡ some strings
     go true e = rw (ne-eqb _ _ a, ne-eqb _ _ b, e)
     go false e = let z : 0 < 0 = rw (ne-eqb _ _ a, ne-eqb _ _ b, e) at h in absurd (omega arith)
 
+pub size-string : (k : ℕ) → (k ≡ integerKind → ⊥) → (k ≡ decimalKind → ⊥) → 0 < sizeOf k → sizeOf k ≡ 25
+unfolding sizeOf sizeBy
+size-string k a b h = ap sizeBy (string-row k a b h)
+
 pub size-least : (k : ℕ) → 0 < sizeOf k → 12 ≤ sizeOf k
-unfolding sizeOf
+unfolding sizeOf sizeBy
 size-least k h = go (eqb k integerKind) (eqb k decimalKind) (eqb k stringKind) h
   where
-    go : (p q r : Bool) → 0 < cond p 12 (cond q 16 (cond r 25 0)) → 12 ≤ cond p 12 (cond q 16 (cond r 25 0))
+    go : (p q r : Bool) → 0 < sizeBy (cond p (some integers) (cond q (some decimals) (cond r (some strings) none))) → 12 ≤ sizeBy (cond p (some integers) (cond q (some decimals) (cond r (some strings) none)))
     go true q r h = omega arith
     go false true r h = omega arith
     go false false true h = omega arith
     go false false false h = absurd (omega arith)
 
 pub size-most : (k : ℕ) → sizeOf k ≤ 25
-unfolding sizeOf
+unfolding sizeOf sizeBy
 size-most k = go (eqb k integerKind) (eqb k decimalKind) (eqb k stringKind)
   where
-    go : (p q r : Bool) → cond p 12 (cond q 16 (cond r 25 0)) ≤ 25
+    go : (p q r : Bool) → sizeBy (cond p (some integers) (cond q (some decimals) (cond r (some strings) none))) ≤ 25
     go true q r = omega arith
     go false true r = omega arith
     go false false true = omega arith
@@ -335,10 +397,11 @@ module _ (s : List ℕ) where
   pub one-cell : Bytes s → Formed s → Sized s (sizeOf (getD s 0 0))
   unfolding frontSize sizeFound
   one-cell b f =
-      let e = formed-front s b f in
-      let g = front-some s (cellOf s) e in
+      let h = formed-front s b f in
+      let c : Cell = record { key = keyAt s 1; value = h .value } in
+      let g = front-some s c (h .read) in
       record {
-        size = rw e (ap (λ (x : List ℕ). sizeOf (getD x 0 0)) (g .bytes) ∙ ap sizeOf (first-byte (keyAt s 1) (drop (length (cellBytes (cellOf s))) s) (valueOf s)) ∙ sym (cell-size (keyAt s 1) (valueOf s) (value-allowed (cellOf s) (g .allowed))));
+        size = rw (h .read) (ap (λ (x : List ℕ). sizeOf (getD x 0 0)) (g .bytes) ∙ ap sizeOf (first-byte c (drop (length (cellBytes c)) s)) ∙ sym (cell-size (c .key) (c .value) (value-allowed c (g .allowed))));
         inside = f .fits;
         least = size-least _;
       }

@@ -8,9 +8,9 @@ use borrow.Author.Tests.{le-leb, lt-leb, lt-ltb, le-ltb, eq-eqb, ne-eqb, not-tru
 use lib.Dec.{leb, ltb}
 use lib.ListN.{length, getD, take, drop, drop-of-length-le}
 use Rattle.numbers.specs.Range.{integerLimit, decimalLimit, within}
-use Rattle.cells.specs.Bytes.{quadAt, octetAt, signed, word, long}
+use Rattle.cells.specs.Bytes.{quadAt, octetAt, fromComplement, word, long}
 use Rattle.cells.specs.Cell.{between, each, printable, integerKind, decimalKind, stringKind}
-use Rattle.cells.specs.inner.Tests.{sizeOf, zeros, stringFormed, valueFormed}
+use Rattle.cells.specs.inner.Tests.{sizeBy, sizeOf, zeros, stringFormed, valueFormed}
 use Rattle.cells.proofs.BigEndian.{next}
 
 pub between-low : (low high n : ℕ) → n < low → between low high n ≡ false
@@ -45,12 +45,12 @@ module _ (p : ℕ → Bool) (s : List ℕ) (i : ℕ) where
 
 -- the sign and magnitude of a number in two's complement
 module _ (top n limit : ℕ) where
-  pub allowed-positive : n ≤ top / 2 → leb n limit ≡ within limit (signed (top + 1) n)
-  unfolding signed within
+  pub allowed-positive : n ≤ top / 2 → leb n limit ≡ within limit (fromComplement (top + 1) n)
+  unfolding fromComplement within
   allowed-positive h = rw (lt-ltb (2 * n) (top + 1) (omega arith))
 
-  pub allowed-negative : n ≤ top → top / 2 < n → ltb (top - n) limit ≡ within limit (signed (top + 1) n)
-  unfolding signed within
+  pub allowed-negative : n ≤ top → top / 2 < n → ltb (top - n) limit ≡ within limit (fromComplement (top + 1) n)
+  unfolding fromComplement within
   allowed-negative h k =
       let d : top + 1 - suc n ≡ top - n = omega arith in
       rw (le-ltb (2 * n) (top + 1) (omega arith), d)
@@ -79,27 +79,27 @@ module _ (s : List ℕ) (n : ℕ) (e : n ≡ getD s 8 0) where
 -- the size and the value by the kind
 module _ (k : ℕ) where
   pub size-of-integer : k ≡ integerKind → 12 ≡ sizeOf k
-  unfolding sizeOf
+  unfolding sizeOf sizeBy
   size-of-integer e = rw (eq-eqb _ _ e)
 
   pub size-of-decimal : (k ≡ integerKind → ⊥) → k ≡ decimalKind → 16 ≡ sizeOf k
-  unfolding sizeOf
+  unfolding sizeOf sizeBy
   size-of-decimal n e = rw (ne-eqb _ _ n, eq-eqb _ _ e)
 
   pub size-of-string : (k ≡ integerKind → ⊥) → (k ≡ decimalKind → ⊥) → k ≡ stringKind → 25 ≡ sizeOf k
-  unfolding sizeOf
+  unfolding sizeOf sizeBy
   size-of-string n m e = rw (ne-eqb _ _ n, ne-eqb _ _ m, eq-eqb _ _ e)
 
   pub size-of-none : (k ≡ integerKind → ⊥) → (k ≡ decimalKind → ⊥) → (k ≡ stringKind → ⊥) → 0 ≡ sizeOf k
-  unfolding sizeOf
+  unfolding sizeOf sizeBy
   size-of-none n m l = rw (ne-eqb _ _ n, ne-eqb _ _ m, ne-eqb _ _ l)
 
 module _ (s : List ℕ) (r : Bool) where
-  pub value-of-integer : getD s 0 0 ≡ integerKind → (n : ℕ) → n ≡ quadAt s 8 → r ≡ within integerLimit (signed word n) → r ≡ valueFormed s
+  pub value-of-integer : getD s 0 0 ≡ integerKind → (n : ℕ) → n ≡ quadAt s 8 → r ≡ within integerLimit (fromComplement word n) → r ≡ valueFormed s
   unfolding valueFormed
   value-of-integer e n q f = rw (eq-eqb _ _ e, ← q) f
 
-  pub value-of-decimal : (getD s 0 0 ≡ integerKind → ⊥) → getD s 0 0 ≡ decimalKind → (n : ℕ) → n ≡ octetAt s 8 → r ≡ within decimalLimit (signed long n) → r ≡ valueFormed s
+  pub value-of-decimal : (getD s 0 0 ≡ integerKind → ⊥) → getD s 0 0 ≡ decimalKind → (n : ℕ) → n ≡ octetAt s 8 → r ≡ within decimalLimit (fromComplement long n) → r ≡ valueFormed s
   unfolding valueFormed
   value-of-decimal n e m q f = rw (ne-eqb _ _ n, eq-eqb _ _ e, ← q) f
 

@@ -11,14 +11,16 @@ use lib.IntN.{natAbs}
 use lib.ListN.{length}
 use Rattle.numbers.specs.Range.{integerLimit, decimalLimit, within}
 use Rattle.numbers.proofs.Laws.{within-true}
-use Rattle.meaning.specs.Answer.{Value, integer, decimal, string, Answer, missing, cell, highest}
+use Rattle.meaning.specs.Answer.{Value, string, Answer, missing, cell, highest}
+use Rattle.meaning.specs.Answer as A
+use Rattle.numbers.specs.declared.Quantity.the-variants as Q
 use Rattle.meaning.specs.declared.question.Question.{Question}
 use Rattle.meaning.specs.declared.refusal.Refusal.the-variants.{BadRequest}
 use Rattle.cells.specs.declared.Answered.{Answered}
-use Rattle.cells.specs.Cell.{Cell, number, numberOf, printable, valueAllowed, cellAllowed}
+use Rattle.cells.specs.Cell.{Cell, number, keyNumber, printable, valueAllowed, cellAllowed}
 use Rattle.cells.specs.Store.{allowed, held}
 use Rattle.cells.specs.inner.Index.{Ready, Answers}
-use Rattle.cells.specs.Asking.{asked, questionAllowed, lookup, found, highestOf, ofParameter, ofRecord, answer, answeredAsk, refusedAsk, replied, askOf, meant}
+use Rattle.cells.specs.Asking.{Query, theCell, highestRecord, highestEntry, queryOf, questionAllowed, lookup, found, highestOf, ofParameter, ofRecord, queryAnswer, answer, answeredAsk, refusedAsk, replied, askOf, meant}
 use Rattle.cells.proofs.BigEndian.{and-true}
 use Rattle.cells.proofs.CellForm.{limits, key-allowed, value-allowed}
 use Rattle.cells.proofs.Locating.{held-some}
@@ -36,8 +38,8 @@ same-answer b n index count cs q r k h = h .answer n cs k ∙ refused-missing (q
 
 -- "Values lie within ±2,000,000,000, so within ±2×10^15 millionths"; "a length 0–16"
 abbrev pub ValueWithin : Value → Type 0
-ValueWithin (integer z) = natAbs z ≤ integerLimit
-ValueWithin (decimal z) = natAbs z ≤ decimalLimit
+ValueWithin (A.number (Q.Integer z)) = natAbs z ≤ integerLimit
+ValueWithin (A.number (Q.Decimal z)) = natAbs z ≤ decimalLimit
 ValueWithin (string s) = length s ≤ 16
 
 -- "record 0–999, entry 0–999"
@@ -48,14 +50,14 @@ AnswerWithin (highest n) = n ≤ 999
 
 value-within : (v : Value) → valueAllowed v ≡ true → ValueWithin v
 unfolding valueAllowed
-value-within (integer z) h = within-true integerLimit z h
-value-within (decimal z) h = within-true decimalLimit z h
+value-within (A.number (Q.Integer z)) h = within-true integerLimit z h
+value-within (A.number (Q.Decimal z)) h = within-true decimalLimit z h
 value-within (string s) h = leb-true (length s) 16 (and-true (leb (length s) 16) (printable s) h .0)
 
 lookup-within : (n : ℕ) (cs : List Cell) → allowed cs ≡ true → AnswerWithin (found (lookup n cs))
 unfolding allowed found lookup
 lookup-within n [] h = tt
-lookup-within n (c ∷ cs) h = go (eqb (numberOf c) n) (lookup-within n cs (t .1))
+lookup-within n (c ∷ cs) h = go (eqb (keyNumber c) n) (lookup-within n cs (t .1))
   where
     t : (cellAllowed c ≡ true) × (allowed cs ≡ true)
     t = and-true (cellAllowed c) (allowed cs) h
@@ -76,22 +78,20 @@ highest-within m f g (c ∷ cs) h = go (m c) (highest-within m f g cs (t .1))
     go true r = omega (arith, g c (t .0))
     go false r = omega arith
 
-answer-within : (q : Question) (cs : List Cell) → allowed cs ≡ true → AnswerWithin (answer q cs)
-unfolding answer
-answer-within q cs h = go (eqb (q .kind) 1) (eqb (q .kind) 2)
-  where
-    go : (a b : Bool) → AnswerWithin (cond a (found (lookup (number (asked q)) cs)) (cond b (highest (highestOf (ofParameter (asked q)) (λ c. c .key .recordNumber) cs)) (highest (highestOf (ofRecord (asked q)) (λ c. c .key .entryNumber) cs))))
-    go true b = lookup-within (number (asked q)) cs h
-    go false true = highest-within (ofParameter (asked q)) (λ c. c .key .recordNumber) (λ c k. limits (c .key) (key-allowed c k) .recordNumber) cs h
-    go false false = highest-within (ofRecord (asked q)) (λ c. c .key .entryNumber) (λ c k. limits (c .key) (key-allowed c k) .entryNumber) cs h
+query-within : (o : Option Query) (cs : List Cell) → allowed cs ≡ true → AnswerWithin (queryAnswer o cs)
+unfolding queryAnswer
+query-within none cs h = tt
+query-within (some (theCell k)) cs h = lookup-within (number k) cs h
+query-within (some (highestRecord d p)) cs h = highest-within (ofParameter d p) (λ c. c .key .recordNumber) (λ c k. limits (c .key) (key-allowed c k) .recordNumber) cs h
+query-within (some (highestEntry d p r)) cs h = highest-within (ofRecord d p r) (λ c. c .key .entryNumber) (λ c k. limits (c .key) (key-allowed c k) .entryNumber) cs h
 
 -- Whatever the store holds, an answer lies within its limits.
 pub ask-within : (b : List ℕ) (n : ℕ) (q : Question) → AnswerWithin (askOf b n q .answer)
-unfolding askOf replied
+unfolding askOf replied answer
 ask-within b n q = go (held b n) refl
   where
     by : (t : Bool) (cs : List Cell) → allowed cs ≡ true → AnswerWithin (cond t (answeredAsk (answer q cs)) (refusedAsk BadRequest) .answer)
-    by true cs h = answer-within q cs h
+    by true cs h = query-within (queryOf q) cs h
     by false cs h = tt
 
     go : (o : Option (List Cell)) → held b n ≡ o → AnswerWithin (replied q o .answer)

@@ -10,50 +10,13 @@ use lib.Dec.{ltb, leb}
 use lib.ListN.{length, getD, take, drop, length-append, length-drop, take-append-drop}
 use lib.Seq.{getD-drop, drop-append-seam, getD-at, length-take-le}
 use Rattle.cells.specs.Bytes.{pairAt, quadAt, octetAt}
-use Rattle.cells.specs.Cell.{Cell, number, numberOf, keyAt, cellAllowed, cellBytes, kindOf}
+use Rattle.cells.specs.Cell.{Cell, number, keyNumber, keyAt, cellAllowed, cellBytes, kindOf}
 use Rattle.cells.specs.Store.{encode, allowed, above, rising, cells, held}
 use Rattle.cells.specs.inner.Index.{offsets, Ready, keyIn, Sorted, First}
-use Rattle.cells.proofs.BigEndian.{and-true}
+use Rattle.cells.proofs.BigEndian.{and-true, key-at}
 use Rattle.cells.proofs.CellForm.{number-small, cell-key, cell-size, size-least, known-kind, key-allowed, value-allowed}
 use Rattle.cells.proofs.Runs.{Holds, cells-some, none-some}
 use Rattle.cells.proofs.Walking.{encode-append, offsets-append, length-offsets}
-
--- ---- reading at a place is reading at the front of what begins there
-
-module _ (b : List ℕ) (at : ℕ) where
-  read-at : (i : ℕ) → getD (drop at b) i 0 ≡ getD b (at + i) 0
-  read-at i = getD-drop at b i 0
-
-  pub pair-at : (i : ℕ) → pairAt (drop at b) i ≡ pairAt b (at + i)
-  unfolding pairAt
-  pair-at i =
-      let e : at + (i + 1) ≡ at + i + 1 = omega arith in
-      rw (read-at i, read-at (i + 1), e)
-
-  pub quad-at : (i : ℕ) → quadAt (drop at b) i ≡ quadAt b (at + i)
-  unfolding quadAt
-  quad-at i =
-      let e : at + (i + 2) ≡ at + i + 2 = omega arith in
-      rw (pair-at i, pair-at (i + 2), e)
-
-  pub octet-at : (i : ℕ) → octetAt (drop at b) i ≡ octetAt b (at + i)
-  unfolding octetAt
-  octet-at i =
-      let e : at + (i + 4) ≡ at + i + 4 = omega arith in
-      rw (quad-at i, quad-at (i + 4), e)
-
-  pub key-at : keyAt (drop at b) 1 ≡ keyAt b (at + 1)
-  unfolding keyAt
-  key-at =
-      let e : at + (1 + 1) ≡ at + 1 + 1 = omega arith in
-      let f : at + (1 + 3) ≡ at + 1 + 3 = omega arith in
-      let g : at + (1 + 5) ≡ at + 1 + 5 = omega arith in
-      λ i. record {
-        datasource = read-at 1 i;
-        parameter = (pair-at (1 + 1) ∙ ap (pairAt b) e) i;
-        recordNumber = (pair-at (1 + 3) ∙ ap (pairAt b) f) i;
-        entryNumber = (pair-at (1 + 5) ∙ ap (pairAt b) g) i;
-      }
 
 -- ---- a store that holds cells
 
@@ -97,7 +60,7 @@ pick (c ∷ cs) (suc i) h =
 -- the numbers of the keys
 abbrev pub keys : List Cell → List ℕ
 keys [] = []
-keys (c ∷ cs) = numberOf c ∷ keys cs
+keys (c ∷ cs) = keyNumber c ∷ keys cs
 
 pub length-keys : (cs : List Cell) → length (keys cs) ≡ length cs
 length-keys [] = refl
@@ -105,26 +68,26 @@ length-keys (c ∷ cs) = ap suc (length-keys cs)
 
 pub keys-append : (xs ys : List Cell) → keys (xs ++ ys) ≡ keys xs ++ keys ys
 keys-append [] ys = refl
-keys-append (x ∷ xs) ys = ap (λ (l : List ℕ). numberOf x ∷ l) (keys-append xs ys)
+keys-append (x ∷ xs) ys = ap (λ (l : List ℕ). keyNumber x ∷ l) (keys-append xs ys)
 
-pub key-here : (cs xs : List Cell) (c : Cell) (ys : List Cell) → cs ≡ xs ++ (c ∷ ys) → getD (keys cs) (length xs) 0 ≡ numberOf c
+pub key-here : (cs xs : List Cell) (c : Cell) (ys : List Cell) → cs ≡ xs ++ (c ∷ ys) → getD (keys cs) (length xs) 0 ≡ keyNumber c
 key-here cs xs c ys e =
     ap (λ (l : List Cell). getD (keys l) (length xs) 0) e
     ∙ ap (λ (l : List ℕ). getD l (length xs) 0) (keys-append xs (c ∷ ys))
-    ∙ getD-at (keys xs) (numberOf c) (keys ys) 0 (length xs) (length-keys xs)
+    ∙ getD-at (keys xs) (keyNumber c) (keys ys) 0 (length xs) (length-keys xs)
 
 above-at : (n : ℕ) (cs : List Cell) (j : ℕ) → above n cs ≡ true → j < length cs → n < getD (keys cs) j 0
 unfolding above
 above-at n [] j e h = absurd (omega arith)
-above-at n (c ∷ cs) zero e h = ltb-true _ _ (and-true (ltb n (numberOf c)) (above n cs) e .0)
-above-at n (c ∷ cs) (suc j) e h = above-at n cs j (and-true (ltb n (numberOf c)) (above n cs) e .1) (omega arith)
+above-at n (c ∷ cs) zero e h = ltb-true _ _ (and-true (ltb n (keyNumber c)) (above n cs) e .0)
+above-at n (c ∷ cs) (suc j) e h = above-at n cs j (and-true (ltb n (keyNumber c)) (above n cs) e .1) (omega arith)
 
 pub keys-rise : (cs : List Cell) (i j : ℕ) → rising cs ≡ true → i < j → j < length cs → getD (keys cs) i 0 < getD (keys cs) j 0
 unfolding rising
 keys-rise [] i j e h l = absurd (omega arith)
 keys-rise (c ∷ cs) i zero e h l = absurd (omega arith)
-keys-rise (c ∷ cs) zero (suc j) e h l = above-at (numberOf c) cs j (and-true (above (numberOf c) cs) (rising cs) e .0) (omega arith)
-keys-rise (c ∷ cs) (suc i) (suc j) e h l = keys-rise cs i j (and-true (above (numberOf c) cs) (rising cs) e .1) (omega arith) (omega arith)
+keys-rise (c ∷ cs) zero (suc j) e h l = above-at (keyNumber c) cs j (and-true (above (keyNumber c) cs) (rising cs) e .0) (omega arith)
+keys-rise (c ∷ cs) (suc i) (suc j) e h l = keys-rise cs i j (and-true (above (keyNumber c) cs) (rising cs) e .1) (omega arith) (omega arith)
 
 allowed-at : (xs : List Cell) (c : Cell) (ys : List Cell) → allowed (xs ++ (c ∷ ys)) ≡ true → cellAllowed c ≡ true
 unfolding allowed
@@ -137,7 +100,7 @@ allowed-in cs xs c ys a e = allowed-at xs c ys (ap allowed (sym e) ∙ a)
 pub cell-least : (c : Cell) → cellAllowed c ≡ true → 12 ≤ length (cellBytes c)
 cell-least c a =
     let v = value-allowed c a in
-    omega (arith, cell-size (c .key) (c .value) v, size-least (kindOf (c .value)) (known-kind (c .key) [] (c .value)))
+    omega (arith, cell-size (c .key) (c .value) v, size-least (kindOf (c .value)) (known-kind (c .value)))
 
 -- ---- the i-th cell in the bytes
 
@@ -149,7 +112,7 @@ pub record Located (b index : List ℕ) (cs : List Cell) (i : ℕ) : Type 0 wher
   pub allowed : cellAllowed (picked .cell) ≡ true
   pub room : getD index i 0 + 12 ≤ length b
   pub key : keyIn b index i ≡ getD (keys cs) i 0
-  pub number : getD (keys cs) i 0 ≡ numberOf (picked .cell)
+  pub number : getD (keys cs) i 0 ≡ keyNumber (picked .cell)
 
 module _ (b : List ℕ) (n : ℕ) (index : List ℕ) (count : ℕ) (cs : List Cell) (r : Ready b n index count cs) where
   whole : b ≡ encode cs ++ drop n b
@@ -177,7 +140,7 @@ module _ (b : List ℕ) (n : ℕ) (index : List ℕ) (count : ℕ) (cs : List Ce
       ∙ ap (λ (l : List ℕ). encode x ++ l) (append-assoc (cellBytes c) (encode y) (drop n b)) in
       let d : drop (getD index i 0) b ≡ cellBytes c ++ (encode y ++ drop n b) =
       ap₂ (λ (k : ℕ) (l : List ℕ). drop k l) o w ∙ drop-append-seam (encode x) (cellBytes c ++ (encode y ++ drop n b)) in
-      let k : getD (keys cs) i 0 ≡ numberOf c = ap (λ (m : ℕ). getD (keys cs) m 0) (sym (p .place)) ∙ key-here cs x c y (p .split) in
+      let k : getD (keys cs) i 0 ≡ keyNumber c = ap (λ (m : ℕ). getD (keys cs) m 0) (sym (p .place)) ∙ key-here cs x c y (p .split) in
       record {
         picked = p;
         rest = encode y ++ drop n b;

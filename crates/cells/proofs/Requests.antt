@@ -9,12 +9,12 @@ use borrow.Author.Tests.{eqb-true, eq-eqb, not-true, not-false}
 use lib.Dec.{eqb}
 use lib.ListN.{length, drop-of-length-le}
 use Rattle.cells.specs.declared.request.Request.the-variants as R
-use Rattle.cells.specs.Bytes.{begins, same}
-use Rattle.cells.specs.Cell.{Key, Cell, number, keyAllowed, keyAt, keyBytes, cellAllowed, cellBytes, cellOf, kindOf, front, wholeCell, wholeKey}
+use Rattle.cells.specs.Bytes.{begins, equalBytes}
+use Rattle.cells.specs.Cell.{Key, Cell, number, keyAllowed, keyAt, keyBytes, cellAllowed, cellBytes, cellOf, kindOf, passing, front, wholeCell, wholeKey}
 use Rattle.cells.specs.inner.Tests.{sizeFound, frontSize, Sized}
 use Rattle.cells.specs.inner.Request.{requested, requestedKey, CellAsked, KeyAsked}
 use Rattle.cells.proofs.BigEndian.{Bytes, and-true, both, begins-self, begins-says}
-use Rattle.cells.proofs.CellForm.{front-some, front-cell, cell-reads, value-allowed, cell-key, key-back, length-key, key-reads, cell-size, size-most}
+use Rattle.cells.proofs.CellForm.{passing-some, front-some, front-cell, cell-reads, value-allowed, cell-key, key-back, length-key, key-reads, cell-size, size-most}
 use Rattle.cells.proofs.Walking.{size-found, size-none}
 use Rattle.cells.proofs.Runs.{some-inj, none-some, cell-some}
 
@@ -23,32 +23,25 @@ pub record Whole (s : List ℕ) (c : Cell) : Type 0 where
   pub allowed : cellAllowed c ≡ true
   pub bytes : s ≡ cellBytes c
 
-same-says : (p s : List ℕ) → same p s ≡ true → s ≡ p
-unfolding same
+same-says : (p s : List ℕ) → equalBytes p s ≡ true → s ≡ p
+unfolding equalBytes
 same-says p s e =
     let t = and-true (begins p s) (eqb (length p) (length s)) e in
     let l : length p ≡ length s = eqb-true _ _ (t .1) in
     begins-says p s (t .0) ∙ ap (λ (x : List ℕ). p ++ x) (drop-of-length-le s {i = length p} (omega arith)) ∙ append-nil p
 
-same-self : (p : List ℕ) → same p p ≡ true
-unfolding same
+same-self : (p : List ℕ) → equalBytes p p ≡ true
+unfolding equalBytes
 same-self p = both (ap (begins p) (sym (append-nil p)) ∙ begins-self p []) (eq-eqb (length p) (length p) refl)
 
 pub whole-some : (s : List ℕ) (c : Cell) → wholeCell s ≡ some c → Whole s c
 unfolding wholeCell
-whole-some s c e = go (cellAllowed (cellOf s) && same (cellBytes (cellOf s)) s) refl e
-  where
-    go : (t : Bool) → cellAllowed (cellOf s) && same (cellBytes (cellOf s)) s ≡ t → cond t (some (cellOf s)) none ≡ some c → Whole s c
-    go true t q =
-        let h = and-true (cellAllowed (cellOf s)) (same (cellBytes (cellOf s)) s) t in
-        subst (Whole s) (some-inj q) (record { allowed = h .0; bytes = same-says _ _ (h .1) })
-    go false t q = absurd (none-some q)
+whole-some s c e = let h = passing-some (λ b. equalBytes b s) (cellOf s) c e in record { allowed = h .0; bytes = same-says _ _ (h .1) }
 
 pub whole-cell : (c : Cell) → cellAllowed c ≡ true → wholeCell (cellBytes c) ≡ some c
-unfolding wholeCell
+unfolding wholeCell passing
 whole-cell c e =
-    ap (λ (x : Cell). cond (cellAllowed x && same (cellBytes x) (cellBytes c)) (some x) none) (ap cellOf (sym (append-nil (cellBytes c))) ∙ cell-reads c [] (value-allowed c e))
-    ∙ rw (e, same-self (cellBytes c))
+    ap (passing (λ b. equalBytes b (cellBytes c))) (ap cellOf (sym (append-nil (cellBytes c))) ∙ cell-reads c [] (value-allowed c e)) ∙ rw (e, same-self (cellBytes c))
 
 no-whole : (s : List ℕ) → ((c : Cell) → Whole s c → ⊥) → CellAsked s (wholeCell s) R.Bad
 unfolding requested
@@ -97,11 +90,11 @@ pub record WholeKey (s : List ℕ) (k : Key) : Type 0 where
 
 pub key-some : (s : List ℕ) (k : Key) → wholeKey s ≡ some k → WholeKey s k
 unfolding wholeKey
-key-some s k e = go (keyAllowed (keyAt s 0) && same (keyBytes (keyAt s 0)) s) refl e
+key-some s k e = go (keyAllowed (keyAt s 0) && equalBytes (keyBytes (keyAt s 0)) s) refl e
   where
-    go : (t : Bool) → keyAllowed (keyAt s 0) && same (keyBytes (keyAt s 0)) s ≡ t → cond t (some (keyAt s 0)) none ≡ some k → WholeKey s k
+    go : (t : Bool) → keyAllowed (keyAt s 0) && equalBytes (keyBytes (keyAt s 0)) s ≡ t → cond t (some (keyAt s 0)) none ≡ some k → WholeKey s k
     go true t q =
-        let h = and-true (keyAllowed (keyAt s 0)) (same (keyBytes (keyAt s 0)) s) t in
+        let h = and-true (keyAllowed (keyAt s 0)) (equalBytes (keyBytes (keyAt s 0)) s) t in
         subst (WholeKey s) (some-inj q) (record { allowed = h .0; bytes = same-says _ _ (h .1) })
     go false t q = absurd (none-some q)
 
@@ -109,7 +102,7 @@ key-some s k e = go (keyAllowed (keyAt s 0) && same (keyBytes (keyAt s 0)) s) re
 pub whole-key : (k : Key) → keyAllowed k ≡ true → wholeKey (keyBytes k) ≡ some k
 unfolding wholeKey
 whole-key k e =
-    ap (λ (x : Key). cond (keyAllowed x && same (keyBytes x) (keyBytes k)) (some x) none) (ap (λ (s : List ℕ). keyAt s 0) (sym (append-nil (keyBytes k))) ∙ key-reads k [])
+    ap (λ (x : Key). cond (keyAllowed x && equalBytes (keyBytes x) (keyBytes k)) (some x) none) (ap (λ (s : List ℕ). keyAt s 0) (sym (append-nil (keyBytes k))) ∙ key-reads k [])
     ∙ rw (e, same-self (keyBytes k))
 
 no-key : (s : List ℕ) → ((k : Key) → WholeKey s k → ⊥) → KeyAsked (wholeKey s) R.Bad
@@ -140,4 +133,4 @@ module _ (s : List ℕ) where
     unfolding wholeKey requestedKey
     key-in n b h l key k =
         let e : keyBytes (keyAt s 0) ≡ s = sym (append-nil (keyBytes (keyAt s 0))) ∙ ap (λ (x : List ℕ). keyBytes (keyAt s 0) ++ x) (sym (drop-of-length-le s {i = 0 + 7} (omega arith))) ∙ key-back s b 0 (omega arith) in
-        rw (sym a ∙ not-false t n, ap (λ (x : List ℕ). same x s) e ∙ same-self s) (record { told = ap R.Key k })
+        rw (sym a ∙ not-false t n, ap (λ (x : List ℕ). equalBytes x s) e ∙ same-self s) (record { told = ap R.Key k })

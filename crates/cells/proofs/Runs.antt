@@ -8,7 +8,7 @@ use native.Mathlib.Omega.{arith}
 use lib.ListN.{length, drop, length-append}
 use lib.Seq.{drop-append-seam}
 use Rattle.cells.specs.Cell.{Cell, cellAllowed, cellBytes, front}
-use Rattle.cells.specs.Store.{encode, allowed, rising, before, run, ordered, cells}
+use Rattle.cells.specs.Store.{encode, allowed, rising, before, cellRun, ordered, cells}
 use Rattle.cells.proofs.BigEndian.{and-true, both}
 use Rattle.cells.proofs.CellForm.{front-cell, Front, front-some}
 
@@ -26,27 +26,27 @@ pub record Holds (s : List ℕ) (cs : List Cell) : Type 0 where
 
 abbrev continued : ℕ → List ℕ → Option Cell → Option (List Cell)
 continued n s none = none
-continued n s (some c) = before c (run n (drop (length (cellBytes c)) s))
+continued n s (some c) = before c (cellRun n (drop (length (cellBytes c)) s))
 
-run-step : (n b : ℕ) (t : List ℕ) → run (suc n) (b ∷ t) ≡ continued n (b ∷ t) (front (b ∷ t))
-unfolding run
+run-step : (n b : ℕ) (t : List ℕ) → cellRun (suc n) (b ∷ t) ≡ continued n (b ∷ t) (front (b ∷ t))
+unfolding cellRun
 run-step n b t = go (front (b ∷ t))
   where
-    go : (o : Option Cell) → elim o [ none ↦ none | some c ↦ before c (run n (drop (length (cellBytes c)) (b ∷ t))) ] ≡ continued n (b ∷ t) o
+    go : (o : Option Cell) → elim o [ none ↦ none | some c ↦ before c (cellRun n (drop (length (cellBytes c)) (b ∷ t))) ] ≡ continued n (b ∷ t) o
     go none = refl
     go (some c) = refl
 
-run-cell : (c : Cell) (s : List ℕ) (n : ℕ) → cellAllowed c ≡ true → run (suc n) (cellBytes c ++ s) ≡ before c (run n s)
+run-cell : (c : Cell) (s : List ℕ) (n : ℕ) → cellAllowed c ≡ true → cellRun (suc n) (cellBytes c ++ s) ≡ before c (cellRun n s)
 unfolding cellBytes
 run-cell c s n e =
-    run-step n _ _ ∙ ap (continued n (cellBytes c ++ s)) (front-cell c s e) ∙ ap (λ (x : List ℕ). before c (run n x)) (drop-append-seam (cellBytes c) s)
+    run-step n _ _ ∙ ap (continued n (cellBytes c ++ s)) (front-cell c s e) ∙ ap (λ (x : List ℕ). before c (cellRun n x)) (drop-append-seam (cellBytes c) s)
 
 pub cell-some : (c : Cell) → 0 < length (cellBytes c)
 unfolding cellBytes
 cell-some c = omega arith
 
-run-encode : (cs : List Cell) (n : ℕ) → length (encode cs) ≤ n → allowed cs ≡ true → run n (encode cs) ≡ some cs
-unfolding encode allowed before run
+run-encode : (cs : List Cell) (n : ℕ) → length (encode cs) ≤ n → allowed cs ≡ true → cellRun n (encode cs) ≡ some cs
+unfolding encode allowed before cellRun
 run-encode [] zero h e = refl
 run-encode [] (suc n) h e = refl
 run-encode (c ∷ cs) zero h e = absurd (omega (arith, length-append (cellBytes c) (encode cs), cell-some c))
@@ -63,17 +63,17 @@ some-inj e = cc
 pub none-some : {A : Type 0} {x : A} → none ≡ some x → ⊥
 none-some e = let z : _≡_ {A = ℕ} 0 1 = cc in omega arith
 
-run-stop : (s : List ℕ) (cs : List Cell) → run zero s ≡ some cs → Found s cs
-unfolding run encode allowed
+run-stop : (s : List ℕ) (cs : List Cell) → cellRun zero s ≡ some cs → Found s cs
+unfolding cellRun encode allowed
 run-stop [] cs e = subst (Found []) (some-inj e) (refl, refl)
 run-stop (b ∷ t) cs e = absurd (none-some e)
 
-run-more : (n : ℕ) → ((s : List ℕ) (cs : List Cell) → run n s ≡ some cs → Found s cs) → (s : List ℕ) (cs : List Cell) → run (suc n) s ≡ some cs → Found s cs
-unfolding run encode allowed before
+run-more : (n : ℕ) → ((s : List ℕ) (cs : List Cell) → cellRun n s ≡ some cs → Found s cs) → (s : List ℕ) (cs : List Cell) → cellRun (suc n) s ≡ some cs → Found s cs
+unfolding cellRun encode allowed before
 run-more n ih [] cs e = subst (Found []) (some-inj e) (refl, refl)
 run-more n ih (b ∷ t) cs e = go (front (b ∷ t)) refl (sym (run-step n b t) ∙ e)
   where
-    behind : (c : Cell) → Front (b ∷ t) c → (o : Option (List Cell)) → run n (drop (length (cellBytes c)) (b ∷ t)) ≡ o → before c o ≡ some cs → Found (b ∷ t) cs
+    behind : (c : Cell) → Front (b ∷ t) c → (o : Option (List Cell)) → cellRun n (drop (length (cellBytes c)) (b ∷ t)) ≡ o → before c o ≡ some cs → Found (b ∷ t) cs
     behind c f none r x = absurd (none-some x)
     behind c f (some ds) r x =
         let g = ih (drop (length (cellBytes c)) (b ∷ t)) ds r in
@@ -81,9 +81,9 @@ run-more n ih (b ∷ t) cs e = go (front (b ∷ t)) refl (sym (run-step n b t) �
 
     go : (o : Option Cell) → front (b ∷ t) ≡ o → continued n (b ∷ t) o ≡ some cs → Found (b ∷ t) cs
     go none q x = absurd (none-some x)
-    go (some c) q x = behind c (front-some (b ∷ t) c q) (run n (drop (length (cellBytes c)) (b ∷ t))) refl x
+    go (some c) q x = behind c (front-some (b ∷ t) c q) (cellRun n (drop (length (cellBytes c)) (b ∷ t))) refl x
 
-run-some : (n : ℕ) (s : List ℕ) (cs : List Cell) → run n s ≡ some cs → Found s cs
+run-some : (n : ℕ) (s : List ℕ) (cs : List Cell) → cellRun n s ≡ some cs → Found s cs
 run-some zero = run-stop
 run-some (suc n) = run-more n (run-some n)
 
@@ -95,12 +95,12 @@ cells-encode cs v = rw (run-encode cs (length (encode cs)) (omega arith) (v .all
 -- and back
 pub cells-some : (s : List ℕ) (cs : List Cell) → cells s ≡ some cs → Holds s cs
 unfolding cells ordered
-cells-some s cs e = go (run (length s) s) refl e
+cells-some s cs e = go (cellRun (length s) s) refl e
   where
     kept : (ds : List Cell) (t : Bool) → rising ds ≡ t → Found s ds → cond t (some ds) none ≡ some cs → Holds s cs
     kept ds true r g x = subst (Holds s) (some-inj x) (record { bytes = g .0; valid = record { allowed = g .1; rising = r } })
     kept ds false r g x = absurd (none-some x)
 
-    go : (o : Option (List Cell)) → run (length s) s ≡ o → ordered o ≡ some cs → Holds s cs
+    go : (o : Option (List Cell)) → cellRun (length s) s ≡ o → ordered o ≡ some cs → Holds s cs
     go none q f = let z : _≡_ {A = ℕ} 0 1 = cc in absurd (omega arith)
     go (some ds) q f = kept ds (rising ds) refl (run-some (length s) s ds q) f

@@ -13,7 +13,7 @@ use lib.Seq.{sets, drop-drop, take-all}
 use Rattle.buffers.proofs.Laws.{sets-append}
 use Rattle.cells.specs.declared.index.Indexed.{Indexed}
 use Rattle.cells.specs.declared.index.Indexed.the-variants.{Count, BadStore}
-use Rattle.cells.specs.Cell.{Cell, number, numberOf, keyAt, cellAllowed, cellBytes, front}
+use Rattle.cells.specs.Cell.{Cell, number, keyNumber, keyAt, cellAllowed, cellBytes, front}
 use Rattle.cells.specs.inner.Tests.{sizeFound, frontSize, Sized}
 use Rattle.cells.specs.Store.{encode, allowed, above, rising, cells, held}
 use Rattle.cells.specs.inner.Index.{offsets, counted, Filled, Indexes}
@@ -51,7 +51,7 @@ length-offsets (x ∷ xs) at = ap suc (length-offsets xs (at + length (cellBytes
 
 abbrev pub Below : ℕ → List Cell → Type 0
 Below n [] = Unit {0}
-Below n (c ∷ cs) = (numberOf c < n) × Below n cs
+Below n (c ∷ cs) = (keyNumber c < n) × Below n cs
 
 pub below-append : (n : ℕ) (xs ys : List Cell) → Below n xs → Below n ys → Below n (xs ++ ys)
 below-append n [] ys h k = k
@@ -61,26 +61,26 @@ pub below-more : (m n : ℕ) (xs : List Cell) → m ≤ n → Below m xs → Bel
 below-more m n [] l h = tt
 below-more m n (x ∷ xs) l h = (omega (arith, h .0), below-more m n xs l (h .1))
 
-above-snoc : (n : ℕ) (xs : List Cell) (c : Cell) → above n xs ≡ true → n < numberOf c → above n (xs ++ (c ∷ [])) ≡ true
+above-snoc : (n : ℕ) (xs : List Cell) (c : Cell) → above n xs ≡ true → n < keyNumber c → above n (xs ++ (c ∷ [])) ≡ true
 unfolding above
 above-snoc n [] c e h = both (lt-ltb _ _ h) refl
 above-snoc n (x ∷ xs) c e h =
-    let t = and-true (ltb n (numberOf x)) (above n xs) e in
+    let t = and-true (ltb n (keyNumber x)) (above n xs) e in
     both (t .0) (above-snoc n xs c (t .1) h)
 
-rising-snoc : (xs : List Cell) (c : Cell) → rising xs ≡ true → Below (numberOf c) xs → rising (xs ++ (c ∷ [])) ≡ true
+rising-snoc : (xs : List Cell) (c : Cell) → rising xs ≡ true → Below (keyNumber c) xs → rising (xs ++ (c ∷ [])) ≡ true
 unfolding rising above
 rising-snoc [] c e h = refl
 rising-snoc (x ∷ xs) c e h =
-    let t = and-true (above (numberOf x) xs) (rising xs) e in
-    both (above-snoc (numberOf x) xs c (t .0) (h .0)) (rising-snoc xs c (t .1) (h .1))
+    let t = and-true (above (keyNumber x) xs) (rising xs) e in
+    both (above-snoc (keyNumber x) xs c (t .0) (h .0)) (rising-snoc xs c (t .1) (h .1))
 
-rising-next : (xs : List Cell) (d c : Cell) (cs : List Cell) → rising (xs ++ (d ∷ c ∷ cs)) ≡ true → numberOf d < numberOf c
+rising-next : (xs : List Cell) (d c : Cell) (cs : List Cell) → rising (xs ++ (d ∷ c ∷ cs)) ≡ true → keyNumber d < keyNumber c
 unfolding rising above
 rising-next [] d c cs e =
-    let t = and-true (above (numberOf d) (c ∷ cs)) (rising (c ∷ cs)) e in
-    ltb-true _ _ (and-true (ltb (numberOf d) (numberOf c)) (above (numberOf d) cs) (t .0) .0)
-rising-next (x ∷ xs) d c cs e = rising-next xs d c cs (and-true (above (numberOf x) (xs ++ (d ∷ c ∷ cs))) (rising (xs ++ (d ∷ c ∷ cs))) e .1)
+    let t = and-true (above (keyNumber d) (c ∷ cs)) (rising (c ∷ cs)) e in
+    ltb-true _ _ (and-true (ltb (keyNumber d) (keyNumber c)) (above (keyNumber d) cs) (t .0) .0)
+rising-next (x ∷ xs) d c cs e = rising-next xs d c cs (and-true (above (keyNumber x) (xs ++ (d ∷ c ∷ cs))) (rising (xs ++ (d ∷ c ∷ cs))) e .1)
 
 -- ---- a run that begins like another
 
@@ -126,7 +126,7 @@ pub record Walked (bs places₀ : List ℕ) (at count least : ℕ) (places : Lis
   pub size : length places ≡ length places₀
   pub valid : Valid read
   pub below : Below least read
-  pub next : (c : Cell) (cs : List Cell) → rising (read ++ (c ∷ cs)) ≡ true → least ≤ numberOf c
+  pub next : (c : Cell) (cs : List Cell) → rising (read ++ (c ∷ cs)) ≡ true → least ≤ keyNumber c
 
 pub walk-start : (bs places : List ℕ) → Walked bs places 0 0 0 places
 unfolding encode offsets allowed rising
@@ -155,7 +155,7 @@ module _ (bs places₀ : List ℕ) (at count least : ℕ) (places : List ℕ) (w
       rw f (record { told = ap Count (w .tally); filled = w .index })
 
   -- one cell more
-  module _ (size key : ℕ) (c : Cell) (f : Front (drop at bs) c) (z : size ≡ length (cellBytes c)) (m : key ≡ numberOf c) (l : least ≤ key) (inside : size ≤ length (drop at bs)) where
+  module _ (size key : ℕ) (c : Cell) (f : Front (drop at bs) c) (z : size ≡ length (cellBytes c)) (m : key ≡ keyNumber c) (l : least ≤ key) (inside : size ≤ length (drop at bs)) where
     longer : encode (w .read ++ (c ∷ [])) ≡ encode (w .read) ++ cellBytes c
     unfolding encode
     longer = encode-append (w .read) (c ∷ []) ∙ ap (λ (x : List ℕ). encode (w .read) ++ x) (append-nil (cellBytes c))
@@ -186,7 +186,7 @@ module _ (bs places₀ : List ℕ) (at count least : ℕ) (places : List ℕ) (w
           size = length-set places count at ∙ w .size;
           valid = record {
             allowed = allowed-append (w .read) (c ∷ []) (w .valid .allowed) (both (f .allowed) refl);
-            rising = rising-snoc (w .read) c (w .valid .rising) (below-more least (numberOf c) (w .read) (omega arith) (w .below));
+            rising = rising-snoc (w .read) c (w .valid .rising) (below-more least (keyNumber c) (w .read) (omega arith) (w .below));
           };
           below = below-append (key + 1) (w .read) (c ∷ []) (below-more least (key + 1) (w .read) (omega arith) (w .below)) (omega arith, tt);
           next = λ d ds e. omega (arith, rising-next (w .read) c d ds (ap rising (sym (append-assoc (w .read) (c ∷ []) (d ∷ ds))) ∙ e));
@@ -230,7 +230,7 @@ module _ (bs places₀ : List ℕ) (at count least : ℕ) (places : List ℕ) (w
           no-size c e = omega (arith, size-found (drop at bs) size c (s .size) e, cell-some c)
 
       module _ (key : ℕ) (k : key ≡ number (keyAt (take (length bs - at) (drop at bs)) 1)) where
-        key-of : (c : Cell) (r : List ℕ) → drop at bs ≡ cellBytes c ++ r → key ≡ numberOf c
+        key-of : (c : Cell) (r : List ℕ) → drop at bs ≡ cellBytes c ++ r → key ≡ keyNumber c
         key-of c r b = k ∙ ap (λ (l : List ℕ). number (keyAt l 1)) (whole ∙ b) ∙ ap number (cell-key c r)
 
         pub walk-low-key : key < least → Indexes places₀ (cells bs) places BadStore

@@ -15,34 +15,52 @@ use Rattle.meaning.specs.declared.end.Ended.the-variants.{Finished, Halted}
 use Rattle.cells.specs.declared.Answered.{Answered}
 use Rattle.cells.specs.declared.Answered.the-variants.{Missing, Integer, Decimal, Text, Highest}
 use Rattle.cells.specs.declared.Asked.{Asked}
-use Rattle.cells.specs.Cell.{Key, Cell, number, numberOf, keyAllowed}
+use Rattle.cells.specs.Cell.{Key, keyOf, Cell, number, keyNumber, keyAllowed}
 use Rattle.cells.specs.Store.{held}
 
 -- the key that the four numbers are
 abbrev pub asked : Question → Key
-asked q =
-    record {
-      datasource = q .datasource;
-      parameter = q .parameter;
-      recordNumber = q .«record»;
-      entryNumber = q .entry;
-    }
+asked q = keyOf (q .datasource) (q .parameter) (q .«record») (q .entry)
+
+-- What is asked, by its kind, with the numbers that are used for it.
+pub data Query : Type 0 where
+  -- "Kind 1 asks for the cell of a key"
+  theCell : Key → Query
+  -- "Kind 2 asks for a parameter's highest record number in a datasource"
+  highestRecord : (datasource parameter : ℕ) → Query
+  -- "kind 3 for the highest entry number in one record"
+  highestEntry : (datasource parameter recordNumber : ℕ) → Query
 
 -- "Unused numbers are 0."
-unfoldable pub unusedZero : Question → Bool
-unusedZero q =
+unfoldable pub unused : ℕ → Option Query → Option Query
+unused n o = cond (eqb n 0) o none
+
+-- what the five numbers ask, or none
+unfoldable pub queryOf : Question → Option Query
+queryOf q =
     cond
     (eqb (q .kind) 1)
-    true
-    (cond (eqb (q .kind) 2) (eqb (q .«record») 0 && eqb (q .entry) 0) (cond (eqb (q .kind) 3) (eqb (q .entry) 0) false))
+    (some (theCell (asked q)))
+    (cond
+    (eqb (q .kind) 2)
+    (unused (q .«record») (unused (q .entry) (some (highestRecord (q .datasource) (q .parameter)))))
+    (cond (eqb (q .kind) 3) (unused (q .entry) (some (highestEntry (q .datasource) (q .parameter) (q .«record»)))) none))
 
+-- the numbers that are used lie within the limits of a key
+unfoldable pub queryAllowed : Option Query → Bool
+queryAllowed none = false
+queryAllowed (some (theCell k)) = keyAllowed k
+queryAllowed (some (highestRecord d p)) = keyAllowed (keyOf d p 0 0)
+queryAllowed (some (highestEntry d p r)) = keyAllowed (keyOf d p r 0)
+
+-- 15 "An edit's or question's key, kind, unused number or value breaks a limit above."
 unfoldable pub questionAllowed : Question → Bool
-questionAllowed q = keyAllowed (asked q) && unusedZero q
+questionAllowed q = queryAllowed (queryOf q)
 
 -- the cell of a key
 unfoldable pub lookup : ℕ → List Cell → Option Cell
 lookup n [] = none
-lookup n (c ∷ cs) = cond (eqb (numberOf c) n) (some c) (lookup n cs)
+lookup n (c ∷ cs) = cond (eqb (keyNumber c) n) (some c) (lookup n cs)
 
 -- the cell's "kind and value, or missing"
 unfoldable pub found : Option Cell → Answer
@@ -55,23 +73,22 @@ highestOf meant n [] = 0
 highestOf meant n (c ∷ cs) = max (cond (meant c) (n c) 0) (highestOf meant n cs)
 
 -- cells of a parameter in a datasource, and those in one record
-unfoldable pub ofParameter : Key → Cell → Bool
-ofParameter k c = eqb (c .key .datasource) (k .datasource) && eqb (c .key .parameter) (k .parameter)
+unfoldable pub ofParameter : ℕ → ℕ → Cell → Bool
+ofParameter d p c = eqb (c .key .datasource) d && eqb (c .key .parameter) p
 
-unfoldable pub ofRecord : Key → Cell → Bool
-ofRecord k c = ofParameter k c && eqb (c .key .recordNumber) (k .recordNumber)
+unfoldable pub ofRecord : ℕ → ℕ → ℕ → Cell → Bool
+ofRecord d p r c = ofParameter d p c && eqb (c .key .recordNumber) r
 
 -- "Kind 1 asks for the cell of a key .. Kind 2 asks for a parameter's highest record number in a datasource, kind 3 for
 -- the highest entry number in one record"
+unfoldable pub queryAnswer : Option Query → List Cell → Answer
+queryAnswer none cs = missing
+queryAnswer (some (theCell k)) cs = found (lookup (number k) cs)
+queryAnswer (some (highestRecord d p)) cs = highest (highestOf (ofParameter d p) (λ c. c .key .recordNumber) cs)
+queryAnswer (some (highestEntry d p r)) cs = highest (highestOf (ofRecord d p r) (λ c. c .key .entryNumber) cs)
+
 unfoldable pub answer : Question → List Cell → Answer
-answer q cs =
-    cond
-    (eqb (q .kind) 1)
-    (found (lookup (number (asked q)) cs))
-    (cond
-    (eqb (q .kind) 2)
-    (highest (highestOf (ofParameter (asked q)) (λ c. c .key .recordNumber) cs))
-    (highest (highestOf (ofRecord (asked q)) (λ c. c .key .entryNumber) cs)))
+answer q cs = queryAnswer (queryOf q) cs
 
 -- "every end of ask, put and remove give line 0"
 abbrev pub refusedWith : Refusal → Ended

@@ -27,12 +27,12 @@ unfoldable pub octetAt : List ℕ → ℕ → ℕ
 octetAt s i = quadAt s i * 4294967296 + quadAt s (i + 4)
 
 -- two's complement in 32 or 64 bits, m being 2^32 or 2^64
-unfoldable pub unsigned : ℕ → ℤ → ℕ
-unsigned m (pos n) = n
-unsigned m (negsuc n) = m - suc n
+unfoldable pub inComplement : ℕ → ℤ → ℕ
+inComplement m (pos n) = n
+inComplement m (negsuc n) = m - suc n
 
-unfoldable pub signed : ℕ → ℕ → ℤ
-signed m n = cond (ltb (2 * n) m) (pos n) (negsuc (m - suc n))
+unfoldable pub fromComplement : ℕ → ℕ → ℤ
+fromComplement m n = cond (ltb (2 * n) m) (pos n) (negsuc (m - suc n))
 
 abbrev pub word : ℕ
 word = 4294967296
@@ -46,5 +46,5 @@ begins [] s = true
 begins (x ∷ p) [] = false
 begins (x ∷ p) (y ∷ s) = eqb x y && begins p s
 
-unfoldable pub same : List ℕ → List ℕ → Bool
-same p s = begins p s && eqb (length p) (length s)
+unfoldable pub equalBytes : List ℕ → List ℕ → Bool
+equalBytes p s = begins p s && eqb (length p) (length s)

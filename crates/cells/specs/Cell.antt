@@ -4,10 +4,13 @@ use mathlib.Core.List.{List, [], _∷_, _++_}
 use mathlib.Core.Option.{Option, none, some}
 use Prim.Native.Nat.{ℕ, _+_, _*_, _-_}
 use lib.Dec.{leb, eqb}
+use lib.IntN.{ℤ}
 use lib.ListN.{length, getD, take, drop, replicate}
 use Rattle.meaning.specs.Answer.{Value, integer, decimal, string}
+use Rattle.meaning.specs.Answer as A
+use Rattle.numbers.specs.declared.Quantity.the-variants as Q
 use Rattle.numbers.specs.Range.{integerLimit, decimalLimit, within}
-use Rattle.cells.specs.Bytes.{pair, quad, octet, pairAt, quadAt, octetAt, unsigned, signed, word, long, begins, same}
+use Rattle.cells.specs.Bytes.{pair, quad, octet, pairAt, quadAt, octetAt, inComplement, fromComplement, word, long, begins, equalBytes}
 
 pub record Key : Type 0 where
   pub datasource : ℕ
@@ -15,9 +18,9 @@ pub record Key : Type 0 where
   pub recordNumber : ℕ
   pub entryNumber : ℕ
 
-pub record Cell : Type 0 where
-  pub key : Key
-  pub value : Value
+-- a key by its four numbers
+abbrev pub keyOf : ℕ → ℕ → ℕ → ℕ → Key
+keyOf d p r e = record { datasource = d; parameter = p; recordNumber = r; entryNumber = e }
 
 -- n lies within low–high
 unfoldable pub between : ℕ → ℕ → ℕ → Bool
@@ -35,9 +38,6 @@ keyBytes k = k .datasource ∷ (pair (k .parameter) ++ (pair (k .recordNumber) +
 unfoldable pub number : Key → ℕ
 number k = ((k .datasource * 65536 + k .parameter) * 65536 + k .recordNumber) * 65536 + k .entryNumber
 
-abbrev pub numberOf : Cell → ℕ
-numberOf c = number (c .key)
-
 -- "of 0x20–0x7E"
 unfoldable pub each : (ℕ → Bool) → List ℕ → Bool
 each p [] = true
@@ -46,66 +46,138 @@ each p (b ∷ s) = p b && each p s
 abbrev pub printable : List ℕ → Bool
 printable s = each (between 32 126) s
 
--- "Values lie within ±2,000,000,000, so within ±2×10^15 millionths"; "a length 0–16"
+-- ---- the kinds of cell
+
+-- A row of the table of kinds.
+pub record Kind : Type 1 where
+  -- what a value of this kind holds, as one of the values
+  pub Body : Type 0
+  pub value : Body → Value
+  -- "one byte of kind"
+  pub byte : ℕ
+  -- how many bytes a value has
+  pub size : ℕ
+  pub allowed : Body → Bool
+  pub bytes : Body → List ℕ
+  -- what the bytes of a value hold
+  pub read : List ℕ → Body
+
+-- "0x49 integer (4 bytes)"; "Values lie within ±2,000,000,000"
+abbrev pub integers : Kind
+integers =
+    record {
+      Body = ℤ;
+      value = integer;
+      byte = 73;
+      size = 4;
+      allowed = within integerLimit;
+      bytes = λ z. quad (inComplement word z);
+      read = λ s. fromComplement word (quadAt s 0);
+    }
+
+-- "0x46 decimal (8 bytes, a count of millionths)"; "so within ±2×10^15 millionths"
+abbrev pub decimals : Kind
+decimals =
+    record {
+      Body = ℤ;
+      value = decimal;
+      byte = 70;
+      size = 8;
+      allowed = within decimalLimit;
+      bytes = λ z. octet (inComplement long z);
+      read = λ s. fromComplement long (octetAt s 0);
+    }
+
+-- "0x53 string (a length 0–16, then 16 bytes: that many of 0x20–0x7E, the rest zero)"
+abbrev pub strings : Kind
+strings =
+    record {
+      Body = List ℕ;
+      value = string;
+      byte = 83;
+      size = 17;
+      allowed = λ t. leb (length t) 16 && printable t;
+      bytes = λ t. length t ∷ (t ++ replicate (16 - length t) 0);
+      read = λ s. take (getD s 0 0) (drop 1 s);
+    }
+
+-- "Kinds: 0x49 integer .., 0x46 decimal .., 0x53 string"
+abbrev pub kinds : List Kind
+kinds = integers ∷ decimals ∷ strings ∷ []
+
+-- the row with a byte of kind
+abbrev pub rowIn : List Kind → ℕ → Option Kind
+rowIn [] b = none
+rowIn (k ∷ ks) b = cond (eqb b (k .byte)) (some k) (rowIn ks b)
+
+-- a value, as what its row holds
+pub record Held : Type 1 where
+  pub kind : Kind
+  pub body : kind .Body
+
+abbrev pub heldIn : Value → Held
+heldIn (A.number (Q.Integer z)) = record { kind = integers; body = z }
+heldIn (A.number (Q.Decimal z)) = record { kind = decimals; body = z }
+heldIn (string t) = record { kind = strings; body = t }
+
+-- the columns of a value's row
+unfoldable pub kindOf : Value → ℕ
+kindOf v = heldIn v .kind .byte
+
 unfoldable pub valueAllowed : Value → Bool
-valueAllowed (integer z) = within integerLimit z
-valueAllowed (decimal z) = within decimalLimit z
-valueAllowed (string s) = leb (length s) 16 && printable s
+valueAllowed v = heldIn v .kind .allowed (heldIn v .body)
+
+unfoldable pub valueBytes : Value → List ℕ
+valueBytes v = heldIn v .kind .bytes (heldIn v .body)
+
+abbrev pub integerKind : ℕ
+integerKind = integers .byte
+
+abbrev pub decimalKind : ℕ
+decimalKind = decimals .byte
+
+abbrev pub stringKind : ℕ
+stringKind = strings .byte
+
+-- ---- cells
+
+pub record Cell : Type 0 where
+  pub key : Key
+  pub value : Value
+
+abbrev pub keyNumber : Cell → ℕ
+keyNumber c = number (c .key)
 
 unfoldable pub cellAllowed : Cell → Bool
 cellAllowed c = keyAllowed (c .key) && valueAllowed (c .value)
 
--- "Kinds: 0x49 integer (4 bytes), 0x46 decimal (8 bytes, a count of millionths), 0x53 string"
-abbrev pub integerKind : ℕ
-integerKind = 73
-
-abbrev pub decimalKind : ℕ
-decimalKind = 70
-
-abbrev pub stringKind : ℕ
-stringKind = 83
-
-unfoldable pub kindOf : Value → ℕ
-kindOf (integer z) = integerKind
-kindOf (decimal z) = decimalKind
-kindOf (string s) = stringKind
-
--- a string is "a length 0–16, then 16 bytes: that many of 0x20–0x7E, the rest zero"
-unfoldable pub valueBytes : Value → List ℕ
-valueBytes (integer z) = quad (unsigned word z)
-valueBytes (decimal z) = octet (unsigned long z)
-valueBytes (string s) = length s ∷ (s ++ replicate (16 - length s) 0)
-
 unfoldable pub cellBytes : Cell → List ℕ
 cellBytes c = kindOf (c .value) ∷ (keyBytes (c .key) ++ valueBytes (c .value))
 
--- The parts of a cell by their places in its bytes.
+-- The key at a place of the bytes, and the cell of a row: its key stands behind the byte of kind, its value behind the key.
 unfoldable pub keyAt : List ℕ → ℕ → Key
-keyAt s i =
-    record {
-      datasource = getD s i 0;
-      parameter = pairAt s (i + 1);
-      recordNumber = pairAt s (i + 3);
-      entryNumber = pairAt s (i + 5);
-    }
+keyAt s i = keyOf (getD s i 0) (pairAt s (i + 1)) (pairAt s (i + 3)) (pairAt s (i + 5))
 
-unfoldable pub valueOf : List ℕ → Value
-valueOf s =
-    cond
-    (eqb (getD s 0 0) integerKind)
-    (integer (signed word (quadAt s 8)))
-    (cond (eqb (getD s 0 0) decimalKind) (decimal (signed long (octetAt s 8))) (string (take (getD s 8 0) (drop 9 s))))
+unfoldable pub cellBy : Option Kind → List ℕ → Option Cell
+cellBy none s = none
+cellBy (some k) s = some (record { key = keyAt s 1; value = k .value (k .read (drop 8 s)) })
 
-abbrev pub cellOf : List ℕ → Cell
-cellOf s = record { key = keyAt s 1; value = valueOf s }
+-- the cell that s holds by its byte of kind
+unfoldable pub cellOf : List ℕ → Option Cell
+cellOf s = cellBy (rowIn kinds (getD s 0 0)) s
+
+-- a cell within the limits whose bytes pass a test, or none
+unfoldable pub passing : (List ℕ → Bool) → Option Cell → Option Cell
+passing test none = none
+passing test (some c) = cond (cellAllowed c && test (cellBytes c)) (some c) none
 
 -- the cell within the limits whose bytes s begins with, or none
 unfoldable pub front : List ℕ → Option Cell
-front s = cond (cellAllowed (cellOf s) && begins (cellBytes (cellOf s)) s) (some (cellOf s)) none
+front s = passing (λ b. begins b s) (cellOf s)
 
 -- the cell within the limits, and the key, whose bytes are s, or none
 unfoldable pub wholeCell : List ℕ → Option Cell
-wholeCell s = cond (cellAllowed (cellOf s) && same (cellBytes (cellOf s)) s) (some (cellOf s)) none
+wholeCell s = passing (λ b. equalBytes b s) (cellOf s)
 
 unfoldable pub wholeKey : List ℕ → Option Key
-wholeKey s = cond (keyAllowed (keyAt s 0) && same (keyBytes (keyAt s 0)) s) (some (keyAt s 0)) none
+wholeKey s = cond (keyAllowed (keyAt s 0) && equalBytes (keyBytes (keyAt s 0)) s) (some (keyAt s 0)) none

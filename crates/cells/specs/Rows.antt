@@ -9,10 +9,10 @@ use lib.ListN.{replicate}
 use Rattle.meaning.specs.Answer.{Value, integer, decimal, string, missing, cell, highest}
 use Rattle.meaning.specs.declared.question.Question.{Question}
 use Rattle.numbers.specs.Range.{within}
-use Rattle.cells.specs.Bytes.{pair, quad, octet, pairAt, quadAt, octetAt, unsigned, signed, begins}
-use Rattle.cells.specs.Cell.{Key, Cell, between, keyAllowed, keyBytes, number, each, valueAllowed, cellAllowed, kindOf, valueBytes, cellBytes, keyAt, valueOf, front}
-use Rattle.cells.specs.Store.{encode, above, rising, before, run, ordered, cells}
-use Rattle.cells.specs.Asking.{lookup, found, highestOf, ofParameter, ofRecord, answer, unusedZero, questionAllowed}
+use Rattle.cells.specs.Bytes.{pair, quad, octet, pairAt, quadAt, octetAt, inComplement, fromComplement, begins}
+use Rattle.cells.specs.Cell.{Key, Cell, between, keyAllowed, keyBytes, number, each, valueAllowed, cellAllowed, kindOf, valueBytes, cellBytes, keyAt, cellBy, cellOf, passing, front}
+use Rattle.cells.specs.Store.{encode, above, rising, before, cellRun, ordered, cells}
+use Rattle.cells.specs.Asking.{lookup, found, unused, queryOf, queryAllowed, questionAllowed, highestOf, ofParameter, ofRecord, queryAnswer, answer}
 
 abbrev key : ℕ → ℕ → ℕ → ℕ → Key
 key d p r e = record { datasource = d; parameter = p; recordNumber = r; entryNumber = e }
@@ -67,8 +67,8 @@ unfolding
     pairAt
     quadAt
     octetAt
-    unsigned
-    signed
+    inComplement
+    fromComplement
     begins
     between
     keyAllowed
@@ -81,22 +81,27 @@ unfolding
     valueBytes
     cellBytes
     keyAt
-    valueOf
+    cellBy
+    cellOf
+    passing
     front
     encode
     above
     rising
     before
-    run
+    cellRun
     ordered
     cells
+    unused
+    queryOf
+    queryAllowed
+    questionAllowed
     lookup
     found
     highestOf
     ofParameter
     ofRecord
+    queryAnswer
     answer
-    unusedZero
-    questionAllowed
     within
 rows = (refl, refl, refl, refl, refl, refl, refl, refl, refl, refl, refl, refl, refl, refl, refl)

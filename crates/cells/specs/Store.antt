@@ -5,7 +5,7 @@ use mathlib.Core.Option.{Option, none, some}
 use Prim.Native.Nat.{ℕ, zero, suc}
 use lib.Dec.{leb, ltb}
 use lib.ListN.{length, take, drop}
-use Rattle.cells.specs.Cell.{Cell, numberOf, cellAllowed, cellBytes, front}
+use Rattle.cells.specs.Cell.{Cell, keyNumber, cellAllowed, cellBytes, front}
 
 abbrev pub capacity : ℕ
 capacity = 65536
@@ -23,12 +23,12 @@ allowed (c ∷ cs) = cellAllowed c && allowed cs
 -- every key is above n
 unfoldable pub above : ℕ → List Cell → Bool
 above n [] = true
-above n (c ∷ cs) = ltb n (numberOf c) && above n cs
+above n (c ∷ cs) = ltb n (keyNumber c) && above n cs
 
 -- "Keys rise strictly."
 unfoldable pub rising : List Cell → Bool
 rising [] = true
-rising (c ∷ cs) = above (numberOf c) cs && rising cs
+rising (c ∷ cs) = above (keyNumber c) cs && rising cs
 
 -- with a cell put before what was read
 unfoldable pub before : Cell → Option (List Cell) → Option (List Cell)
@@ -36,12 +36,12 @@ before c none = none
 before c (some cs) = some (c ∷ cs)
 
 -- the cells that s is a run of, at most n of them, or none
-unfoldable pub run : ℕ → List ℕ → Option (List Cell)
-run zero s = elim s [ [] ↦ some [] | b ∷ t ↦ none ]
-run (suc n) s =
+unfoldable pub cellRun : ℕ → List ℕ → Option (List Cell)
+cellRun zero s = elim s [ [] ↦ some [] | b ∷ t ↦ none ]
+cellRun (suc n) s =
     elim s [
       | [] ↦ some []
-      | b ∷ t ↦ elim (front (b ∷ t)) [ none ↦ none | some c ↦ before c (run n (drop (length (cellBytes c)) (b ∷ t))) ]
+      | b ∷ t ↦ elim (front (b ∷ t)) [ none ↦ none | some c ↦ before c (cellRun n (drop (length (cellBytes c)) (b ∷ t))) ]
     ]
 
 unfoldable pub ordered : Option (List Cell) → Option (List Cell)
@@ -50,7 +50,7 @@ ordered (some cs) = cond (rising cs) (some cs) none
 
 -- the cells with rising keys that these bytes are, or none
 unfoldable pub cells : List ℕ → Option (List Cell)
-cells s = ordered (run (length s) s)
+cells s = ordered (cellRun (length s) s)
 
 -- The store handed in as a buffer and a length. 1: "The store breaks its form or is longer than its buffer."
 unfoldable pub held : List ℕ → ℕ → Option (List Cell)

@@ -4,10 +4,9 @@ ghost use mathlib.Core.Path.{_≡_};
 ghost use Prim.Native.Nat.{_+_, _≤_, _<_};
 ghost use lib.ListN.{length, getD};
 ghost use Rattle.numbers.specs.Range.{within};
-ghost use Rattle.cells.specs.Bytes.{signed};
-ghost use Rattle.cells.specs.Cell.{between, each, keyAllowed, keyAt};
+ghost use Rattle.cells.specs.Bytes.{fromComplement};
+ghost use Rattle.cells.specs.Cell.{keyOf, between, each, keyAllowed, keyAt};
 ghost use Rattle.cells.specs.inner.Tests.{sizeOf, stringFormed, valueFormed, Sized};
-ghost use Rattle.cells.specs.inner.Tests as T;
 
 pub const INTEGER: u8 = 0x49;
 
@@ -21,7 +20,7 @@ const DECIMAL_LIMIT: u64 = 2_000_000_000_000_000;
 
 // "datasource 1–35, parameter 1–65,535, record 0–999, entry 0–999"
 pub fn within_limits(datasource: u64, parameter: u64, record_number: u64, entry: u64) -> bool
-    ensures { λ r. ⌜ r ≡ keyAllowed (T.keyOf datasource parameter «record_number» entry) ⌝ }
+    ensures { λ r. ⌜ r ≡ keyAllowed (keyOf datasource parameter «record_number» entry) ⌝ }
 {
     if datasource < 1 {
         return false;
@@ -56,7 +55,7 @@ pub fn key_allowed(s: &[u8], at: usize) -> bool
 // Whether a number in two's complement, `top` being the highest of its width, lies within ±limit.
 pub fn number_allowed(n: u64, top: u64, limit: u64) -> bool
     requires { ⌜ n ≤ top ⌝ }
-    ensures { λ r. ⌜ r ≡ within limit (signed (top + 1) n) ⌝ }
+    ensures { λ r. ⌜ r ≡ within limit (fromComplement (top + 1) n) ⌝ }
 {
     if n <= top / 2 {
         return n <= limit;

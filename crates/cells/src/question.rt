@@ -7,8 +7,7 @@ use meaning::question::Question;
 ghost use mathlib.Core.Path.{_≡_};
 ghost use mathlib.Core.Bool.{true};
 ghost use Prim.Native.Nat.{_+_, _≤_, _<_};
-ghost use Rattle.cells.specs.Cell.{number, keyAllowed};
-ghost use Rattle.cells.specs.inner.Tests.{keyOf};
+ghost use Rattle.cells.specs.Cell.{keyOf, number, keyAllowed};
 ghost use Rattle.cells.specs.Asking.{questionAllowed};
 ghost use Rattle.cells.specs.inner.Index.{CellAnswer, Highest, Answers, reachOf, offsetOf};
 

@@ -5,20 +5,20 @@ use crate::form;
 ghost use mathlib.Core.Path.{_≡_};
 ghost use Prim.Native.Nat.{_+_, _≤_, _<_};
 ghost use lib.ListN.{length};
-ghost use Rattle.cells.specs.Bytes.{pairAt, signed};
+ghost use Rattle.cells.specs.Bytes.{pairAt, fromComplement};
 ghost use Rattle.cells.specs.inner.Index.{ValueAt};
 
 // The value of 32 bits in two's complement, without a branch.
 fn signed_quad(n: u64) -> i64
     requires { ⌜ n < 4294967296 ⌝ }
-    ensures { λ r. ⌜ r ≡ signed 4294967296 n ⌝ }
+    ensures { λ r. ⌜ r ≡ fromComplement 4294967296 n ⌝ }
 {
     ((n + 2147483648) % 4294967296) as i64 - 2147483648
 }
 
 // The value of 64 bits in two's complement.
 fn signed_octet(n: u64) -> i64
-    ensures { λ r. ⌜ r ≡ signed 18446744073709551616 n ⌝ }
+    ensures { λ r. ⌜ r ≡ fromComplement 18446744073709551616 n ⌝ }
 {
     if n <= 9223372036854775807 {
         return n as i64;

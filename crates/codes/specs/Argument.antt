@@ -1,4 +1,4 @@
--- Arguments as seven numbers: what the operand is, five numbers of it, its filter. Assumes nothing.
+-- Arguments as seven numbers: what the operand is, five numbers of it, its filter.
 use mathlib.Core.Bool.{cond}
 use Prim.Native.Nat.{ℕ}
 use lib.IntN.{ℤ, pos, natAbs}

@@ -1,4 +1,4 @@
--- Lines as rows. Assumes nothing.
+-- Lines as rows.
 use mathlib.Core.List.{List}
 use Prim.Native.Nat.{ℕ}
 use Rattle.arguments.specs.declared.index.Index.{Index}

@@ -1,4 +1,4 @@
--- Pieces of texts as rows, their number being the place behind them. Assumes nothing.
+-- Pieces of texts as rows, their number being the place behind them.
 use mathlib.Core.List.{List}
 use Prim.Native.Nat.{ℕ}
 use Rattle.texts.specs.declared.text.Places.{Places}

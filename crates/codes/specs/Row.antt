@@ -1,4 +1,4 @@
--- Rows of 16 numbers: what a line or a piece is, its number, and two arguments of seven numbers. Assumes nothing.
+-- Rows of 16 numbers: what a line or a piece is, its number, and two arguments of seven numbers.
 use mathlib.Core.List.{List, [], _∷_, _++_}
 use Prim.Native.Nat.{ℕ}
 use Rattle.codes.specs.declared.row.Seven.{Seven}

@@ -3,6 +3,7 @@ use mathlib.Core.Path.{_≡_, refl, ap, _∙_}
 use mathlib.Core.List.{List, map}
 use Prim.Native.Nat.{ℕ, zero, suc}
 use lib.IntN.{ℤ}
+use Rattle.buffers.proofs.Laws.{map-set}
 use Rattle.meaning.specs.Answer.{Answer}
 use Rattle.meaning.specs.Tree.{done, bind}
 use Rattle.meaning.specs.Meaning.{Meaning}
@@ -17,13 +18,14 @@ use Rattle.values.specs.declared.fetch.Fetched.{Fetched}
 use Rattle.values.specs.declared.fetch.Along.{Along}
 use Rattle.values.specs.declared.fetch.Along.the-variants.{Records, Entries}
 use Rattle.values.specs.Machine.{Machine}
-use Rattle.values.specs.Fetching.{Fetches, FetchValue}
-use Rattle.values.specs.State.{answers, fetched, machine}
+use Rattle.values.specs.inner.Fetch.{Fetches, FetchValue}
+use Rattle.values.specs.Source.{answers}
+use Rattle.values.specs.inner.State.{fetched, machine}
 use Rattle.values.specs.inner.Word.{questions}
-use Rattle.values.proofs.Words.{map-set}
-use Rattle.commands.specs.Setting.{setNumbered}
-use Rattle.commands.specs.inner.Contracts.{Runs}
-use Rattle.commands.specs.Fetching.{withRecords, withEntries, recordsMeaning, entriesMeaning, TakesRecords, TakesEntries}
+use Rattle.assignments.specs.Setting.{setNumbered}
+use Rattle.coercions.specs.inner.Contracts.{Runs}
+use Rattle.commands.specs.Fetching.{withRecords, withEntries, recordsMeaning, entriesMeaning}
+use Rattle.commands.specs.inner.Fetches.{TakesRecords, TakesEntries}
 
 -- A fetch that led to v, and the machine with what it fetched.
 module _ (b index : List ℕ) (count : ℕ) (t : (Question → Answer) → Meaning (List Answer)) (along : Along) (put : (Question → Answer) → List Answer → Machine) (after : (Question → Answer) → Machine) (log : List ℕ) (a p : ℕ) (log′ : List ℕ) (v : Fetched) (d : Fetches t along log a p log′ v) where

@@ -27,12 +27,12 @@ use Rattle.values.specs.Worth.{Worth}
 use Rattle.values.specs.Meanings.{indexNumber, argumentMeaning}
 use Rattle.values.specs.Fetching.{fetchMeaning}
 use Rattle.values.proofs.Giving.{Gives, Anything, gives-bind, argument-gives, fetch-gives}
-use Rattle.commands.specs.declared.table.Table.{Table}
-use Rattle.commands.specs.Settling.{Settled, settled, against, andThen, concluded, integerFrom, integerMeaning}
-use Rattle.commands.specs.Setting.{setNumbered, stored, setOf, setMeaning}
-use Rattle.commands.specs.Testing.{zeroJudged, compared, zeroMeaning, testMeaning}
+use Rattle.tables.specs.declared.table.Table.{Table}
+use Rattle.coercions.specs.Settling.{Settled, settled, against, andThen, concluded, integerFrom, integerMeaning}
+use Rattle.assignments.specs.Setting.{setNumbered, stored, setOf, setMeaning}
+use Rattle.conditions.specs.Testing.{zeroJudged, compared, zeroMeaning, testMeaning}
 use Rattle.commands.specs.Fetching.{withRecords, withEntries, recordsMeaning, entriesMeaning}
-use Rattle.commands.specs.Looping.{loop, Looping, looping, newTable, begun, beginMeaning, innermost, exceeds, countedTo, counting, counted, endMeaning}
+use Rattle.tables.specs.Looping.{loop, Looping, looping, newTable, begun, beginMeaning, innermost, exceeds, countedTo, counting, counted, endMeaning}
 use Rattle.commands.specs.Selecting.{datasourceFrom, datasourceMeaning}
 
 -- Φ a where x is settled with a

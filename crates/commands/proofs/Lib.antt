@@ -1,10 +1,4 @@
-pub mod Settles
-pub mod Running
-pub mod Sets
-pub mod Copying
-pub mod Tests
 pub mod Fetches
-pub mod Tabling
 pub mod Selections
 pub mod Clearing
 pub mod Giving

@@ -36,11 +36,11 @@ use Rattle.values.specs.Fetching.{fetchMeaning}
 use Rattle.values.proofs.Giving.{Gives}
 use Rattle.values.proofs.Ranges as R
 use Rattle.values.proofs.Ranges.{IntegerWithin, DecimalWithin, Short, WorthWithin, MachineWithin, argument-within, fetch-within}
-use Rattle.commands.specs.declared.table.Table.{Table}
-use Rattle.commands.specs.Settling.{Settled, settled, against, concluded, integerFrom, quantityFrom, stringFrom, resultOf, millionthsOf, decimalFrom, integerMeaning}
-use Rattle.commands.specs.Setting.{integerOutcome, decimalOutcome, setNumbered, stored, newFrom, integerNew, decimalNew, stringNew, setOf, setMeaning}
+use Rattle.tables.specs.declared.table.Table.{Table}
+use Rattle.coercions.specs.Settling.{Settled, settled, against, concluded, integerFrom, quantityFrom, stringFrom, resultOf, millionthsOf, decimalFrom, integerMeaning}
+use Rattle.assignments.specs.Setting.{integerOutcome, decimalOutcome, setNumbered, stored, newFrom, integerNew, decimalNew, stringNew, setOf, setMeaning}
 use Rattle.commands.specs.Fetching.{withRecords, withEntries, recordsMeaning, entriesMeaning}
-use Rattle.commands.specs.Looping.{Looping, begun, beginMeaning, endMeaning}
+use Rattle.tables.specs.Looping.{Looping, begun, beginMeaning, endMeaning}
 use Rattle.commands.proofs.Giving.{Whenever, whenever-then, numbered-length, Counting, end-gives, Bounded, begun-bounded, counting-bounded}
 
 -- what a tree that only asks gives, it yields

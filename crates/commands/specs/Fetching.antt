@@ -1,19 +1,14 @@
 -- $REC and $TBL.
 use mathlib.Core.List.{List}
 use Prim.Native.Nat.{ℕ}
-use lib.IntN.{ℤ}
 use Rattle.meaning.specs.Answer.{Answer}
 use Rattle.meaning.specs.Tree.{done, bind}
 use Rattle.meaning.specs.Meaning.{Meaning}
 use Rattle.lines.specs.declared.command.Fetch.{Fetch}
-use Rattle.values.specs.declared.scene.Scene.{Scene}
 use Rattle.values.specs.declared.fetch.Along.the-variants.{Records, Entries}
 use Rattle.values.specs.Machine.{Machine}
 use Rattle.values.specs.Fetching.{fetchMeaning}
-use Rattle.values.specs.State.{machine}
-use Rattle.commands.specs.declared.settle.Done.{Done}
-use Rattle.commands.specs.Setting.{setNumbered}
-use Rattle.commands.specs.inner.Contracts.{Runs}
+use Rattle.assignments.specs.Setting.{setNumbered}
 
 abbrev pub withRecords : Machine → List (List Answer) → Machine
 withRecords m l = record { integers = m .integers; decimals = m .decimals; strings = m .strings; counter = m .counter; records = l; entries = m .entries; datasource = m .datasource; page = m .page; row = m .row }
@@ -30,10 +25,3 @@ recordsMeaning m line f =
 unfoldable pub entriesMeaning : Machine → ℕ → Fetch → Meaning Machine
 entriesMeaning m line f =
     bind (fetchMeaning m line Entries (f .parameter) (f .first) (f .second) (f .count)) (λ l. done (withEntries m (setNumbered (m .entries) (f .number) l)))
-
--- What `fetch_records` and `fetch_entries` say, by all that they are handed and hand back.
-pub record TakesRecords (integers : List ℤ) (records : List ℕ) (scene : Scene) (f : Fetch) (log : List ℕ) (a p : ℕ) (records′ log′ : List ℕ) (r : Done) : Type 0 where
-  pub runs : (b index : List ℕ) (count : ℕ) (decimals : List ℤ) (rows : List (List ℕ)) (lengths entries : List ℕ) → Runs b index count (λ source. recordsMeaning (machine source integers decimals rows lengths records entries scene) (scene .number) f) (λ source. machine source integers decimals rows lengths records′ entries scene) 64 log a p log′ (r .asked) (r .end)
-
-pub record TakesEntries (integers : List ℤ) (entries : List ℕ) (scene : Scene) (f : Fetch) (log : List ℕ) (a p : ℕ) (entries′ log′ : List ℕ) (r : Done) : Type 0 where
-  pub runs : (b index : List ℕ) (count : ℕ) (decimals : List ℤ) (rows : List (List ℕ)) (lengths records : List ℕ) → Runs b index count (λ source. entriesMeaning (machine source integers decimals rows lengths records entries scene) (scene .number) f) (λ source. machine source integers decimals rows lengths records entries′ scene) 64 log a p log′ (r .asked) (r .end)

@@ -1,4 +1,4 @@
--- Rows of document 01, each computed from the meaning of a whole command. Assumes nothing.
+-- Rows of document 01, each computed from the meaning of a whole command.
 use mathlib.Core.Path.{_≡_, refl}
 use mathlib.Core.Bool.{Bool, true, false}
 use mathlib.Core.List.{List, [], _∷_}
@@ -7,6 +7,7 @@ use lib.IntN.{ℤ, pos, negsuc}
 use lib.ListN.{length}
 use Rattle.meaning.specs.Answer as A
 use Rattle.meaning.specs.Answer.{Answer}
+use Rattle.meaning.specs.Meaning.{asksEach}
 use Rattle.meaning.specs.Tree.{finished, halted, refused, cut, End, Run, run}
 use Rattle.meaning.specs.declared.question.Question.{Question}
 use Rattle.meaning.specs.declared.refusal.Refusal.{Refusal}
@@ -36,13 +37,13 @@ use Rattle.values.specs.Letters.{upper, alike}
 use Rattle.values.specs.Machine.{Machine, numbered}
 use Rattle.values.specs.Worth.{answered, ranged, absolute, filteredNumber, filteredString, filtered, kindOf}
 use Rattle.values.specs.Meanings.{indexNumber, limited, indexValue, asks, cellMeaning, worthOf, operandMeaning, argumentMeaning}
-use Rattle.values.specs.Fetching.{firstOf, elementQuestion, elementQuestions, asksEach, countValue, asksElements, fetchMeaning}
-use Rattle.commands.specs.declared.table.Table.{Table}
-use Rattle.commands.specs.Settling.{settled, integerFrom, quantityFrom, stringFrom, resultOf, millionthsOf, decimalFrom, integerMeaning}
-use Rattle.commands.specs.Setting.{integerOutcome, decimalOutcome, setNumbered, stored, newFrom, stringNew, setOf, setMeaning}
-use Rattle.commands.specs.Testing.{zeroTest, zeroJudged, textual, ignoring, numbersHold, ofNumbers, ofStrings, isMissing, compared, zeroMeaning, testMeaning}
+use Rattle.values.specs.Fetching.{firstOf, elementQuestion, elementQuestions, countValue, asksElements, fetchMeaning}
+use Rattle.tables.specs.declared.table.Table.{Table}
+use Rattle.coercions.specs.Settling.{settled, integerFrom, quantityFrom, stringFrom, resultOf, millionthsOf, decimalFrom, integerMeaning}
+use Rattle.assignments.specs.Setting.{integerOutcome, decimalOutcome, setNumbered, stored, newFrom, stringNew, setOf, setMeaning}
+use Rattle.conditions.specs.Testing.{zeroTest, zeroJudged, ofNumbers, ofStrings, isMissing, compared, zeroMeaning, testMeaning, judged}
 use Rattle.commands.specs.Fetching.{recordsMeaning}
-use Rattle.commands.specs.Looping.{loop, Looping, looping, newTable, begun, beginMeaning, exceeds, countedTo, counting, counted, endMeaning}
+use Rattle.tables.specs.Looping.{loop, Looping, looping, newTable, begun, beginMeaning, exceeds, countedTo, counting, counted, endMeaning}
 use Rattle.commands.specs.Selecting.{datasourceFrom, datasourceMeaning}
 
 -- IV1 is −7, IV2 is 1000, IV3 is 2,000,000,000; FV1 is 0.000001, FV2 is −1; SV1 is "cs", SV2 is empty; R1 has no elements
@@ -190,6 +191,6 @@ Rows =
     × (selects Loop ≡ halted (refused BadIndex) 7)
 
 pub rows : Rows
-unfolding run opposed within rounded checked operands dividedBy sumOf differenceOf integerProduct integerQuotient decimalProduct decimalQuotient inMillionths upper alike numbered answered ranged absolute filteredNumber filteredString filtered kindOf indexNumber limited indexValue asks cellMeaning worthOf operandMeaning argumentMeaning firstOf elementQuestion elementQuestions asksEach countValue asksElements fetchMeaning integerFrom quantityFrom stringFrom resultOf millionthsOf decimalFrom integerMeaning integerOutcome decimalOutcome setNumbered stored newFrom stringNew setOf setMeaning zeroTest zeroJudged textual ignoring numbersHold ofNumbers ofStrings isMissing compared zeroMeaning testMeaning recordsMeaning loop begun beginMeaning exceeds counting counted endMeaning datasourceFrom datasourceMeaning
+unfolding run opposed within rounded checked operands dividedBy sumOf differenceOf integerProduct integerQuotient decimalProduct decimalQuotient inMillionths upper alike numbered answered ranged absolute filteredNumber filteredString filtered kindOf indexNumber limited indexValue asks cellMeaning worthOf operandMeaning argumentMeaning firstOf elementQuestion elementQuestions asksEach countValue asksElements fetchMeaning integerFrom quantityFrom stringFrom resultOf millionthsOf decimalFrom integerMeaning integerOutcome decimalOutcome setNumbered stored newFrom stringNew setOf setMeaning zeroTest zeroJudged ofNumbers ofStrings isMissing compared zeroMeaning testMeaning recordsMeaning loop begun beginMeaning exceeds counting counted endMeaning datasourceFrom datasourceMeaning judged
 rows =
     (refl, refl, refl, refl, refl, refl, refl, refl, refl, refl, refl, refl, refl, refl, refl, refl, refl, refl, refl, refl, refl, refl, refl, refl, refl, refl, refl, refl, refl, refl, refl, refl, refl, refl, refl, refl, refl, refl, refl, refl, refl, refl, refl, refl, refl, refl, refl)

@@ -5,7 +5,7 @@ use meaning::end::Halt;
 use meaning::refusal::Refusal;
 use values::scene;
 use values::scene::Scene;
-ghost use Rattle.commands.specs.Selecting.{Selects};
+ghost use Rattle.commands.specs.inner.Selects.{Selects};
 
 // How the line ended, and the selected datasource.
 pub struct Selected {

@@ -20,18 +20,18 @@ use Rattle.cells.proofs.Limits.{AnswerWithin}
 use Rattle.arguments.proofs.Parsed.{Between}
 use Rattle.values.specs.Machine.{Machine}
 use Rattle.values.proofs.Allowed.{Allowed, AsksAllowed}
-use Rattle.commands.specs.Settling.{integerMeaning}
-use Rattle.commands.specs.Setting.{setMeaning}
-use Rattle.commands.specs.Testing.{zeroMeaning, testMeaning}
-use Rattle.commands.specs.Looping.{beginMeaning, endMeaning}
+use Rattle.coercions.specs.Settling.{integerMeaning}
+use Rattle.assignments.specs.Setting.{setMeaning}
+use Rattle.conditions.specs.Testing.{zeroMeaning, testMeaning}
+use Rattle.tables.specs.Looping.{beginMeaning, endMeaning}
 use Rattle.commands.specs.Fetching.{recordsMeaning, entriesMeaning}
 use Rattle.commands.specs.Selecting.{datasourceMeaning}
 use Rattle.commands.proofs.Allowed.{set-asks, integer-asks, zero-asks, test-asks, begin-asks, end-asks, records-asks, entries-asks, datasource-asks}
 use Rattle.pages.specs.declared.page.Page.{Page}
 use Rattle.pages.specs.Page.{breakMeaning, lineStep}
 use Rattle.pages.proofs.Allowed.{step-asks}
-use Rattle.execution.specs.State.{State, seen, withMachine, withDatasource, withPage}
-use Rattle.execution.specs.Line.{past, setting, branched, testing, tableBegun, tableEnded, breaking, breakingFor, newPageMeaning, formMeaning, lineMeaning}
+use Rattle.control.specs.State.{State, seen, withMachine, withDatasource, withPage}
+use Rattle.control.specs.Line.{past, setting, branched, testing, tableBegun, tableEnded, breaking, breakingFor, newPageMeaning, formMeaning, lineMeaning}
 
 module _ (t : List ℕ) (start l : ℕ) (body : List ℕ) (s : State) (d : Between 1 35 (s .datasource)) where
   sets : (x : Meaning Machine) → AsksAllowed x → AsksAllowed (setting s x)

@@ -1,7 +1,5 @@
 pub mod Places
 pub mod Sounds
-pub mod Following
-pub mod Commanding
 pub mod Lining
 pub mod Ranges
 pub mod Allowed

@@ -1,5 +1,6 @@
 -- The line that is due: split, parsed, and executed in its form.
 use mathlib.Core.Path.{_≡_, refl, sym, ap, _∙_}
+use mathlib.Core.Bool.{Bool, true, false}
 use mathlib.Core.List.{List, [], _∷_}
 use Prim.Native.Nat.{ℕ, suc, _+_, _-_, _≤_}
 use native.Mathlib.Omega.{arith}
@@ -15,20 +16,22 @@ use Rattle.template.specs.Form.{shapeIn, shapeOf}
 use Rattle.template.proofs.Opening.{checks-short, opens-line}
 use Rattle.values.specs.declared.scene.Scene.{Scene}
 use Rattle.values.specs.declared.fetch.Along.the-variants.{Records, Entries}
-use Rattle.values.specs.State.{texts, fetched}
-use Rattle.commands.specs.Looping.{openOf}
-use Rattle.commands.proofs.Tabling.{opened-length}
-use Rattle.pages.specs.Heading.{headingIn}
+use Rattle.values.specs.inner.State.{texts, fetched}
+use Rattle.tables.specs.inner.Open.{openOf}
+use Rattle.tables.proofs.Tabling.{opened-length}
+use Rattle.pages.specs.inner.Packed.{headingIn}
 use Rattle.lines.proofs.Accepted.{parsed-sound}
 use Rattle.lines.specs.inner.Known.{formOf}
 use Rattle.lines.proofs.KnownLaws.{form-known}
-use Rattle.execution.specs.declared.state.Flow.{Flow}
-use Rattle.execution.specs.declared.state.Lined.{Lined}
-use Rattle.execution.specs.inner.Held.{Held}
-use Rattle.execution.specs.Line.{formMeaning, lineMeaning}
-use Rattle.execution.specs.inner.Sound.{Nested}
-use Rattle.execution.specs.inner.Going.{sceneOf, placedAt}
-use Rattle.execution.specs.inner.Executing.{sourceOf, stateAt, Executes, LineReady, FormReady}
+use Rattle.control.specs.declared.state.Flow.{Flow}
+use Rattle.control.specs.declared.state.Lined.{Lined}
+use Rattle.control.specs.inner.Held.{Held}
+use Rattle.control.specs.Line.{formMeaning, lineMeaning}
+use Rattle.control.specs.inner.Sound.{Nested}
+use Rattle.control.specs.inner.Going.{sceneOf, placedAt}
+use Rattle.control.specs.inner.Executing.{sourceOf, stateAt, Executes, LineReady, FormReady}
+use Rattle.control.specs.inner.Updating.{updating}
+use Rattle.updates.specs.inner.Updating.{UpdateReady}
 use Rattle.execution.proofs.Places.{nested-few, nested-line, nested-room}
 
 pub texts-length : (rows : List (List ℕ)) (k : ℕ) (ns : List ℕ) → length (texts rows k ns) ≡ length ns
@@ -91,6 +94,62 @@ module _ {b index : List ℕ} {count : ℕ} {t : List ℕ} {h : Held} {f : Flow}
       room = k .room;
       places = k .places;
     })
+
+    -- what a line that sets requires, and one that only reads
+    pub update-ready : (q : Bool) → q ≡ updating line → q ≡ true → UpdateReady body b index count h scene (f .at) next line a
+    update-ready q e i =
+        let y = form-ready in
+        record {
+          kept = y .kept;
+          stored = y .stored;
+          scened = y .scened;
+          parsed = y .parsed;
+          short = y .short;
+          placed = y .placed;
+          numbered = y .numbered;
+          datasource = y .datasource;
+          integers = y .integers;
+          decimals = y .decimals;
+          rows = y .rows;
+          lengths = y .lengths;
+          records = y .records;
+          entries = y .entries;
+          headings = y .headings;
+          places = y .places;
+          update = sym e ∙ i;
+        }
+
+    pub read-ready : (q : Bool) → q ≡ updating line → q ≡ false → FormReady body b index count t h scene 0 next line T u a × (updating line ≡ false)
+    read-ready q e i =
+        let y = form-ready in (
+          record {
+            kept = y .kept;
+            stored = y .stored;
+            scened = y .scened;
+            parsed = y .parsed;
+            short = y .short;
+            template = y .template;
+            placed = omega arith;
+            numbered = y .numbered;
+            few = y .few;
+            datasource = y .datasource;
+            tables = y .tables;
+            room-for-table = y .room-for-table;
+            page = y .page;
+            row = y .row;
+            integers = y .integers;
+            decimals = y .decimals;
+            rows = y .rows;
+            lengths = y .lengths;
+            records = y .records;
+            entries = y .entries;
+            headings = y .headings;
+            heads = y .heads;
+            room = y .room;
+            places = y .places;
+          },
+          sym e ∙ i,
+        )
 
     pub line-executes : (log : List ℕ) (p : ℕ) (h′ : Held) (T′ log′ : List ℕ) (r : Lined) → Executes (formMeaning t (f .at) (scene .number) body (stateAt b h next) line) b h next T u log a p h′ T′ log′ r → Executes (lineMeaning t (stateAt b h f)) b h f T u log a p h′ T′ log′ r
     unfolding lineMeaning

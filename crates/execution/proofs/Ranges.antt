@@ -25,11 +25,11 @@ use Rattle.arguments.proofs.Parsed.{Between}
 use Rattle.values.specs.Machine.{Machine}
 use Rattle.values.proofs.Ranges.{IntegerWithin, DecimalWithin, Short, MachineWithin}
 use Rattle.template.specs.declared.seek.Sought.the-variants.{TableEnd}
-use Rattle.commands.specs.declared.table.Table.{Table}
-use Rattle.commands.specs.Settling.{integerMeaning}
-use Rattle.commands.specs.Setting.{setMeaning}
-use Rattle.commands.specs.Testing.{zeroMeaning, testMeaning}
-use Rattle.commands.specs.Looping.{Looping, loop, innermost, beginMeaning, endMeaning}
+use Rattle.tables.specs.declared.table.Table.{Table}
+use Rattle.coercions.specs.Settling.{integerMeaning}
+use Rattle.assignments.specs.Setting.{setMeaning}
+use Rattle.conditions.specs.Testing.{zeroMeaning, testMeaning}
+use Rattle.tables.specs.Looping.{Looping, loop, innermost, beginMeaning, endMeaning}
 use Rattle.commands.specs.Fetching.{recordsMeaning, entriesMeaning}
 use Rattle.commands.specs.Selecting.{datasourceMeaning}
 use Rattle.commands.proofs.Giving as G
@@ -37,9 +37,9 @@ use Rattle.commands.proofs.Giving.{loop-bounded, Selectable, datasource-gives}
 use Rattle.commands.proofs.Ranges.{Held, held, gives-yields, set-within, begin-within, end-within, records-within, entries-within}
 use Rattle.pages.specs.declared.page.Page.{Page}
 use Rattle.pages.specs.Page.{breakMeaning, lineStep}
-use Rattle.execution.specs.State.{State, seen, withPlace, withMachine, withDatasource, withTables, withFeeds, withPage, cleared}
-use Rattle.execution.specs.Line.{past, jumped, setting, branched, testing, tableBegun, tableEnded, breaking, breakingFor, newPageMeaning, headed, formMeaning, lineMeaning}
-use Rattle.execution.specs.inner.Sound.{Sound}
+use Rattle.control.specs.State.{State, seen, withPlace, withMachine, withDatasource, withTables, withFeeds, withPage, cleared}
+use Rattle.control.specs.Line.{past, jumped, setting, branched, testing, tableBegun, tableEnded, breaking, breakingFor, newPageMeaning, headed, formMeaning, lineMeaning}
+use Rattle.control.specs.inner.Sound.{Sound}
 use Rattle.execution.proofs.Sounds.{each-same}
 
 -- Every IV within ±2,000,000,000, every FV within ±2×10^15 millionths, every SV of at most 16 bytes, R and T's answers within

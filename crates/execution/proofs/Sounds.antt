@@ -31,11 +31,11 @@ use Rattle.meaning.specs.Meaning.{Meaning}
 use Rattle.meaning.proofs.Keeping.{keeps-bind}
 use Rattle.values.specs.Machine.{Machine}
 use Rattle.values.proofs.Giving.{Gives, Anything, gives-keeps}
-use Rattle.commands.specs.declared.table.Table as C
-use Rattle.commands.specs.Settling.{integerMeaning}
-use Rattle.commands.specs.Setting.{setMeaning}
-use Rattle.commands.specs.Testing.{zeroMeaning, testMeaning}
-use Rattle.commands.specs.Looping.{Looping, innermost, newTable, countedTo, beginMeaning, endMeaning}
+use Rattle.tables.specs.declared.table.Table as C
+use Rattle.coercions.specs.Settling.{integerMeaning}
+use Rattle.assignments.specs.Setting.{setMeaning}
+use Rattle.conditions.specs.Testing.{zeroMeaning, testMeaning}
+use Rattle.tables.specs.Looping.{Looping, innermost, newTable, countedTo, beginMeaning, endMeaning}
 use Rattle.commands.specs.Fetching.{recordsMeaning, entriesMeaning}
 use Rattle.commands.specs.Selecting.{datasourceMeaning}
 use Rattle.commands.proofs.Giving.{Shaped, numbered-length, set-gives, records-gives, entries-gives, integer-gives, zero-gives, test-gives, Begun, skipped, opened, Counting, ended, again, begin-gives, end-gives, Selectable, datasource-gives}
@@ -47,9 +47,9 @@ use Rattle.pages.specs.Page.{headLine, headFrom, breakMeaning, lineStep}
 use Rattle.pages.proofs.Turning.{blank-fits}
 use Rattle.lines.proofs.Accepted.{heading-accepted}
 use Rattle.pages.proofs.Sixty as P
-use Rattle.execution.specs.State.{State, seen, withPlace, withMachine, withDatasource, withTables, withFeeds, withPage, cleared}
-use Rattle.execution.specs.Line.{past, jumped, setting, branched, testing, tableBegun, tableEnded, breaking, breakingFor, newPageMeaning, headed, formMeaning, lineMeaning}
-use Rattle.execution.specs.inner.Sound.{Nested, Fit, Sound}
+use Rattle.control.specs.State.{State, seen, withPlace, withMachine, withDatasource, withTables, withFeeds, withPage, cleared}
+use Rattle.control.specs.Line.{past, jumped, setting, branched, testing, tableBegun, tableEnded, breaking, breakingFor, newPageMeaning, headed, formMeaning, lineMeaning}
+use Rattle.control.specs.inner.Sound.{Nested, Fit, Sound}
 use Rattle.execution.proofs.Places.{nested-plain, nested-remark, nested-section, nested-end-test, nested-test, nested-failed, nested-else, nested-begun, nested-skipped, nested-ended, nested-again}
 
 -- LINENUM is one more than the lines on the page

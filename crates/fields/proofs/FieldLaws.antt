@@ -10,6 +10,7 @@ use borrow.Author.Tests.{le-leb, lt-leb, leb-true, eq-eqb, ne-eqb}
 use lib.Dec.{leb, eqb}
 use lib.ListN.{length, take, set, replicate, length-append, length-replicate, length-take}
 use lib.Seq.{sets, length-sets, take-all, length-take-le}
+use Rattle.meaning.specs.Answer.{Value, number, string}
 use Rattle.buffers.specs.Buffer.{room, stored}
 use Rattle.buffers.proofs.Laws.{sets-append, stored-in}
 use Rattle.numbers.specs.declared.Quantity.{Quantity}
@@ -17,7 +18,7 @@ use Rattle.numbers.specs.declared.Rounded.the-variants.{Units, OutOfRange}
 use Rattle.numbers.specs.Places.{roundedTo}
 use Rattle.fields.specs.declared.Places.{Places}
 use Rattle.fields.specs.Digits.{digits, digitCount}
-use Rattle.fields.specs.Field.{space, asterisk, hyphen, point, questionMark, Value, number, string, missing, placesOf, negative, minus, fraction, unsigned, rightIn, leftIn, widthAllowed, roundedField, shown, fieldOf, fits, with, Put}
+use Rattle.fields.specs.Field.{space, asterisk, hyphen, point, questionMark, placesOf, negative, minus, fraction, unsigned, rightIn, leftIn, widthAllowed, roundedField, shown, fieldOf, fieldFits, bufferWith, Put}
 use Rattle.fields.proofs.DigitLaws.{length-digits}
 
 -- ---- the sign and the fraction
@@ -157,36 +158,36 @@ unfolding widthAllowed
 at-least-one w h = rw (le-leb 1 w h)
 
 pub put-none : (b : List ℕ) (n : ℕ) (f : Option (List ℕ)) → f ≡ none → Put b n f b false
-unfolding fits with
+unfolding fieldFits bufferWith
 put-none b n f e = record { told = rw e; buffer = rw e }
 
 module _ (b : List ℕ) (n w : ℕ) (f : Option (List ℕ)) (s : List ℕ) (e : f ≡ some s) (l : length s ≡ w) where
   pub put-short : room b n w ≡ false → Put b n f b false
-  unfolding fits with stored
+  unfolding fieldFits bufferWith stored
   put-short r = record { told = rw (e, l, r); buffer = rw (e, l, r) }
 
   pub put-there : (b′ : List ℕ) → room b n w ≡ true → b′ ≡ sets b n s → Put b n f b′ true
-  unfolding fits with stored
+  unfolding fieldFits bufferWith stored
   put-there b′ r h = record { told = rw (e, l, r); buffer = rw (e, l, r) h }
 
-pub field-none : (w : ℕ) (p : Places) (v : Value) → widthAllowed w ≡ false → fieldOf w p v ≡ none
+pub field-none : (w : ℕ) (p : Places) (v : Option Value) → widthAllowed w ≡ false → fieldOf w p v ≡ none
 unfolding fieldOf
 field-none w p v e = rw e
 
 module _ (w d : ℕ) (p : Places) (q : Quantity) (e : widthAllowed w ≡ true) (h : d ≡ placesOf p q) where
-  pub number-out : roundedTo q d ≡ OutOfRange → fieldOf w p (number q) ≡ none
+  pub number-out : roundedTo q d ≡ OutOfRange → fieldOf w p (some (number q)) ≡ none
   unfolding fieldOf shown roundedField
   number-out r = rw (e, ← h, r)
 
-  pub number-in : (u : ℕ) (below : Bool) → roundedTo q d ≡ Units u → below ≡ negative q → fieldOf w p (number q) ≡ some (rightIn w (minus below u ++ unsigned d u))
+  pub number-in : (u : ℕ) (below : Bool) → roundedTo q d ≡ Units u → below ≡ negative q → fieldOf w p (some (number q)) ≡ some (rightIn w (minus below u ++ unsigned d u))
   unfolding fieldOf shown roundedField
   number-in u below r b = rw (e, ← h, r, b)
 
-pub string-in : (w : ℕ) (p : Places) (s : List ℕ) → widthAllowed w ≡ true → fieldOf w p (string s) ≡ some (leftIn w s)
+pub string-in : (w : ℕ) (p : Places) (s : List ℕ) → widthAllowed w ≡ true → fieldOf w p (some (string s)) ≡ some (leftIn w s)
 unfolding fieldOf shown
 string-in w p s e = rw e
 
 -- a missing value is the string `???`
-pub missing-string : (w : ℕ) (p : Places) → fieldOf w p missing ≡ fieldOf w p (string (questionMark ∷ questionMark ∷ questionMark ∷ []))
+pub missing-string : (w : ℕ) (p : Places) → fieldOf w p none ≡ fieldOf w p (some (string (questionMark ∷ questionMark ∷ questionMark ∷ [])))
 unfolding fieldOf shown
 missing-string w p = refl

@@ -8,6 +8,7 @@ use lib.Dec.{leb, eqb}
 use lib.IntN.{pos}
 use lib.Signed.{ltZ}
 use lib.ListN.{length, take, replicate}
+use Rattle.meaning.specs.Answer.{Value, number, string}
 use Rattle.buffers.specs.Buffer.{room, stored}
 use Rattle.numbers.specs.declared.Quantity.{Quantity}
 use Rattle.numbers.specs.declared.Quantity.the-variants.{Integer, Decimal}
@@ -32,12 +33,6 @@ point = 46
 
 abbrev pub questionMark : ℕ
 questionMark = 63
-
--- what a field is handed
-pub data Value : Type 0 where
-  number : Quantity → Value
-  string : List ℕ → Value
-  missing : Value
 
 -- "without .d, 0 places for an integer, 6 for a decimal"
 unfoldable pub placesOf : Places → Quantity → ℕ
@@ -79,26 +74,26 @@ unfoldable pub roundedField : ℕ → ℕ → Bool → Rounded → Option (List 
 roundedField w d below (Units u) = some (rightIn w (minus below u ++ unsigned d u))
 roundedField w d below OutOfRange = none
 
--- "Missing prints as `???`, like a string"; "d doesn't touch" strings
-unfoldable pub shown : ℕ → Places → Value → Option (List ℕ)
-shown w p (number q) = roundedField w (placesOf p q) (negative q) (roundedTo q (placesOf p q))
-shown w p (string s) = some (leftIn w s)
-shown w p missing = some (leftIn w (questionMark ∷ questionMark ∷ questionMark ∷ []))
+-- A value, or none where it is missing. "Missing prints as `???`, like a string"; "d doesn't touch" strings
+unfoldable pub shown : ℕ → Places → Option Value → Option (List ℕ)
+shown w p (some (number q)) = roundedField w (placesOf p q) (negative q) (roundedTo q (placesOf p q))
+shown w p (some (string s)) = some (leftIn w s)
+shown w p none = some (leftIn w (questionMark ∷ questionMark ∷ questionMark ∷ []))
 
 -- the w bytes of the field, or none where w, d or a number is out of its limits
-unfoldable pub fieldOf : ℕ → Places → Value → Option (List ℕ)
+unfoldable pub fieldOf : ℕ → Places → Option Value → Option (List ℕ)
 fieldOf w p v = cond (widthAllowed w) (shown w p v) none
 
 -- whether a field lies in the buffer, and the buffer with it there
-unfoldable pub fits : List ℕ → ℕ → Option (List ℕ) → Bool
-fits b n none = false
-fits b n (some s) = room b n (length s)
+unfoldable pub fieldFits : List ℕ → ℕ → Option (List ℕ) → Bool
+fieldFits b n none = false
+fieldFits b n (some s) = room b n (length s)
 
-unfoldable pub with : List ℕ → ℕ → Option (List ℕ) → List ℕ
-with b n none = b
-with b n (some s) = stored b n s
+unfoldable pub bufferWith : List ℕ → ℕ → Option (List ℕ) → List ℕ
+bufferWith b n none = b
+bufferWith b n (some s) = stored b n s
 
 -- b′ is the buffer after the field f was to be put at n, and r the answer
 pub record Put (b : List ℕ) (n : ℕ) (f : Option (List ℕ)) (b′ : List ℕ) (r : Bool) : Type 0 where
-  pub told : r ≡ fits b n f
-  pub buffer : b′ ≡ with b n f
+  pub told : r ≡ fieldFits b n f
+  pub buffer : b′ ≡ bufferWith b n f

@@ -11,7 +11,8 @@ use numbers::Quantity;
 use numbers::Rounded;
 ghost use mathlib.Core.Path.{_≡_};
 ghost use Rattle.fields.specs.Field.{placesOf, negative, widthAllowed, fieldOf, Put};
-ghost use Rattle.fields.specs.Field as F;
+ghost use mathlib.Core.Option.{none, some};
+ghost use Rattle.meaning.specs.Answer as G;
 
 // The places of a field: `{argument,w}` says none, `{argument,w.d}` says d.
 pub enum Places {
@@ -50,7 +51,7 @@ fn width_allowed(width: usize) -> bool
 }
 
 pub fn number(buffer: &mut [u8], at: usize, width: usize, places: Places, q: Quantity) -> bool
-    ensures { λ r. ⌜ Put (now (buffer .entry)) at (fieldOf width places (F.number q)) (now (buffer .exit)) r ⌝ }
+    ensures { λ r. ⌜ Put (now (buffer .entry)) at (fieldOf width places (some (G.number q))) (now (buffer .exit)) r ⌝ }
 {
     if !width_allowed(width) {
         return false;
@@ -67,7 +68,7 @@ pub fn number(buffer: &mut [u8], at: usize, width: usize, places: Places, q: Qua
 }
 
 pub fn string(buffer: &mut [u8], at: usize, width: usize, bytes: &[u8]) -> bool
-    ensures { λ r. ⌜ Put (now (buffer .entry)) at (fieldOf width Places.Unsaid (F.string (now (bytes .entry)))) (now (buffer .exit)) r ⌝ }
+    ensures { λ r. ⌜ Put (now (buffer .entry)) at (fieldOf width Places.Unsaid (some (G.string (now (bytes .entry))))) (now (buffer .exit)) r ⌝ }
 {
     if !width_allowed(width) {
         return false;
@@ -80,7 +81,7 @@ pub fn string(buffer: &mut [u8], at: usize, width: usize, bytes: &[u8]) -> bool
 }
 
 pub fn missing(buffer: &mut [u8], at: usize, width: usize) -> bool
-    ensures { λ r. ⌜ Put (now (buffer .entry)) at (fieldOf width Places.Unsaid F.missing) (now (buffer .exit)) r ⌝ }
+    ensures { λ r. ⌜ Put (now (buffer .entry)) at (fieldOf width Places.Unsaid none) (now (buffer .exit)) r ⌝ }
 {
     string(buffer, at, width, b"???")
 }

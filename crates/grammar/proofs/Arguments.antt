@@ -25,7 +25,7 @@ use Rattle.arguments.specs.Admitted.{countOf, admits}
 use Rattle.arguments.specs.readers.Argument.{filteredAt, filters, argumentOf, argumentAt}
 use Rattle.grammar.specs.Number.{point}
 use Rattle.grammar.specs.Argument.{OperandSpelled, filterBytes, ArgumentSpelled, filtered}
-use Rattle.grammar.proofs.Standing.{tested, Found, byte-is, onward, past, byte-stands, stands-says, EachWord, no-more, _or_, found-word}
+use Rattle.grammar.proofs.Standing.{tested, Found, byte-is, onward, past, byte-stands, stands-says, no-more, _or_, found-word}
 use Rattle.grammar.proofs.Literals.{Ends}
 use Rattle.grammar.proofs.Operands.{operand-read, operand-spelled}
 
@@ -62,28 +62,22 @@ module _ (l : List ℕ) (at : ℕ) (o : Operand) (s r : List ℕ) (k : OperandSp
   word-behind : (w : List ℕ) → drop at l ≡ s ++ (bar ∷ (w ++ r)) → drop (at + length s + 1) l ≡ w ++ r
   word-behind w e = past l (at + length s) bar (w ++ r) (onward l at s (bar ∷ (w ++ r)) e)
 
+  -- an argument with a filter, where the filters have its word
+  filter-is : (a : Argument) (w : List ℕ) → drop at l ≡ (s ++ (bar ∷ w)) ++ r → (drop (at + length s + 1) l ≡ w ++ r → firstOf NoArgument (filters o) l (at + length s + 1) ≡ ArgumentTo a (at + length s + 1 + length w)) → argumentAt l at ≡ ArgumentTo a (at + length (s ++ (bar ∷ w)))
+  filter-is a w e h =
+      let f = e ∙ append-assoc s (bar ∷ w) r in
+      filter-read w f ∙ h (word-behind w f) ∙ ap (ArgumentTo a) (omega (arith, length-append s (bar ∷ w)))
+
 pub argument-read : (l : List ℕ) (at : ℕ) (a : Argument) (s r : List ℕ) → ArgumentSpelled at a s → drop at l ≡ s ++ r → Closes r → argumentAt l at ≡ ArgumentTo a (at + length s)
 unfolding filters filteredAt firstOf standsAt begins
 argument-read l at a x r (filtered o Unfiltered s k h) e t =
     plain-read l at o s r k (e ∙ ap (λ (y : List ℕ). y ++ r) (append-nil s)) t ∙ ap (ArgumentTo a) (omega (arith, length-append s []))
-argument-read l at a x r (filtered o Absolute s k h) e t =
-    let f = e ∙ append-assoc s (ascii "|ABS") r in
-    filter-read l at o s r k (ascii "ABS") f ∙ rw (word-behind l at o s r k (ascii "ABS") f, h) (ap (ArgumentTo a) (omega (arith, length-append s (ascii "|ABS"))))
-argument-read l at a x r (filtered o Truncated s k h) e t =
-    let f = e ∙ append-assoc s (ascii "|INT") r in
-    filter-read l at o s r k (ascii "INT") f ∙ rw (word-behind l at o s r k (ascii "INT") f, h) (ap (ArgumentTo a) (omega (arith, length-append s (ascii "|INT"))))
-argument-read l at a x r (filtered o UpperCase s k h) e t =
-    let f = e ∙ append-assoc s (ascii "|UPPER") r in
-    filter-read l at o s r k (ascii "UPPER") f ∙ rw (word-behind l at o s r k (ascii "UPPER") f, h) (ap (ArgumentTo a) (omega (arith, length-append s (ascii "|UPPER"))))
-argument-read l at a x r (filtered o Length s k h) e t =
-    let f = e ∙ append-assoc s (ascii "|LEN") r in
-    filter-read l at o s r k (ascii "LEN") f ∙ rw (word-behind l at o s r k (ascii "LEN") f, h) (ap (ArgumentTo a) (omega (arith, length-append s (ascii "|LEN"))))
-argument-read l at a x r (filtered o RecordCount s k h) e t =
-    let f = e ∙ append-assoc s (ascii "|RECCNT") r in
-    filter-read l at o s r k (ascii "RECCNT") f ∙ rw (word-behind l at o s r k (ascii "RECCNT") f, h) (ap (ArgumentTo a) (omega (arith, length-append s (ascii "|RECCNT"))))
-argument-read l at a x r (filtered o EntryCount s k h) e t =
-    let f = e ∙ append-assoc s (ascii "|ENTCNT") r in
-    filter-read l at o s r k (ascii "ENTCNT") f ∙ rw (word-behind l at o s r k (ascii "ENTCNT") f, h) (ap (ArgumentTo a) (omega (arith, length-append s (ascii "|ENTCNT"))))
+argument-read l at a x r (filtered o Absolute s k h) e t = filter-is l at o s r k a (ascii "ABS") e (λ f. rw (f, h))
+argument-read l at a x r (filtered o Truncated s k h) e t = filter-is l at o s r k a (ascii "INT") e (λ f. rw (f, h))
+argument-read l at a x r (filtered o UpperCase s k h) e t = filter-is l at o s r k a (ascii "UPPER") e (λ f. rw (f, h))
+argument-read l at a x r (filtered o Length s k h) e t = filter-is l at o s r k a (ascii "LEN") e (λ f. rw (f, h))
+argument-read l at a x r (filtered o RecordCount s k h) e t = filter-is l at o s r k a (ascii "RECCNT") e (λ f. rw (f, h))
+argument-read l at a x r (filtered o EntryCount s k h) e t = filter-is l at o s r k a (ascii "ENTCNT") e (λ f. rw (f, h))
 
 -- ---- what is read is spelled
 

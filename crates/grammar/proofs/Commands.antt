@@ -1,20 +1,18 @@
 -- Lines: what is spelled is read.
 use mathlib.Core.Path.{_≡_, refl, sym, ap, _∙_, subst}
-use mathlib.Core.Bool.{Bool, true, false, cond}
-use mathlib.Core.List.{List, [], _∷_, _++_, append-assoc, append-nil}
-use Prim.Native.Char.{code}
-use Prim.Native.Nat.{ℕ, zero, suc, _+_, _≤_, _<_}
+use mathlib.Core.Bool.{true, false}
+use mathlib.Core.List.{List, [], _∷_, _++_, append-nil}
+use Prim.Native.Nat.{ℕ, _+_, _≤_}
 use native.Mathlib.Omega.{arith}
 use borrow.Author.Tests.{ne-eqb, eq-eqb, le-leb, lt-leb, le-ltb}
-use lib.Dec.{leb, ltb, eqb}
-use lib.ListN.{length, getD, take, drop, length-append, length-drop}
+use lib.Dec.{leb, ltb}
+use lib.ListN.{length, take, drop, length-drop}
 use Rattle.scan.specs.declared.run.Class.the-variants.{Digit, InName}
 use Rattle.scan.specs.declared.digits.Numeral.{Numeral}
-use Rattle.scan.specs.declared.digits.Numeral.the-variants.{Value, NoNumeral}
-use Rattle.scan.specs.Ascii.{ascii}
+use Rattle.scan.specs.declared.digits.Numeral.the-variants.{NoNumeral}
 use Rattle.scan.specs.Run.{belongs, span}
 use Rattle.scan.specs.Line.{byteAt, byteIs}
-use Rattle.scan.specs.readers.Digits.{digitsAt, numberAt}
+use Rattle.scan.specs.readers.Digits.{numberAt}
 use Rattle.scan.specs.Words.{begins, standsAt, firstOf}
 use Rattle.arguments.specs.declared.index.Index.{Index}
 use Rattle.arguments.specs.declared.index.IndexRead.the-variants.{IndexTo}
@@ -32,14 +30,12 @@ use Rattle.texts.specs.readers.Text.{textPieces, fitsBehind, textFits}
 use Rattle.lines.specs.declared.command.Operation.{Operation}
 use Rattle.lines.specs.declared.command.Operation.the-variants.{Assign, Add, Subtract, Multiply, Divide}
 use Rattle.lines.specs.declared.command.Target.{Target}
-use Rattle.lines.specs.declared.command.Target.the-variants.{IntegerTarget, DecimalTarget, StringTarget}
 use Rattle.lines.specs.declared.command.Comparison.{Comparison}
 use Rattle.lines.specs.declared.command.Comparison.the-variants.{SameString, SameLetters, Equal, NotEqual, Less, AtMost, Greater, AtLeast}
 use Rattle.lines.specs.declared.command.Optional.{Optional}
-use Rattle.lines.specs.declared.command.Optional.the-variants.{Given, Absent}
 use Rattle.lines.specs.declared.command.Fetch.{Fetch}
 use Rattle.lines.specs.declared.command.Line.{Line}
-use Rattle.lines.specs.declared.command.Line.the-variants.{NoForm, Text, Section, Set, IfZero, IfNonZero, Compare, Else, EndIf, BeginTable, EndTable, Records, Entries, Datasource, NoFormFeed, NewPage, Heading, NoHeading, Remark}
+use Rattle.lines.specs.declared.command.Line.the-variants.{Section, Set, IfZero, IfNonZero, Compare, Else, EndIf, BeginTable, EndTable, Records, Entries, Datasource, NoFormFeed, NewPage, Heading, NoHeading}
 use Rattle.lines.specs.declared.set.TargetRead.the-variants.{TargetIs}
 use Rattle.lines.specs.declared.fetch.FetchRead.the-variants.{FetchTo}
 use Rattle.lines.specs.readers.Behind.{behindSpace}
@@ -49,10 +45,10 @@ use Rattle.lines.specs.readers.Simple.{singleAt, bareAt, optionalAt}
 use Rattle.lines.specs.readers.Fetch.{parameterAt, fetchedAt, fetchAt}
 use Rattle.lines.specs.readers.Title.{nameAt, sectionAt, headingOf, headingAt, remarkAt}
 use Rattle.lines.specs.readers.Command.{commands, parseLine}
-use Rattle.grammar.specs.Number.{Row, Numbered, IndexSpelled}
+use Rattle.grammar.specs.Number.{Row, IndexSpelled}
 use Rattle.grammar.specs.Argument.{OperandSpelled, ArgumentSpelled, integer-variable, decimal-variable, string-variable}
 use Rattle.grammar.specs.Text.{TextSpelled}
-use Rattle.grammar.specs.Line.{space, setWord, TargetSpelled, integer-target, decimal-target, string-target, compareWord, OptionalSpelled, absent, given, FetchSpelled, fetch, HeadingWord, first, numbered, Spells, text, section, set, if-zero, if-non-zero, compare, «else», end-if, begin-table, end-table, records, entries, datasource, no-form-feed, new-page, heading, no-heading, remark, remark-text}
+use Rattle.grammar.specs.Line.{space, TargetSpelled, integer-target, decimal-target, string-target, OptionalSpelled, absent, given, FetchSpelled, fetch, first, numbered, Spells, text, section, set, if-zero, if-non-zero, compare, «else», end-if, begin-table, end-table, records, entries, datasource, no-form-feed, new-page, heading, no-heading, remark, remark-text}
 use Rattle.grammar.proofs.Standing.{tested, byte-is, onward, past, Stops, span-exact}
 use Rattle.grammar.proofs.Numbers.{number-read}
 use Rattle.grammar.proofs.Literals.{no-digits, index-read}

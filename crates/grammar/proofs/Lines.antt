@@ -1,19 +1,18 @@
 -- Lines: what is read is spelled; and the law of the grammar.
-use mathlib.Core.Path.{_≡_, refl, sym, ap, ap₂, _∙_, subst}
+use mathlib.Core.Path.{_≡_, refl, sym, ap, _∙_, subst}
 use mathlib.Core.Bool.{Bool, true, false, cond, false≢true}
-use mathlib.Core.List.{List, [], _∷_, _++_, append-assoc, append-nil}
+use mathlib.Core.List.{List, [], _∷_, _++_, append-nil}
 use mathlib.Core.Option.{Option, none, some}
-use Prim.Native.Char.{code}
-use Prim.Native.Nat.{ℕ, zero, suc, _+_, _≤_, _<_}
+use Prim.Native.Nat.{ℕ, _+_, _≤_}
 use native.Mathlib.Omega.{arith}
-use borrow.Author.Tests.{eqb-true, eqb-false, leb-true, leb-false, ltb-false}
+use borrow.Author.Tests.{eqb-true, eqb-false, leb-true, ltb-false}
 use lib.Dec.{leb, ltb, eqb}
-use lib.ListN.{length, getD, take, drop, length-append, length-drop, length-take, drop-of-length-le}
+use lib.ListN.{length, take, drop, length-drop, length-take, drop-of-length-le}
 use Rattle.scan.specs.declared.run.Class.the-variants.{InName}
 use Rattle.scan.specs.declared.digits.Numeral.{Numeral}
 use Rattle.scan.specs.declared.digits.Numeral.the-variants.{Value, NoNumeral}
 use Rattle.scan.specs.Ascii.{ascii}
-use Rattle.scan.specs.Run.{belongs, span}
+use Rattle.scan.specs.Run.{span}
 use Rattle.scan.specs.Line.{byteAt, byteIs}
 use Rattle.scan.specs.readers.Digits.{numberAt}
 use Rattle.scan.specs.Words.{standsAt, firstOf}
@@ -57,11 +56,12 @@ use Rattle.lines.specs.readers.Fetch.{parameterAt, fetchedAt, fetchOr, fetchAt}
 use Rattle.lines.specs.readers.Title.{nameAt, sectionAt, headingOf, headingAt, remarkAt}
 use Rattle.lines.specs.readers.Command.{commands, parseLine}
 use Rattle.lines.proofs.EndLaws.{no-number, no-parameter, no-index, no-operand, no-argument, no-name}
+use Rattle.lines.proofs.SectionLaws.{formCase}
 use Rattle.grammar.specs.Number.{Row, Numbered, IndexSpelled}
 use Rattle.grammar.specs.Argument.{OperandSpelled, literal, string, integer-variable, decimal-variable, string-variable, page-number, line-number, loop-counter, record-element, entry-element, parameter, record-of, entry-of, ArgumentSpelled}
 use Rattle.grammar.specs.Text.{TextSpelled}
-use Rattle.grammar.specs.Line.{space, setWord, TargetSpelled, integer-target, decimal-target, string-target, compareWord, OptionalSpelled, absent, given, FetchSpelled, fetch, HeadingWord, first, numbered, Spells, text, section, set, if-zero, if-non-zero, compare, «else», end-if, begin-table, end-table, records, entries, datasource, no-form-feed, new-page, heading, no-heading, remark, remark-text}
-use Rattle.grammar.proofs.Standing.{tested, Found, byte-is, byte-stands, stands-says, span-all, span-here, EachWord, no-more, _or_, found-word}
+use Rattle.grammar.specs.Line.{space, TargetSpelled, integer-target, decimal-target, string-target, OptionalSpelled, absent, given, FetchSpelled, fetch, HeadingWord, first, numbered, Spells, text, section, set, if-zero, if-non-zero, compare, «else», end-if, begin-table, end-table, records, entries, datasource, no-form-feed, new-page, heading, no-heading, remark, remark-text}
+use Rattle.grammar.proofs.Standing.{tested, Found, byte-stands, stands-says, span-all, span-here, no-more, _or_, found-word}
 use Rattle.grammar.proofs.Numbers.{number-spelled}
 use Rattle.grammar.proofs.Literals.{index-spelled}
 use Rattle.grammar.proofs.Operands.{operand-spelled}
@@ -401,25 +401,7 @@ pub spells-one : (f g : Line) (l : List ℕ) → Spells f l → Spells g l → f
 spells-one f g l s t = sym (spelled-is-read f l s) ∙ spelled-is-read g l t
 
 abbrev HasForm : Line → Type 0
-HasForm NoForm = ⊥
-HasForm Text = Unit {0}
-HasForm (Section a e) = Unit {0}
-HasForm (Set o t a) = Unit {0}
-HasForm (IfZero a) = Unit {0}
-HasForm (IfNonZero a) = Unit {0}
-HasForm (Compare c a b) = Unit {0}
-HasForm Else = Unit {0}
-HasForm EndIf = Unit {0}
-HasForm (BeginTable a) = Unit {0}
-HasForm (EndTable k) = Unit {0}
-HasForm (Records f) = Unit {0}
-HasForm (Entries f) = Unit {0}
-HasForm (Datasource i) = Unit {0}
-HasForm NoFormFeed = Unit {0}
-HasForm (NewPage k) = Unit {0}
-HasForm (Heading n at) = Unit {0}
-HasForm (NoHeading n) = Unit {0}
-HasForm Remark = Unit {0}
+HasForm = formCase ⊥ (Unit {0}) (Unit {0})
 
 spelled-has-form : (f : Line) (l : List ℕ) → Spells f l → HasForm f
 spelled-has-form f l (text ps l′ h t w) = tt

@@ -1,8 +1,8 @@
 -- Literals and indexes: what is read is spelled, and what is spelled is read.
 use mathlib.Core.Path.{_≡_, refl, sym, ap, _∙_, subst}
-use mathlib.Core.Bool.{Bool, true, false, cond}
+use mathlib.Core.Bool.{Bool, true, false}
 use mathlib.Core.List.{List, [], _∷_, _++_, append-assoc}
-use Prim.Native.Nat.{ℕ, zero, suc, _+_, _≤_, _<_}
+use Prim.Native.Nat.{ℕ, _+_, _≤_, _<_}
 use native.Mathlib.Omega.{arith}
 use borrow.Author.Tests.{eqb-true, eqb-false, ne-eqb, eq-eqb, le-ltb, ltb-false}
 use lib.Dec.{ltb, eqb}
@@ -23,7 +23,7 @@ use Rattle.scan.specs.Words.{begins, standsAt}
 use Rattle.scan.proofs.RunLaws.{length-span}
 use Rattle.scan.proofs.DigitLaws.{digit-bounds}
 use Rattle.arguments.specs.declared.index.Index.{Index}
-use Rattle.arguments.specs.declared.index.Index.the-variants.{Fixed, Variable, Loop}
+use Rattle.arguments.specs.declared.index.Index.the-variants.{Variable}
 use Rattle.arguments.specs.declared.index.IndexRead.{IndexRead}
 use Rattle.arguments.specs.declared.index.IndexRead.the-variants.{IndexTo, NoIndex}
 use Rattle.arguments.specs.declared.literal.LiteralRead.{LiteralRead}
@@ -31,8 +31,8 @@ use Rattle.arguments.specs.declared.literal.LiteralRead.the-variants.{LiteralTo
 use Rattle.arguments.specs.readers.Literal as L
 use Rattle.arguments.specs.readers.Literal.{fractionAt, unsignedAt, literalAt}
 use Rattle.arguments.specs.readers.Index.{loopWord, variableWord, variableIndex, indexAt}
-use Rattle.grammar.specs.Number.{point, All, Row, Numbered, sign, inMillionths, LiteralSpelled, integer, decimal, IndexSpelled, fixed, variable, loop}
-use Rattle.grammar.proofs.Standing.{tested, Found, byte-is, onward, past, byte-stands, stands, stands-says, other-word, Stops, span-all, span-exact, span-here}
+use Rattle.grammar.specs.Number.{point, All, Row, sign, inMillionths, LiteralSpelled, integer, decimal, IndexSpelled, fixed, variable, loop}
+use Rattle.grammar.proofs.Standing.{tested, Found, byte-is, onward, past, byte-stands, stands, stands-says, other-word, Stops, span-all, span-here}
 use Rattle.grammar.proofs.Numbers.{digits-read, first-byte, number-read, number-spelled}
 
 -- neither a digit nor a point follows

@@ -1,25 +1,24 @@
 -- Numbers, literals and indexes: what is read is spelled, and what is spelled is read.
 use mathlib.Core.Path.{_≡_, refl, sym, ap, _∙_, subst}
-use mathlib.Core.Bool.{Bool, true, false, cond}
+use mathlib.Core.Bool.{Bool, true, false}
 use mathlib.Core.List.{List, [], _∷_, _++_}
-use Prim.Native.Nat.{ℕ, zero, suc, _+_, _-_, _*_, _^_, _≤_, _<_}
+use Prim.Native.Nat.{ℕ, suc, _+_, _-_, _*_, _^_, _≤_, _<_}
 use native.Mathlib.Nat.{pow-suc, pow-le-pow-right, mul-le-mul-right}
 use native.Mathlib.Omega.{arith}
-use borrow.Author.Tests.{leb-true, leb-false, le-leb, eqb-false, ne-eqb, le-ltb, ltb-false}
-use lib.Dec.{leb, ltb, eqb}
-use lib.ListN.{length, getD, take, drop, length-take, List·getD-append}
+use borrow.Author.Tests.{leb-true, leb-false, le-leb, eqb-false, ne-eqb, le-ltb}
+use lib.Dec.{leb, eqb}
+use lib.ListN.{length, getD, take, drop, List·getD-append}
 use Rattle.scan.specs.declared.run.Class.the-variants.{Digit}
 use Rattle.scan.specs.declared.digits.Digits.{Digits}
 use Rattle.scan.specs.declared.digits.Numeral.{Numeral}
 use Rattle.scan.specs.declared.digits.Numeral.the-variants.{Value, NoNumeral}
-use Rattle.scan.specs.Run.{belongs, span}
+use Rattle.scan.specs.Run.{span}
 use Rattle.scan.specs.Line.{byteAt, byteIs}
 use Rattle.scan.specs.Value.{valueFrom, valueOf}
-use Rattle.scan.specs.readers.Digits.{digitsOf, digitsAt, numberAt}
-use Rattle.scan.proofs.RunLaws.{length-span}
+use Rattle.scan.specs.readers.Digits.{digitsAt, numberAt}
 use Rattle.scan.proofs.DigitLaws.{digit-bounds}
 use Rattle.scan.proofs.NumberLaws.{Within, number-within}
-use Rattle.grammar.specs.Number.{All, Row, Numbered}
+use Rattle.grammar.specs.Number.{All, Numbered}
 use Rattle.grammar.proofs.Standing.{tested, Found, byte-is, Stops, span-all, span-exact, span-here}
 
 -- ---- digits

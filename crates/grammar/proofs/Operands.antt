@@ -1,11 +1,10 @@
 -- Operands: what is spelled is read, and what is read is spelled.
-use mathlib.Core.Path.{_≡_, refl, sym, ap, ap₂, _∙_, subst}
-use mathlib.Core.Bool.{Bool, true, false, cond}
+use mathlib.Core.Path.{_≡_, refl, sym, ap, _∙_, subst}
+use mathlib.Core.Bool.{true, false}
 use mathlib.Core.List.{List, [], _∷_, _++_, append-assoc}
-use Prim.Native.Nat.{ℕ, zero, suc, _+_, _≤_, _<_, zero-le}
+use Prim.Native.Nat.{ℕ, _+_, _≤_, zero-le}
 use native.Mathlib.Omega.{arith}
-use borrow.Author.Tests.{eqb-true, eqb-false, ne-eqb, eq-eqb}
-use lib.Dec.{ltb, eqb}
+use borrow.Author.Tests.{eqb-true, ne-eqb, eq-eqb}
 use lib.ListN.{length, getD, take, drop, length-take, length-append}
 use Rattle.numbers.specs.declared.Quantity.{Quantity}
 use Rattle.scan.specs.declared.run.Class.the-variants.{Digit, InString}
@@ -24,15 +23,15 @@ use Rattle.arguments.specs.declared.index.IndexRead.the-variants.{IndexTo, NoIn
 use Rattle.arguments.specs.declared.literal.LiteralRead.{LiteralRead}
 use Rattle.arguments.specs.declared.literal.LiteralRead.the-variants.{LiteralTo, NoLiteral}
 use Rattle.arguments.specs.declared.operand.Operand.{Operand}
-use Rattle.arguments.specs.declared.operand.Operand.the-variants.{Number, Text, IntegerVariable, DecimalVariable, StringVariable, PageNumber, LineNumber, LoopCounter, RecordElement, EntryElement, Parameter, Record, Entry}
+use Rattle.arguments.specs.declared.operand.Operand.the-variants.{Number, Text, IntegerVariable, DecimalVariable, StringVariable, RecordElement, EntryElement, Entry}
 use Rattle.arguments.specs.declared.operand.OperandRead.{OperandRead}
 use Rattle.arguments.specs.declared.operand.OperandRead.the-variants.{OperandTo, NoOperand}
 use Rattle.arguments.specs.readers.Literal.{unsignedAt, literalAt}
 use Rattle.arguments.specs.readers.Index.{indexAt}
-use Rattle.arguments.specs.readers.Operand.{stringEnd, stringAt, entryOf, recordOf, cellOf, cellAt, wholeAt, numberedOf, numberedAt, names, namedAt, numberOr, operandAt}
+use Rattle.arguments.specs.readers.Operand.{stringAt, entryOf, recordOf, cellOf, cellAt, wholeAt, numberedOf, numberedAt, names, namedAt, numberOr, operandAt}
 use Rattle.grammar.specs.Number.{point, All, Row, Numbered, LiteralSpelled, integer, decimal, IndexSpelled}
 use Rattle.grammar.specs.Argument.{quote, OperandSpelled, literal, string, integer-variable, decimal-variable, string-variable, page-number, line-number, loop-counter, record-element, entry-element, parameter, record-of, entry-of}
-use Rattle.grammar.proofs.Standing.{tested, Found, byte-is, onward, past, byte-stands, stands, stands-says, Stops, span-all, span-exact, span-here, EachWord, no-more, _or_, found-word}
+use Rattle.grammar.proofs.Standing.{tested, Found, byte-is, onward, past, byte-stands, Stops, span-all, span-exact, span-here, no-more, _or_, found-word}
 use Rattle.grammar.proofs.Numbers.{first-byte, some-digits, number-read, number-spelled}
 use Rattle.grammar.proofs.Literals.{Ends, ends-stops, ends-point, first-digit, no-digits, literal-read, literal-spelled, index-read, index-spelled, behind-word, word-alone}
 

@@ -1,20 +1,19 @@
 -- Texts with their fields: what is spelled is read, and what is read is spelled.
-use mathlib.Core.Path.{_≡_, refl, sym, ap, ap₂, _∙_, subst}
-use mathlib.Core.Bool.{Bool, true, false, cond, true≢false}
+use mathlib.Core.Path.{_≡_, refl, sym, ap, _∙_, subst}
+use mathlib.Core.Bool.{Bool, true, false, cond}
 use mathlib.Core.List.{List, [], _∷_, _++_, append-assoc}
-use mathlib.Core.Option.{Option, none, some}
+use mathlib.Core.Option.{Option, none, some, Option·none-ne-some, Option·some-injective}
 use Prim.Native.Char.{code}
-use Prim.Native.Nat.{ℕ, zero, suc, _+_, _≤_, _<_}
+use Prim.Native.Nat.{ℕ, zero, suc, _+_, _≤_}
 use native.Mathlib.Numerals.{add-one}
 use lib.Seq.{drop-cons}
 use native.Mathlib.Omega.{arith}
 use borrow.Author.Tests.{eqb-true, eqb-false, ne-eqb, eq-eqb, le-leb, lt-leb, leb-true, leb-false, le-ltb, ltb-false}
 use lib.Dec.{leb, ltb, eqb}
-use lib.ListN.{length, getD, take, drop, length-append, length-drop, length-take, drop-of-length-le}
+use lib.ListN.{length, getD, take, drop, length-append, length-drop, drop-of-length-le}
 use Rattle.scan.specs.declared.run.Class.the-variants.{Digit}
 use Rattle.scan.specs.declared.digits.Numeral.{Numeral}
 use Rattle.scan.specs.declared.digits.Numeral.the-variants.{Value, NoNumeral}
-use Rattle.scan.specs.Ascii.{ascii}
 use Rattle.scan.specs.Run.{belongs, span}
 use Rattle.scan.specs.Line.{byteAt, byteIs}
 use Rattle.scan.specs.Value.{valueOf}
@@ -24,17 +23,17 @@ use Rattle.arguments.specs.declared.argument.ArgumentRead.{ArgumentRead}
 use Rattle.arguments.specs.declared.argument.ArgumentRead.the-variants.{ArgumentTo, NoArgument}
 use Rattle.arguments.specs.readers.Argument.{argumentAt}
 use Rattle.texts.specs.declared.text.Places.{Places}
-use Rattle.texts.specs.declared.text.Places.the-variants.{Unsaid, Said}
+use Rattle.texts.specs.declared.text.Places.the-variants.{Unsaid}
 use Rattle.texts.specs.declared.text.PlacesRead.{PlacesRead}
 use Rattle.texts.specs.declared.text.PlacesRead.the-variants.{PlacesTo, NoPlaces}
 use Rattle.texts.specs.declared.text.FieldRead.{FieldRead}
 use Rattle.texts.specs.declared.text.FieldRead.the-variants.{FieldTo, NoField}
 use Rattle.texts.specs.declared.text.Piece.{Piece}
-use Rattle.texts.specs.declared.text.Piece.the-variants.{Plain, Placed}
+use Rattle.texts.specs.declared.text.Piece.the-variants.{Placed}
 use Rattle.texts.specs.declared.text.PieceRead.{PieceRead}
 use Rattle.texts.specs.declared.text.PieceRead.the-variants.{PieceTo, NoPiece}
 use Rattle.texts.specs.readers.Text.{placesAt, placesOf, widthNext, fieldOf, fieldAt, placed, pieceAt, before, piecesWithin}
-use Rattle.grammar.specs.Number.{point, Row, Numbered}
+use Rattle.grammar.specs.Number.{point, Numbered}
 use Rattle.grammar.specs.Argument.{ArgumentSpelled}
 use Rattle.grammar.specs.Text.{PlacesSpelled, unsaid, said, PieceSpelled, plain, field, TextSpelled, end, piece}
 use Rattle.grammar.proofs.Standing.{tested, Found, byte-is, onward, past, byte-stands, span-here}
@@ -235,23 +234,17 @@ module _ (l : List ℕ) (at : ℕ) where
 pub piece-spelled : (l : List ℕ) (at : ℕ) (p : Piece) (next : ℕ) → pieceAt l at ≡ PieceTo p next → Found (PieceSpelled at p) l at next
 piece-spelled l at p next e = subst (PieceFound l at) e (piece-sound l at)
 
-some-inj : {A : Type 0} {x y : A} → some x ≡ some y → x ≡ y
-some-inj e = cc
-
-none-some : {A : Type 0} {x : A} → none ≡ some x → ⊥
-none-some e = let z : _≡_ {A = ℕ} 0 1 = cc in omega arith
-
 drop-all : (l : List ℕ) (at : ℕ) → length l ≤ at → drop at l ≡ []
 drop-all l at h = drop-of-length-le l h
 
 before-some : (p : Piece) (o : Option (List Piece)) (ps : List Piece) → before p o ≡ some ps → (qs : List Piece) × (o ≡ some qs) × (ps ≡ p ∷ qs)
 unfolding before
-before-some p (some qs) ps e = (qs, refl, sym (some-inj e))
-before-some p none ps e = absurd (none-some e)
+before-some p (some qs) ps e = (qs, refl, sym (Option·some-injective _ _ e))
+before-some p none ps e = absurd (Option·none-ne-some _ e)
 
 pub text-spelled : (n : ℕ) (l : List ℕ) (at : ℕ) (ps : List Piece) → length (drop at l) ≤ n → piecesWithin n l at ≡ some ps → TextSpelled at ps (drop at l)
 unfolding piecesWithin
-text-spelled zero l at ps h e = subst (λ (x : List Piece). TextSpelled at x (drop at l)) (some-inj e) (rw (drop-all l at (omega (arith, length-drop at l))) (end at))
+text-spelled zero l at ps h e = subst (λ (x : List Piece). TextSpelled at x (drop at l)) (Option·some-injective _ _ e) (rw (drop-all l at (omega (arith, length-drop at l))) (end at))
 text-spelled (suc n) l at ps h e = go (leb (length l) at) refl e (text-spelled n l)
   where
     rest : (at next : ℕ) (p : Piece) (qs : List Piece) → Found (PieceSpelled at p) l at next → TextSpelled next qs (drop next l) → TextSpelled at (p ∷ qs) (drop at l)
@@ -263,8 +256,8 @@ text-spelled (suc n) l at ps h e = go (leb (length l) at) refl e (text-spelled n
         let b = piece-some at p (f .bytes) (f .spelled) in
         let q = before-some p (piecesWithin n l next) ps e in
         rw (q .2) (rest at next p (q .0) f (more next (q .0) (omega (arith, h, ap length (f .here), length-append (f .bytes) (drop next l), ap length (b .2))) (q .1)))
-    found at NoPiece k h e more = absurd (none-some e)
+    found at NoPiece k h e more = absurd (Option·none-ne-some _ e)
 
     go : (t : Bool) → leb (length l) at ≡ t → cond t (some []) (elim (pieceAt l at) [ PieceTo p next ↦ before p (piecesWithin n l next) | NoPiece ↦ none ]) ≡ some ps → ((at : ℕ) (qs : List Piece) → length (drop at l) ≤ n → piecesWithin n l at ≡ some qs → TextSpelled at qs (drop at l)) → TextSpelled at ps (drop at l)
-    go true k e more = subst (λ (x : List Piece). TextSpelled at x (drop at l)) (some-inj e) (rw (drop-all l at (leb-true (length l) at k)) (end at))
+    go true k e more = subst (λ (x : List Piece). TextSpelled at x (drop at l)) (Option·some-injective _ _ e) (rw (drop-all l at (leb-true (length l) at k)) (end at))
     go false k e more = found at (pieceAt l at) refl h e more

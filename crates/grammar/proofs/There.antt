@@ -4,7 +4,7 @@ use mathlib.Core.List.{List, [], _∷_, _++_, append-assoc}
 use Prim.Native.Nat.{ℕ, _+_, _-_, _≤_}
 use native.Mathlib.Omega.{arith}
 use lib.ListN.{length, take, drop}
-use lib.Seq.{take-append-seam, take-all, drop-append-add, drop-append-seam}
+use lib.Seq.{take-append-seam, take-all, drop-append-add}
 use Rattle.scan.specs.declared.run.Class.the-variants.{InName, InString}
 use Rattle.scan.specs.Ascii.{ascii}
 use Rattle.arguments.specs.declared.operand.Operand.the-variants.{Text}

@@ -1,5 +1,5 @@
 -- How arguments are spelled. A string's place is that of its bytes: an operand that begins at a place `at` of its line has it
--- behind the quote there. Assumes nothing.
+-- behind the quote there.
 use mathlib.Core.Path.{_≡_}
 use mathlib.Core.Bool.{true}
 use mathlib.Core.List.{List, [], _∷_, _++_}

@@ -1,5 +1,5 @@
 -- How lines are spelled: "A line beginning with `$` is a command: word, then arguments, one space before each. Other lines are
--- text, blank ones included." Nothing stands behind the last argument. Assumes nothing.
+-- text, blank ones included." Nothing stands behind the last argument.
 use mathlib.Core.Path.{_≡_}
 use mathlib.Core.List.{List, [], _∷_, _++_}
 use Prim.Native.Char.{code}

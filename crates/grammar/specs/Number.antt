@@ -1,4 +1,4 @@
--- How numbers and indexes are spelled: each constructor is a form of document 01, with its bytes. Assumes nothing.
+-- How numbers and indexes are spelled: each constructor is a form of document 01, with its bytes.
 use mathlib.Core.Path.{_≡_}
 use mathlib.Core.Bool.{Bool, true, false}
 use mathlib.Core.List.{List, [], _∷_, _++_}

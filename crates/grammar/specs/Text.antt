@@ -1,4 +1,4 @@
--- How texts with fields are spelled: pieces whose bytes, joined, are the text. Assumes nothing.
+-- How texts with fields are spelled: pieces whose bytes, joined, are the text.
 use mathlib.Core.Path.{_≡_}
 use mathlib.Core.List.{List, [], _∷_, _++_}
 use Prim.Native.Char.{code}

@@ -1,6 +1,6 @@
 -- Answers before and after a list of edits.
 use mathlib.Core.Path.{_≡_, refl, sym, ap, _∙_}
-use mathlib.Core.Bool.{Bool, true, false, cond, _&&_}
+use mathlib.Core.Bool.{Bool, true, false, cond}
 use mathlib.Core.List.{List, [], _∷_}
 use mathlib.Core.Option.{Option, none, some}
 use Prim.Native.Nat.{ℕ}
@@ -9,7 +9,7 @@ use borrow.Author.Tests.{eqb-false, eq-eqb, not-true}
 use Rattle.meaning.specs.declared.question.Question.{Question}
 use Rattle.meaning.specs.declared.refusal.Refusal.the-variants.{StoreFull}
 use Rattle.cells.specs.Cell.{Key, Cell, number, wholeCell, wholeKey}
-use Rattle.cells.specs.Asking.{asked, lookup, questionAllowed, answer, answeredAsk, replied, askOf}
+use Rattle.cells.specs.Asking.{asked, queryOf, queryAllowed, questionAllowed, lookup, queryAnswer, answer, answeredAsk, replied, askOf}
 use Rattle.cells.proofs.BigEndian.{and-true}
 use Rattle.store.specs.Edit.{with, refusedOn, doneOn, fits, putOn, takenOut, removeOn}
 use Rattle.history.specs.State.{State, heldBy, askIn}
@@ -72,7 +72,7 @@ lookup-kept k (e ∷ es) m cs h u =
 
 -- "Kind 1 asks for the cell of a key": its answer is that of the cell found
 answer-cell : (q : Question) (cs ds : List Cell) → q .kind ≡ 1 → lookup (number (asked q)) cs ≡ lookup (number (asked q)) ds → replied q (some cs) ≡ replied q (some ds)
-unfolding replied answer
+unfolding replied queryOf queryAllowed questionAllowed queryAnswer answer
 answer-cell q cs ds h e = rw (eq-eqb (q .kind) 1 h, e)
 
 -- Edits of other keys change no answer of kind 1: for any list of edits, from any bytes, none of them an accepted put or remove

@@ -7,7 +7,7 @@ use Prim.Native.Nat.{ℕ}
 use borrow.Author.Tests.{eq-eqb, ne-eqb}
 use lib.Dec.{ltb, eqb}
 use Rattle.meaning.specs.Each.{Each}
-use Rattle.cells.specs.Cell.{Cell, numberOf}
+use Rattle.cells.specs.Cell.{Cell, keyNumber}
 use Rattle.cells.specs.Asking.{lookup}
 use Rattle.cells.proofs.Runs.{none-some}
 use Rattle.store.specs.Edit.{lower, higher}
@@ -17,10 +17,10 @@ filter p [] = []
 filter p (c ∷ cs) = cond (p c) (c ∷ filter p cs) (filter p cs)
 
 abbrev pub isBelow : ℕ → Cell → Bool
-isBelow n c = ltb (numberOf c) n
+isBelow n c = ltb (keyNumber c) n
 
 abbrev pub isAbove : ℕ → Cell → Bool
-isAbove n c = ltb n (numberOf c)
+isAbove n c = ltb n (keyNumber c)
 
 pub lower-filter : (n : ℕ) (cs : List Cell) → lower n cs ≡ filter (isBelow n) cs
 unfolding lower filter
@@ -55,26 +55,26 @@ module _ (p : Cell → Bool) where
 
 -- ---- the cell of a key
 
-pub lookup-first : (k : ℕ) (c : Cell) (cs : List Cell) → numberOf c ≡ k → lookup k (c ∷ cs) ≡ some c
+pub lookup-first : (k : ℕ) (c : Cell) (cs : List Cell) → keyNumber c ≡ k → lookup k (c ∷ cs) ≡ some c
 unfolding lookup
 lookup-first k c cs e = rw (eq-eqb _ _ e)
 
-pub lookup-next : (k : ℕ) (c : Cell) (cs : List Cell) → (numberOf c ≡ k → ⊥) → lookup k (c ∷ cs) ≡ lookup k cs
+pub lookup-next : (k : ℕ) (c : Cell) (cs : List Cell) → (keyNumber c ≡ k → ⊥) → lookup k (c ∷ cs) ≡ lookup k cs
 unfolding lookup
 lookup-next k c cs e = rw (ne-eqb _ _ e)
 
 lookup-cons : (k : ℕ) (c : Cell) (xs ys : List Cell) → lookup k xs ≡ lookup k ys → lookup k (c ∷ xs) ≡ lookup k (c ∷ ys)
 unfolding lookup
-lookup-cons k c xs ys e = ap (cond (eqb (numberOf c) k) (some c)) e
+lookup-cons k c xs ys e = ap (cond (eqb (keyNumber c) k) (some c)) e
 
 module _ (k : ℕ) (p : Cell → Bool) where
   -- no cell that passes has the key
-  pub lookup-none : ((c : Cell) → p c ≡ true → numberOf c ≡ k → ⊥) → (cs : List Cell) → lookup k (filter p cs) ≡ none
+  pub lookup-none : ((c : Cell) → p c ≡ true → keyNumber c ≡ k → ⊥) → (cs : List Cell) → lookup k (filter p cs) ≡ none
   unfolding lookup
   lookup-none f = filter-elim p (λ cs ds. lookup k ds ≡ none) refl (λ c cs e r. lookup-next k c (filter p cs) (f c e) ∙ r) (λ c cs e r. r)
 
   -- no cell that fails has the key
-  pub lookup-all : ((c : Cell) → p c ≡ false → numberOf c ≡ k → ⊥) → (cs : List Cell) → lookup k (filter p cs) ≡ lookup k cs
+  pub lookup-all : ((c : Cell) → p c ≡ false → keyNumber c ≡ k → ⊥) → (cs : List Cell) → lookup k (filter p cs) ≡ lookup k cs
   lookup-all f =
       filter-elim p (λ cs ds. lookup k ds ≡ lookup k cs) refl (λ c cs e r. lookup-cons k c (filter p cs) cs r) (λ c cs e r. r ∙ sym (lookup-next k c cs (f c e)))
 
@@ -83,7 +83,7 @@ module _ (k : ℕ) (ys : List Cell) where
   pub lookup-behind : (xs : List Cell) → lookup k xs ≡ none → lookup k (xs ++ ys) ≡ lookup k ys
   unfolding lookup
   lookup-behind [] e = refl
-  lookup-behind (x ∷ xs) e = go (eqb (numberOf x) k) e (lookup-behind xs)
+  lookup-behind (x ∷ xs) e = go (eqb (keyNumber x) k) e (lookup-behind xs)
     where
       go : (t : Bool) → cond t (some x) (lookup k xs) ≡ none → (lookup k xs ≡ none → lookup k (xs ++ ys) ≡ lookup k ys) → cond t (some x) (lookup k (xs ++ ys)) ≡ lookup k ys
       go true e r = absurd (none-some (sym e))

@@ -14,13 +14,14 @@ use Rattle.meaning.specs.declared.end.Ended.{Ended}
 use Rattle.meaning.specs.declared.end.Ended.the-variants.{Finished, Halted}
 use Rattle.meaning.specs.declared.refusal.Refusal.{Refusal}
 use Rattle.meaning.specs.declared.refusal.Refusal.the-variants.{BadStore, BadRequest, StoreFull, NoCell}
-use Rattle.cells.specs.Bytes.{same}
+use Rattle.cells.specs.Bytes.{equalBytes}
 use Rattle.cells.specs.Cell.{Key, Cell, number, cellAllowed, keyAllowed, cellBytes, keyBytes, keyAt, cellOf, wholeCell, wholeKey}
 use Rattle.cells.specs.Store.{capacity, encode, cells, held}
 use Rattle.cells.specs.Asking.{lookup}
+use Rattle.cells.proofs.CellForm.{passing-some}
 use Rattle.cells.proofs.BigEndian.{and-true}
 use Rattle.cells.proofs.Runs.{Valid, Holds, some-inj, none-some, cells-encode, cells-some}
-use Rattle.store.specs.Edit.{with, without, CellEdit, refusedOn, doneOn, fits, putOn, takenOut, removeOn, Edit, refusedEdit, written, writtenBy, writtenOut, checked, putOf, removeOf}
+use Rattle.store.specs.Edit.{with, without, CellEdit, refusedOn, doneOn, fits, putOn, takenOut, removeOn, Edit, refusedEdit, written, writtenBy, writtenOut, checkedEdit, putOf, removeOf}
 use Rattle.history.specs.State.{State, heldBy}
 use Rattle.history.specs.Change.{Change, put, remove, handedBack, handedOn, next, endOf, succeeded, accepted, edited}
 use Rattle.history.proofs.Order.{with-valid, without-valid, without-shorter}
@@ -33,14 +34,12 @@ chosen false x y e = absurd (none-some e)
 
 pub cell-allowed : (s : List ℕ) (c : Cell) → wholeCell s ≡ some c → cellAllowed c ≡ true
 unfolding wholeCell
-cell-allowed s c e =
-    let t = chosen (cellAllowed (cellOf s) && same (cellBytes (cellOf s)) s) (cellOf s) c e in
-    subst (λ (x : Cell). cellAllowed x ≡ true) (t .1) (and-true _ _ (t .0) .0)
+cell-allowed s c e = passing-some (λ b. equalBytes b s) (cellOf s) c e .0
 
 pub key-allowed : (s : List ℕ) (k : Key) → wholeKey s ≡ some k → keyAllowed k ≡ true
 unfolding wholeKey
 key-allowed s k e =
-    let t = chosen (keyAllowed (keyAt s 0) && same (keyBytes (keyAt s 0)) s) (keyAt s 0) k e in
+    let t = chosen (keyAllowed (keyAt s 0) && equalBytes (keyBytes (keyAt s 0)) s) (keyAt s 0) k e in
     subst (λ (x : Key). keyAllowed x ≡ true) (t .1) (and-true _ _ (t .0) .0)
 
 -- ---- a store in form
@@ -128,7 +127,7 @@ module _ (b : List ℕ) (n : ℕ) (cs : List Cell) (h : held b n ≡ some cs) wh
 -- From a store in form every edit leaves one in form, with the cells that its definition gives: "Put adds or replaces the cell
 -- of a key", "Remove takes it out", and a refused edit changes nothing. The buffer stays as long as it was.
 pub form-kept : (e : Change) (m : State) (cs : List Cell) → heldBy m ≡ some cs → Kept (m .buffer) (edited (length (m .buffer)) e cs .left) (handedBack e m)
-unfolding handedBack edited putOf removeOf checked
+unfolding handedBack edited putOf removeOf checkedEdit
 form-kept (put s) m cs h = rw h (put-kept (m .buffer) (m .length) cs h s (wholeCell s) refl)
 form-kept (remove s) m cs h = rw h (remove-kept (m .buffer) (m .length) cs h (wholeKey s))
 
@@ -139,11 +138,11 @@ written-end b n cs (Halted h l) = refl
 
 -- and it ends as it does on the cells
 pub end-kept : (e : Change) (m : State) (cs : List Cell) → heldBy m ≡ some cs → endOf e m ≡ edited (length (m .buffer)) e cs .end
-unfolding handedBack edited putOf removeOf checked
+unfolding handedBack edited putOf removeOf checkedEdit
 end-kept (put s) m cs h =
-    ap (λ (o : Option (List Cell)). checked (m .buffer) (m .length) (putOn (length (m .buffer)) (wholeCell s)) o .end) h ∙ written-end (m .buffer) (m .length) _ _
+    ap (λ (o : Option (List Cell)). checkedEdit (m .buffer) (m .length) (putOn (length (m .buffer)) (wholeCell s)) o .end) h ∙ written-end (m .buffer) (m .length) _ _
 end-kept (remove s) m cs h =
-    ap (λ (o : Option (List Cell)). checked (m .buffer) (m .length) (removeOn (wholeKey s)) o .end) h ∙ written-end (m .buffer) (m .length) _ _
+    ap (λ (o : Option (List Cell)). checkedEdit (m .buffer) (m .length) (removeOn (wholeKey s)) o .end) h ∙ written-end (m .buffer) (m .length) _ _
 
 -- ---- "Refused edits change nothing and hand back the old length"
 
@@ -174,8 +173,8 @@ unfolding writtenBy written succeeded
 written-stays b n cs Finished e = absurd (true≢false e)
 written-stays b n cs (Halted h l) e = refl
 
-checked-stays : (b : List ℕ) (n : ℕ) (f : List Cell → CellEdit) (o : Option (List Cell)) → succeeded (checked b n f o .end) ≡ false → handedOn (checked b n f o) ≡ record { buffer = b; length = n }
-unfolding checked
+checked-stays : (b : List ℕ) (n : ℕ) (f : List Cell → CellEdit) (o : Option (List Cell)) → succeeded (checkedEdit b n f o .end) ≡ false → handedOn (checkedEdit b n f o) ≡ record { buffer = b; length = n }
+unfolding checkedEdit
 checked-stays b n f none = λ e. refl
 checked-stays b n f (some cs) = written-stays b n (f cs .left) (f cs .end)
 
@@ -187,6 +186,6 @@ refused-keeps (remove s) m = checked-stays (m .buffer) (m .length) (removeOn (wh
 
 -- 1: "The store breaks its form": every edit is refused with it
 pub out-of-form-once : (e : Change) (m : State) → heldBy m ≡ none → handedBack e m ≡ refusedEdit (m .buffer) (m .length) BadStore
-unfolding handedBack putOf removeOf checked
+unfolding handedBack putOf removeOf checkedEdit
 out-of-form-once (put s) m h = rw h
 out-of-form-once (remove s) m h = rw h

@@ -13,8 +13,7 @@ use Rattle.meaning.specs.declared.end.Ended.{Ended}
 use Rattle.meaning.specs.declared.end.Ended.the-variants.{Finished, Halted}
 use Rattle.cells.specs.Cell.{Key, Cell, number, keyAllowed, wholeCell, wholeKey}
 use Rattle.store.specs.Edit.{with, refusedOn, doneOn, fits, putOn, takenOut, removeOn}
-use Rattle.cells.specs.Asking.{refusedWith, lookup, found, unusedZero, questionAllowed, answer, answeredAsk}
-use Rattle.cells.proofs.BigEndian.{both}
+use Rattle.cells.specs.Asking.{refusedWith, queryOf, queryAllowed, questionAllowed, lookup, found, queryAnswer, answer, answeredAsk}
 use Rattle.cells.proofs.CellForm.{key-allowed as cell-key-allowed}
 use Rattle.history.specs.State.{State, heldBy, askIn, cellQuestion}
 use Rattle.history.specs.Change.{Change, put, remove, next, endOf, succeeded, accepted, edited}
@@ -44,8 +43,8 @@ accepted-cells e m a = go (heldBy m) refl
 
 -- the question for the cell of a key within the limits, to a store in form
 cell-asked : (m : State) (k : Key) (cs : List Cell) → keyAllowed k ≡ true → heldBy m ≡ some cs → askIn m (cellQuestion k) ≡ answeredAsk (found (lookup (number k) cs))
-unfolding answer questionAllowed unusedZero
-cell-asked m k cs a h = answered m cs (cellQuestion k) h (both a refl)
+unfolding queryOf queryAllowed questionAllowed queryAnswer answer
+cell-asked m k cs a h = answered m cs (cellQuestion k) h a
 
 -- the key that an accepted edit settles is answered so for as long as no other edit of it is accepted
 settled : (e : Change) (k : Key) (o : Option Cell) (es : List Change) (m : State)

@@ -8,7 +8,7 @@ use borrow.Author.Tests.{lt-ltb, ltb-true}
 use lib.Dec.{ltb}
 use lib.ListN.{length, length-append}
 use Rattle.meaning.specs.Each.{Each}
-use Rattle.cells.specs.Cell.{Cell, numberOf, cellAllowed, cellBytes}
+use Rattle.cells.specs.Cell.{Cell, keyNumber, cellAllowed, cellBytes}
 use Rattle.cells.specs.Store.{encode, allowed, above, rising}
 use Rattle.cells.proofs.BigEndian.{and-true, both}
 use Rattle.cells.proofs.Runs.{Valid}
@@ -18,17 +18,17 @@ use Rattle.history.proofs.Filter.{filter, isBelow, isAbove, lower-filte
 -- ---- the tests of a run of cells, as facts about each cell
 
 abbrev Above : ℕ → Cell → Type 0
-Above n c = n < numberOf c
+Above n c = n < keyNumber c
 
 abbrev Below : ℕ → Cell → Type 0
-Below n c = numberOf c < n
+Below n c = keyNumber c < n
 
 abbrev Allowed : Cell → Type 0
 Allowed c = cellAllowed c ≡ true
 
 abbrev Rises : List Cell → Type 0
 Rises [] = Unit {0}
-Rises (c ∷ cs) = Each (Above (numberOf c)) cs × Rises cs
+Rises (c ∷ cs) = Each (Above (keyNumber c)) cs × Rises cs
 
 above-each : (n : ℕ) (cs : List Cell) → above n cs ≡ true → Each (Above n) cs
 unfolding above
@@ -68,25 +68,25 @@ each-append P (x ∷ xs) ys h k = (h .0, each-append P xs ys (h .1) k)
 
 rises-filter : (p : Cell → Bool) (cs : List Cell) → Rises cs → Rises (filter p cs)
 rises-filter p =
-    filter-elim p (λ cs ds. Rises cs → Rises ds) (λ h. h) (λ c cs e r h. (each-filter p (Above (numberOf c)) cs (h .0), r (h .1))) (λ c cs e r h. r (h .1))
+    filter-elim p (λ cs ds. Rises cs → Rises ds) (λ h. h) (λ c cs e r h. (each-filter p (Above (keyNumber c)) cs (h .0), r (h .1))) (λ c cs e r h. r (h .1))
 
 -- cells below n, then cells that rise from n on
 rises-append : (n : ℕ) (xs ys : List Cell) → Each (Below n) xs → Rises xs → Rises ys → ((m : ℕ) → m < n → Each (Above m) ys) → Rises (xs ++ ys)
 rises-append n [] ys b h k f = k
 rises-append n (x ∷ xs) ys b h k f =
-    (each-append (Above (numberOf x)) xs ys (h .0) (f (numberOf x) (b .0)), rises-append n xs ys (b .1) (h .1) k f)
+    (each-append (Above (keyNumber x)) xs ys (h .0) (f (keyNumber x) (b .0)), rises-append n xs ys (b .1) (h .1) k f)
 
 -- in order, before cells that rise from n on
 module _ (n : ℕ) (cs : List Cell) where
   above-higher : (m : ℕ) → m ≤ n → Each (Above m) (higher n cs)
-  above-higher m h = rw (higher-filter n cs) (each-passed (isAbove n) (Above m) (λ c e. omega (arith, ltb-true n (numberOf c) e)) cs)
+  above-higher m h = rw (higher-filter n cs) (each-passed (isAbove n) (Above m) (λ c e. omega (arith, ltb-true n (keyNumber c) e)) cs)
 
   rises-higher : Rises cs → Rises (higher n cs)
   rises-higher h = rw (higher-filter n cs) (rises-filter (isAbove n) cs h)
 
   rises-lower : (ys : List Cell) → Rises cs → Rises ys → ((m : ℕ) → m < n → Each (Above m) ys) → Rises (lower n cs ++ ys)
   rises-lower ys h k f =
-      rw (lower-filter n cs) (rises-append n (filter (isBelow n) cs) ys (each-passed (isBelow n) (Below n) (λ c e. ltb-true (numberOf c) n e) cs) (rises-filter (isBelow n) cs h) k f)
+      rw (lower-filter n cs) (rises-append n (filter (isBelow n) cs) ys (each-passed (isBelow n) (Below n) (λ c e. ltb-true (keyNumber c) n e) cs) (rises-filter (isBelow n) cs h) k f)
 
   each-parts : (P : Cell → Type 0) (ys : List Cell) → Each P cs → (Each P (higher n cs) → Each P ys) → Each P (lower n cs ++ ys)
   each-parts P ys h f =
@@ -97,7 +97,7 @@ module _ (n : ℕ) (cs : List Cell) where
 pub with-valid : (c : Cell) (cs : List Cell) → cellAllowed c ≡ true → Valid cs → Valid (with c cs)
 unfolding with
 with-valid c cs e v =
-    let n : ℕ = numberOf c in
+    let n : ℕ = keyNumber c in
     let r : Rises cs = rising-rises cs (v .rising) in
     record {
       allowed = each-allowed _ (each-parts n cs Allowed (c ∷ higher n cs) (allowed-each cs (v .allowed)) (λ h. (e, h)));
@@ -127,11 +127,11 @@ encode-append (x ∷ xs) ys =
 parted : (n : ℕ) (cs : List Cell) → size (lower n cs) + size (higher n cs) ≤ size cs
 unfolding encode lower higher
 parted n [] = omega arith
-parted n (c ∷ cs) = go (ltb (numberOf c) n) (ltb n (numberOf c)) refl refl (parted n cs)
+parted n (c ∷ cs) = go (ltb (keyNumber c) n) (ltb n (keyNumber c)) refl refl (parted n cs)
   where
-    go : (s t : Bool) → ltb (numberOf c) n ≡ s → ltb n (numberOf c) ≡ t → size (lower n cs) + size (higher n cs) ≤ size cs
+    go : (s t : Bool) → ltb (keyNumber c) n ≡ s → ltb n (keyNumber c) ≡ t → size (lower n cs) + size (higher n cs) ≤ size cs
         → size (cond s (c ∷ lower n cs) (lower n cs)) + size (cond t (c ∷ higher n cs) (higher n cs)) ≤ size (c ∷ cs)
-    go true true e f h = absurd (omega (arith, ltb-true (numberOf c) n e, ltb-true n (numberOf c) f))
+    go true true e f h = absurd (omega (arith, ltb-true (keyNumber c) n e, ltb-true n (keyNumber c) f))
     go true false e f h = omega (arith, length-append (cellBytes c) (encode (lower n cs)), length-append (cellBytes c) (encode cs))
     go false true e f h = omega (arith, length-append (cellBytes c) (encode (higher n cs)), length-append (cellBytes c) (encode cs))
     go false false e f h = omega (arith, length-append (cellBytes c) (encode cs))

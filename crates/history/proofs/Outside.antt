@@ -1,6 +1,6 @@
 -- Edits of other parameters: every question about a parameter is answered as before, the highest numbers too.
 use mathlib.Core.Path.{_≡_, refl, sym, ap, _∙_}
-use mathlib.Core.Bool.{Bool, true, false, cond, _&&_, true≢false, false≢true}
+use mathlib.Core.Bool.{Bool, true, false, cond, _&&_, true≢false}
 use mathlib.Core.List.{List, [], _∷_, _++_}
 use mathlib.Core.Option.{Option, none, some}
 use Prim.Native.Nat.{ℕ, max}
@@ -8,18 +8,18 @@ use native.Mathlib.Omega.{arith}
 use borrow.Author.Tests.{eqb-true, eq-eqb, ltb-true, ltb-false, not-true}
 use lib.Dec.{eqb, ltb}
 use lib.ListN.{length}
-use Rattle.meaning.specs.declared.refusal.Refusal.the-variants.{StoreFull}
+use Rattle.meaning.specs.declared.refusal.Refusal.the-variants.{BadRequest, StoreFull}
 use Rattle.meaning.specs.Each.{Each}
-use Rattle.meaning.specs.Answer.{highest}
 use Rattle.meaning.specs.declared.question.Question.{Question}
 use Rattle.meaning.specs.declared.end.Ended.{Ended}
 use Rattle.meaning.specs.declared.end.Ended.the-variants.{Finished, Halted}
-use Rattle.cells.specs.Cell.{Key, Cell, number, numberOf, keyAllowed, cellAllowed, wholeCell, wholeKey}
+use Rattle.cells.specs.Cell.{Key, Cell, number, keyNumber, keyAllowed, cellAllowed, wholeCell, wholeKey}
 use Rattle.cells.specs.Store.{allowed}
-use Rattle.cells.specs.Asking.{lookup, asked, questionAllowed, highestOf, ofParameter, ofRecord, unusedZero, found, answer, replied, askOf}
+use Rattle.cells.specs.Asking.{asked, Query, theCell, queryAllowed, questionAllowed, lookup, highestOf, ofParameter, ofRecord, queryAnswer, answer, Reply, answeredAsk, refusedAsk, replied, askOf}
 use Rattle.cells.proofs.BigEndian.{and-true}
 use Rattle.cells.proofs.CellForm.{same-key, key-allowed as cell-key-allowed}
 use Rattle.cells.proofs.Locating.{held-some}
+use Rattle.cells.proofs.Questions.{by-query}
 use Rattle.store.specs.Edit.{lower, higher, with, without, refusedOn, doneOn, fits, putOn, takenOut, removeOn}
 use Rattle.history.specs.State.{State, heldBy, askIn}
 use Rattle.history.specs.Change.{Change, put, remove, next, endOf, succeeded, keyOfCell, keyNamed, isKey, ofItsParameter, touchesParameter, edited}
@@ -39,19 +39,19 @@ module _ (p : Key → Bool) (f : Cell → ℕ) where
   top-append (x ∷ xs) ys = omega (arith, top-append xs ys)
 
   -- where no cell with the number n passes, those below and those above it have the highest
-  top-around : (n : ℕ) (cs : List Cell) → Each (λ c. numberOf c ≡ n → p (c .key) ≡ false) cs → max (top (lower n cs)) (top (higher n cs)) ≡ top cs
+  top-around : (n : ℕ) (cs : List Cell) → Each (λ c. keyNumber c ≡ n → p (c .key) ≡ false) cs → max (top (lower n cs)) (top (higher n cs)) ≡ top cs
   unfolding highestOf lower higher
   top-around n [] h = omega arith
-  top-around n (c ∷ cs) h = go (ltb (numberOf c) n) refl (ltb n (numberOf c)) refl (top-around n cs (h .1))
+  top-around n (c ∷ cs) h = go (ltb (keyNumber c) n) refl (ltb n (keyNumber c)) refl (top-around n cs (h .1))
     where
-      go : (s : Bool) → ltb (numberOf c) n ≡ s → (t : Bool) → ltb n (numberOf c) ≡ t → max (top (lower n cs)) (top (higher n cs)) ≡ top cs → max (top (cond s (c ∷ lower n cs) (lower n cs))) (top (cond t (c ∷ higher n cs) (higher n cs))) ≡ max (cond (p (c .key)) (f c) 0) (top cs)
-      go true e true u r = absurd (omega (arith, ltb-true (numberOf c) n e, ltb-true n (numberOf c) u))
+      go : (s : Bool) → ltb (keyNumber c) n ≡ s → (t : Bool) → ltb n (keyNumber c) ≡ t → max (top (lower n cs)) (top (higher n cs)) ≡ top cs → max (top (cond s (c ∷ lower n cs) (lower n cs))) (top (cond t (c ∷ higher n cs) (higher n cs))) ≡ max (cond (p (c .key)) (f c) 0) (top cs)
+      go true e true u r = absurd (omega (arith, ltb-true (keyNumber c) n e, ltb-true n (keyNumber c) u))
       go true e false u r = omega (arith, r)
       go false e true u r = omega (arith, r)
-      go false e false u r = rw (h .0 (omega (arith, ltb-false (numberOf c) n e, ltb-false n (numberOf c) u))) (omega (arith, r))
+      go false e false u r = rw (h .0 (omega (arith, ltb-false (keyNumber c) n e, ltb-false n (keyNumber c) u))) (omega (arith, r))
 
   -- cells with the number of a key within the limits have that key
-  none-of : (l : Key) → keyAllowed l ≡ true → p l ≡ false → (cs : List Cell) → allowed cs ≡ true → Each (λ c. numberOf c ≡ number l → p (c .key) ≡ false) cs
+  none-of : (l : Key) → keyAllowed l ≡ true → p l ≡ false → (cs : List Cell) → allowed cs ≡ true → Each (λ c. keyNumber c ≡ number l → p (c .key) ≡ false) cs
   unfolding allowed
   none-of l a n [] h = tt
   none-of l a n (c ∷ cs) h =
@@ -61,8 +61,8 @@ module _ (p : Key → Bool) (f : Cell → ℕ) where
   top-with : (c : Cell) → keyAllowed (c .key) ≡ true → p (c .key) ≡ false → (cs : List Cell) → allowed cs ≡ true → top (with c cs) ≡ top cs
   unfolding with highestOf
   top-with c a n cs h =
-      let e : top (c ∷ higher (numberOf c) cs) ≡ top (higher (numberOf c) cs) = rw n (omega arith) in
-      omega (arith, top-append (lower (numberOf c) cs) (c ∷ higher (numberOf c) cs), e, top-around (numberOf c) cs (none-of (c .key) a n cs h))
+      let e : top (c ∷ higher (keyNumber c) cs) ≡ top (higher (keyNumber c) cs) = rw n (omega arith) in
+      omega (arith, top-append (lower (keyNumber c) cs) (c ∷ higher (keyNumber c) cs), e, top-around (keyNumber c) cs (none-of (c .key) a n cs h))
 
   top-without : (l : Key) → keyAllowed l ≡ true → p l ≡ false → (cs : List Cell) → allowed cs ≡ true → top (without (number l) cs) ≡ top cs
   unfolding without
@@ -124,17 +124,22 @@ module _ (q : Question) (e : Change) (n : ofItsParameter (asked q) (keyNamed e) 
           by false u = refl
 
   same-reply : (size : ℕ) (cs : List Cell) → allowed cs ≡ true → replied q (some (edited size e cs .left)) ≡ replied q (some cs)
-  unfolding replied questionAllowed answer ofParameter ofRecord
-  same-reply size cs h = go (keyAllowed (asked q)) refl
+  unfolding replied queryAllowed questionAllowed queryAnswer answer ofParameter ofRecord
+  same-reply size cs h = by-query q (λ o. reply o (edited size e cs .left) ≡ reply o cs) refl (go (keyAllowed (asked q)) refl) (rw in-parameter) (rw in-record)
     where
-      in-parameter : (l : Key) → keyNamed e ≡ some l → eqb (l .datasource) (q .datasource) && eqb (l .parameter) (q .parameter) ≡ false
-      in-parameter = other
+      reply : Option Query → List Cell → Reply
+      reply o ds = cond (queryAllowed o) (answeredAsk (queryAnswer o ds)) (refusedAsk BadRequest)
 
-      in-record : (l : Key) → keyNamed e ≡ some l → (eqb (l .datasource) (q .datasource) && eqb (l .parameter) (q .parameter)) && eqb (l .recordNumber) (q .«record») ≡ false
-      in-record l k = ap (λ (t : Bool). t && eqb (l .recordNumber) (q .«record»)) (other l k)
+      in-parameter : highestOf (ofParameter (q .datasource) (q .parameter)) (λ c. c .key .recordNumber) (edited size e cs .left) ≡ highestOf (ofParameter (q .datasource) (q .parameter)) (λ c. c .key .recordNumber) cs
+      in-parameter = top-edited (λ l. eqb (l .datasource) (q .datasource) && eqb (l .parameter) (q .parameter)) (λ c. c .key .recordNumber) size e other cs h
 
-      go : (t : Bool) → keyAllowed (asked q) ≡ t → replied q (some (edited size e cs .left)) ≡ replied q (some cs)
-      go true a = rw (edited-other size (asked q) e cs (not-asked a), top-edited (λ l. eqb (l .datasource) (q .datasource) && eqb (l .parameter) (q .parameter)) (λ c. c .key .recordNumber) size e in-parameter cs h, top-edited (λ l. (eqb (l .datasource) (q .datasource) && eqb (l .parameter) (q .parameter)) && eqb (l .recordNumber) (q .«record»)) (λ c. c .key .entryNumber) size e in-record cs h)
+      in-record : highestOf (ofRecord (q .datasource) (q .parameter) (q .«record»)) (λ c. c .key .entryNumber) (edited size e cs .left) ≡ highestOf (ofRecord (q .datasource) (q .parameter) (q .«record»)) (λ c. c .key .entryNumber) cs
+      in-record =
+          top-edited (λ l. (eqb (l .datasource) (q .datasource) && eqb (l .parameter) (q .parameter)) && eqb (l .recordNumber) (q .«record»)) (λ c. c .key .entryNumber) size e
+          (λ l k. ap (λ (t : Bool). t && eqb (l .recordNumber) (q .«record»)) (other l k)) cs h
+
+      go : (t : Bool) → keyAllowed (asked q) ≡ t → reply (some (theCell (asked q))) (edited size e cs .left) ≡ reply (some (theCell (asked q))) cs
+      go true a = rw (edited-other size (asked q) e cs (not-asked a))
       go false a = rw a
 
 other-once : (q : Question) (e : Change) (m : State) → touchesParameter (asked q) e m ≡ false → askIn (next e m) q ≡ askIn m q

@@ -8,11 +8,11 @@ use Rattle.meaning.specs.Answer.{integer, string, missing, cell}
 use Rattle.meaning.specs.declared.refusal.Refusal.the-variants.{BadStore, BadRequest, StoreFull, NoCell}
 use Rattle.meaning.specs.declared.end.Ended.the-variants.{Finished}
 use Rattle.numbers.specs.Range.{within}
-use Rattle.cells.specs.Bytes.{pair, quad, octet, pairAt, quadAt, octetAt, unsigned, signed, begins, same}
-use Rattle.cells.specs.Cell.{Key, between, keyAllowed, keyBytes, number, each, valueAllowed, cellAllowed, kindOf, valueBytes, cellBytes, keyAt, valueOf, front, wholeCell, wholeKey}
-use Rattle.cells.specs.Store.{encode, above, rising, before, run, ordered, cells, held}
-use Rattle.cells.specs.Asking.{lookup, found, answer, unusedZero, questionAllowed, replied, askOf, refusedWith}
-use Rattle.store.specs.Edit.{lower, higher, with, without, written, fits, putOn, takenOut, removeOn, writtenBy, checked, putOf, removeOf}
+use Rattle.cells.specs.Bytes.{pair, quad, octet, pairAt, quadAt, octetAt, inComplement, fromComplement, begins, equalBytes}
+use Rattle.cells.specs.Cell.{Key, between, keyAllowed, keyBytes, number, each, valueAllowed, cellAllowed, kindOf, valueBytes, cellBytes, keyAt, cellBy, cellOf, passing, front, wholeCell, wholeKey}
+use Rattle.cells.specs.Store.{encode, above, rising, before, cellRun, ordered, cells, held}
+use Rattle.cells.specs.Asking.{unused, queryOf, queryAllowed, questionAllowed, lookup, found, queryAnswer, answer, replied, askOf, refusedWith}
+use Rattle.store.specs.Edit.{lower, higher, with, without, written, fits, putOn, takenOut, removeOn, writtenBy, checkedEdit, putOf, removeOf}
 use Rattle.history.specs.State.{State, answerIn, cellQuestion}
 use Rattle.history.specs.Change.{put, remove, handedBack}
 use Rattle.history.specs.History.{after, ends}
@@ -65,10 +65,10 @@ unfolding
     pairAt
     quadAt
     octetAt
-    unsigned
-    signed
+    inComplement
+    fromComplement
     begins
-    same
+    equalBytes
     between
     keyAllowed
     keyBytes
@@ -80,7 +80,9 @@ unfolding
     valueBytes
     cellBytes
     keyAt
-    valueOf
+    cellBy
+    cellOf
+    passing
     front
     wholeCell
     wholeKey
@@ -88,15 +90,18 @@ unfolding
     above
     rising
     before
-    run
+    cellRun
     ordered
     cells
     held
+    unused
+    queryOf
+    queryAllowed
+    questionAllowed
     lookup
     found
+    queryAnswer
     answer
-    unusedZero
-    questionAllowed
     replied
     askOf
     lower
@@ -109,7 +114,7 @@ unfolding
     takenOut
     removeOn
     writtenBy
-    checked
+    checkedEdit
     putOf
     removeOf
     within

@@ -5,10 +5,10 @@ use mathlib.Core.List.{List}
 use Prim.Native.Nat.{ℕ, _≤_}
 use lib.ListN.{length}
 use Rattle.scan.specs.Line.{byteIs}
-use Rattle.scan.proofs.OnwardLaws.{picked}
+use Rattle.scan.proofs.TestLaws.{picked}
 use Rattle.scan.proofs.WordLaws.{EachForm, all, _besides_, found-form}
 use Rattle.arguments.specs.declared.argument.Argument.{Argument}
-use Rattle.arguments.specs.Parameter.{parameterOf}
+use Rattle.arguments.specs.inner.Parameter.{parameterOf}
 use Rattle.arguments.proofs.Parsed.{Between, IndexWithin, ArgumentWithin, small-parameter}
 use Rattle.texts.specs.readers.Text.{textFits}
 use Rattle.lines.specs.declared.command.Operation.{Operation}

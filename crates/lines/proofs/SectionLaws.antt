@@ -15,7 +15,7 @@ use Rattle.scan.specs.Run.{span}
 use Rattle.scan.specs.Line.{byteAt, byteIs}
 use Rattle.scan.specs.Words.{begins, standsAt, Spelled, firstOf}
 use Rattle.scan.proofs.RunLaws.{window-end, run-within}
-use Rattle.scan.proofs.OnwardLaws.{picked}
+use Rattle.scan.proofs.TestLaws.{picked}
 use Rattle.texts.specs.readers.Text.{textFits}
 use Rattle.lines.specs.declared.command.Operation.{Operation}
 use Rattle.lines.specs.declared.command.Comparison.{Comparison}
@@ -30,26 +30,30 @@ use Rattle.lines.proofs.Makes.{set-makes, datasource-makes, compare-mak
 
 -- ---- the other forms
 
+-- a type for a line without a form, one for a section, and one for every other form
+abbrev pub formCase : Type 0 → Type 0 → Type 0 → Line → Type 0
+formCase N S R NoForm = N
+formCase N S R Text = R
+formCase N S R (Section a e) = S
+formCase N S R (Set o t a) = R
+formCase N S R (IfZero a) = R
+formCase N S R (IfNonZero a) = R
+formCase N S R (Compare c a b) = R
+formCase N S R Else = R
+formCase N S R EndIf = R
+formCase N S R (BeginTable a) = R
+formCase N S R (EndTable k) = R
+formCase N S R (Records f) = R
+formCase N S R (Entries f) = R
+formCase N S R (Datasource i) = R
+formCase N S R NoFormFeed = R
+formCase N S R (NewPage n) = R
+formCase N S R (Heading n at) = R
+formCase N S R (NoHeading n) = R
+formCase N S R Remark = R
+
 abbrev IsOther : Line → Type 0
-IsOther NoForm = Unit {0}
-IsOther Text = Unit {0}
-IsOther (Section a e) = ⊥
-IsOther (Set o t a) = Unit {0}
-IsOther (IfZero a) = Unit {0}
-IsOther (IfNonZero a) = Unit {0}
-IsOther (Compare c a b) = Unit {0}
-IsOther Else = Unit {0}
-IsOther EndIf = Unit {0}
-IsOther (BeginTable a) = Unit {0}
-IsOther (EndTable k) = Unit {0}
-IsOther (Records f) = Unit {0}
-IsOther (Entries f) = Unit {0}
-IsOther (Datasource i) = Unit {0}
-IsOther NoFormFeed = Unit {0}
-IsOther (NewPage n) = Unit {0}
-IsOther (Heading n at) = Unit {0}
-IsOther (NoHeading n) = Unit {0}
-IsOther Remark = Unit {0}
+IsOther = formCase (Unit {0}) ⊥ (Unit {0})
 
 pub record Other (f : Line) : Type 0 where
   pub no : (a e : ℕ) → f ≡ Section a e → ⊥

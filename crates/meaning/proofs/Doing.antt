@@ -6,6 +6,7 @@ use native.Mathlib.Omega.{arith}
 use native.Mathlib.Nat.{add-zero}
 use lib.ListN.{length, length-append, set, take, drop}
 use lib.Seq.{sets, length-sets, sets-eq, take-at, length-take-le}
+use Rattle.buffers.proofs.Laws.{sets-append}
 use Rattle.meaning.specs.Event.{Event, line, break, bytes, joined, breaks, pages}
 use Rattle.meaning.specs.Tree.{Tree, done, stop, ask, print, bind, Cause, refused, cut, End, finished, halted, Run, textOf, ended, run}
 use Rattle.meaning.specs.Place.{Place, Fits, Did, placesLeft, roomLeft, Does, from}
@@ -13,12 +14,6 @@ use Rattle.meaning.specs.declared.refusal.Overflow.the-variants.{ReadLis
 use Rattle.meaning.proofs.Events.{joined-append, breaks-append, page-count}
 use Rattle.meaning.proofs.Runs.{run-print, run-print-full, run-ask, run-ask-full, text-fits, asked-fits}
 use Rattle.meaning.proofs.Binding.{behind, chain, onward, run-bind}
-
--- Elements put at a place one list behind another.
-sets-append : {A : Type 0} (vs ws l : List A) (i : ℕ) → sets l i (vs ++ ws) ≡ sets (sets l i vs) (i + length vs) ws
-sets-append [] ws l i = rw add-zero
-sets-append (v ∷ vs) ws l i =
-    sets-append vs ws (set l i v) (suc i) ∙ ap (λ k. sets (sets (set l i v) (suc i) vs) k ws) (omega arith)
 
 -- A buffer filled up to n, after more was put there.
 pub filled : {A : Type 0} (l l′ ws : List A) (n n′ : ℕ) → l′ ≡ sets l n ws → n′ ≡ n + length ws → n + length ws ≤ length l → take n′ l′ ≡ take n l ++ ws
@@ -71,9 +66,9 @@ module _ {Q E L A B : Type 0} {P P′ : Place Q} where
       let text : joined (x .events ++ y .events) ≡ textOf x ++ textOf y = joined-append (x .events) (y .events) in
       record {
         end = d′ .end;
-        text = d′ .text ∙ ap₂ (λ l k. sets l k (textOf y)) (d .text) (d .printed) ∙ sym (rw text (sets-append (textOf x) (textOf y) (P .text) (P .printed)));
+        text = d′ .text ∙ ap₂ (λ l k. sets l k (textOf y)) (d .text) (d .printed) ∙ sym (rw text (sets-append (textOf x) (P .text) (P .printed) (textOf y)));
         printed = omega (arith, d .printed, d′ .printed, length-append (textOf x) (textOf y), ap length text);
-        log = d′ .log ∙ ap₂ (λ l k. sets l k (y .asked)) (d .log) (d .asked) ∙ sym (sets-append (x .asked) (y .asked) (P .log) (P .asked));
+        log = d′ .log ∙ ap₂ (λ l k. sets l k (y .asked)) (d .log) (d .asked) ∙ sym (sets-append (x .asked) (P .log) (P .asked) (y .asked));
         asked = omega (arith, d .asked, d′ .asked, length-append (x .asked) (y .asked));
         places = d′ .places ∙ d .places;
         pages = omega (arith, d .pages, d′ .pages, breaks-append (x .events) (y .events));

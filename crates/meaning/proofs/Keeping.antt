@@ -1,9 +1,11 @@
 -- What a tree keeps, every run of it keeps.
+use mathlib.Core.Path.{sym, subst}
 use Prim.Native.Nat.{ℕ, _≤_}
 use lib.ListN.{length}
 use Rattle.meaning.specs.Each.{Each}
 use Rattle.meaning.specs.Event.{pages}
-use Rattle.meaning.specs.Tree.{Tree, done, stop, ask, print, bind, Run, run}
+use Rattle.meaning.specs.Tree.{Tree, done, stop, ask, print, bind, finished, Run, run}
+use Rattle.meaning.specs.Place.{Place, placesLeft, roomLeft, from, Does}
 use Rattle.meaning.specs.Rule.{Rule, after, Allowed, Keeps, AtEnd, pageLimit}
 use Rattle.meaning.proofs.Events.{pages-limited}
 use Rattle.meaning.proofs.Runs.{Runs, finishes, stops, asks, asks-full, prints, prints-full, runs}
@@ -52,3 +54,8 @@ module _ {S : Type 0} (rule : Rule S) {Q R E L A : Type 0} where
 -- Where a tree prints no line on a page that has m lines, each page of each run has at most m.
 pub keeps-pages : (m : ℕ) {Q R E L A : Type 0} (source : Q → R) (p r : ℕ) (t : Tree Q R E L A) (Φ : A → ℕ → Type 0) → Keeps (pageLimit m) t 0 Φ → Each (λ page. length page ≤ m) (pages (run source p r t .events))
 keeps-pages m source p r t Φ h = pages-limited m (run source p r t .events) (keeps-run (pageLimit m) source p r t 0 Φ h)
+
+-- What a tree keeps, the value that a call yielded has.
+pub yields : {S : Type 0} (rule : Rule S) {Q R E L A : Type 0} {source : Q → R} {t : Tree Q R E L A} {P P′ : Place Q} {a : A} (s : S) (Φ : A → S → Type 0) → Does source t P P′ (finished a) → Keeps rule t s Φ → (s′ : S) × Φ a s′
+yields rule {source = source} {t = t} {P = P} s Φ d k =
+    (after rule s (from source P t .events), subst (λ e. AtEnd Φ e (after rule s (from source P t .events))) (sym (d .did .end)) (keeps-end rule source (placesLeft P) (roomLeft P) t s Φ k))

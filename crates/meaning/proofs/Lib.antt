@@ -10,3 +10,4 @@ pub mod Numbers
 pub mod Rows
 pub mod Yielding
 pub mod Questions
+pub mod Asking

@@ -11,7 +11,7 @@ use lib.ListN.{length, drop, drop-of-length-le}
 use lib.Seq.{drop-cons}
 use Rattle.scan.specs.Line.{byteAt, window}
 use Rattle.scan.specs.Words.{begins}
-use Rattle.names.specs.Name.{sectionWord, nameOf, sameBytes, keyFrom, keyOf}
+use Rattle.names.specs.Name.{sectionWord, nameOf, sameBytes, hashFrom, hashOf}
 
 -- a section's name, and the empty name of other lines
 module _ (l : List ℕ) (b : Bool) (q : b ≡ begins sectionWord l) where
@@ -23,25 +23,25 @@ module _ (l : List ℕ) (b : Bool) (q : b ≡ begins sectionWord l) where
   unfolding nameOf
   unnamed k = rw (← q, k)
 
--- ---- a key, byte by byte
+-- ---- a hash, byte by byte
 
-module _ (s : List ℕ) (k i : ℕ) {w : ℕ} (inv : keyFrom k (drop i s) ≡ w) where
-  pub key-end : length s ≤ i → k ≡ w
-  unfolding keyFrom
-  key-end h = sym (ap (keyFrom k) (drop-of-length-le s h)) ∙ inv
+module _ (s : List ℕ) (k i : ℕ) {w : ℕ} (inv : hashFrom k (drop i s) ≡ w) where
+  pub hash-end : length s ≤ i → k ≡ w
+  unfolding hashFrom
+  hash-end h = sym (ap (hashFrom k) (drop-of-length-le s h)) ∙ inv
 
-  pub key-more : i < length s → (b : ℕ) → b ≡ byteAt s i → keyFrom ((k * 927 + b) % 4155694) (drop (i + 1) s) ≡ w
-  unfolding keyFrom byteAt
-  key-more h b e = rw (e, add-one i) (sym (ap (keyFrom k) (drop-cons s i 0 h)) ∙ inv)
+  pub hash-more : i < length s → (b : ℕ) → b ≡ byteAt s i → hashFrom ((k * 927 + b) % 4155694) (drop (i + 1) s) ≡ w
+  unfolding hashFrom byteAt
+  hash-more h b e = rw (e, add-one i) (sym (ap (hashFrom k) (drop-cons s i 0 h)) ∙ inv)
 
-key-below : (k : ℕ) (s : List ℕ) → k < 4155694 → keyFrom k s < 4155694
-unfolding keyFrom
-key-below k [] h = h
-key-below k (b ∷ s) h = key-below ((k * 927 + b) % 4155694) s (omega arith)
+hash-below : (k : ℕ) (s : List ℕ) → k < 4155694 → hashFrom k s < 4155694
+unfolding hashFrom
+hash-below k [] h = h
+hash-below k (b ∷ s) h = hash-below ((k * 927 + b) % 4155694) s (omega arith)
 
-pub key-bound : (name : List ℕ) → keyOf name < 4155694
-unfolding keyOf
-key-bound name = key-below 0 name (omega arith)
+pub hash-bound : (name : List ℕ) → hashOf name < 4155694
+unfolding hashOf
+hash-bound name = hash-below 0 name (omega arith)
 
 -- ---- the same bytes are the same list
 
@@ -56,11 +56,11 @@ same-begin (x ∷ a) (y ∷ b) h e = go (eqb x y) refl e (same-begin a b (omega 
     go true q k more = rw (eqb-true x y q, more (rw q at k))
     go false q k more = absurd (false≢true (rw q at k))
 
--- names with other keys are other names
-pub other-key : (a b : List ℕ) → (keyOf a ≡ keyOf b → ⊥) → sameBytes a b ≡ false
-other-key a b h = go (eqb (length a) (length b)) refl (begins a b) refl
+-- names with other hashes are other names
+pub other-hash : (a b : List ℕ) → (hashOf a ≡ hashOf b → ⊥) → sameBytes a b ≡ false
+other-hash a b h = go (eqb (length a) (length b)) refl (begins a b) refl
   where
     go : (p : Bool) → eqb (length a) (length b) ≡ p → (q : Bool) → begins a b ≡ q → sameBytes a b ≡ false
     go false k q e = rw k
     go true k false e = rw (k, e)
-    go true k true e = absurd (h (ap keyOf (same-begin a b (eqb-true (length a) (length b) k) e)))
+    go true k true e = absurd (h (ap hashOf (same-begin a b (eqb-true (length a) (length b) k) e)))

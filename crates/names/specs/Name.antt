@@ -1,4 +1,4 @@
--- The names of sections. Assumes nothing.
+-- The names of sections.
 use mathlib.Core.Bool.{Bool, cond, _&&_}
 use mathlib.Core.List.{List, [], _∷_}
 use Prim.Native.Nat.{ℕ, _+_, _*_, _%_}
@@ -21,10 +21,10 @@ nameOf l = cond (begins sectionWord l) (window l 5 8) []
 abbrev pub sameBytes : List ℕ → List ℕ → Bool
 sameBytes a b = eqb (length a) (length b) && begins a b
 
--- The key of some bytes behind others that had a key. What check 5 says doesn't depend on the numbers chosen.
-unfoldable pub keyFrom : ℕ → List ℕ → ℕ
-keyFrom k [] = k
-keyFrom k (b ∷ s) = keyFrom ((k * 927 + b) % 4155694) s
+-- The hash of some bytes behind others that had a hash. What check 5 says doesn't depend on the numbers chosen.
+unfoldable pub hashFrom : ℕ → List ℕ → ℕ
+hashFrom k [] = k
+hashFrom k (b ∷ s) = hashFrom ((k * 927 + b) % 4155694) s
 
-unfoldable pub keyOf : List ℕ → ℕ
-keyOf name = keyFrom 0 name
+unfoldable pub hashOf : List ℕ → ℕ
+hashOf name = hashFrom 0 name

@@ -2,12 +2,12 @@
 //
 // name_of      the name in a line
 // same_bytes   whether two names are the same
-// key_of       a number for a name, by which most names that differ are told apart
+// hash_of      a number for a name, by which most names that differ are told apart
 ghost use mathlib.Core.Path.{_≡_};
-ghost use Rattle.names.specs.Name.{nameOf, sameBytes, keyOf};
+ghost use Rattle.names.specs.Name.{nameOf, sameBytes, hashOf};
 
-// How many keys there are: 254 for each of 16,361 places, a prime.
-const KEYS: usize = 4_155_694;
+// How many hashes there are: 254 for each of 16,361 slots, a prime.
+const HASHES: usize = 4_155_694;
 
 // A section's name by its first eight characters; empty where the line isn't $SEC.
 pub fn name_of<'a>(line: &'a [u8]) -> &'a [u8]
@@ -29,15 +29,15 @@ pub fn same_bytes(a: &[u8], b: &[u8]) -> bool
     scan::words::begins_with(b, 0, a)
 }
 
-// A name's key: the same for the same name. With 927, names that count up or run through the letters seldom share one.
-pub fn key_of(name: &[u8]) -> usize
-    ensures { λ r. ⌜ r ≡ keyOf (now (name .entry)) ⌝ }
+// A name's hash: the same for the same name. With 927, names that count up or run through the letters seldom share one.
+pub fn hash_of(name: &[u8]) -> usize
+    ensures { λ r. ⌜ r ≡ hashOf (now (name .entry)) ⌝ }
 {
-    let mut key: usize = 0;
+    let mut hash: usize = 0;
     let mut i = 0;
     while i < name.len() {
-        key = (key * 927 + scan::bytes::byte(name, i) as usize) % KEYS;
+        hash = (hash * 927 + scan::bytes::byte(name, i) as usize) % HASHES;
         i += 1;
     }
-    key
+    hash
 }

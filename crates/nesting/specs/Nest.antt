@@ -1,5 +1,5 @@
 -- "Nesting is crossed, unmatched, repeated ($ELSE), too deep, or open at the next $SEC or the last line, which is named;
--- or a line other than $REM has no $SEC before it." Assumes nothing.
+-- or a line other than $REM has no $SEC before it."
 use mathlib.Core.Bool.{Bool, true, false, cond}
 use mathlib.Core.List.{List, [], _∷_}
 use mathlib.Core.Option.{Option, none, some}

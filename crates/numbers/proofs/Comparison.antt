@@ -1,4 +1,4 @@
--- The order of integers, by whole parts and rests of a division by a million. Assumes nothing.
+-- The order of integers, by whole parts and rests of a division by a million.
 use mathlib.Core.Path.{_≡_, refl, sym, ap, _∙_, subst}
 use mathlib.Core.Bool.{Bool, true, false, not, cond}
 use Prim.Native.Nat.{ℕ, zero, suc, _+_, _*_, _/_, _%_, _<_}

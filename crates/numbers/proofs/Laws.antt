@@ -1,4 +1,4 @@
--- What callers use of the definitions, by name. Assumes nothing.
+-- What callers use of the definitions, by name.
 use mathlib.Core.Path.{_≡_, refl, sym, ap, _∙_}
 use mathlib.Core.Bool.{Bool, true, false, not, _&&_}
 use Prim.Native.Nat.{ℕ, _*_, _-_, _^_, _≤_, _<_}

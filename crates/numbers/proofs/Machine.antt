@@ -1,4 +1,4 @@
--- Signed 64-bit numbers: their magnitudes, and how a call's arguments are read back from their bits. Assumes nothing.
+-- Signed 64-bit numbers: their magnitudes, and how a call's arguments are read back from their bits.
 use mathlib.Core.Path.{_≡_, refl, ap, _∙_, subst}
 use mathlib.Core.Bool.{Bool, true, false, cond}
 use Prim.Native.Nat.{ℕ, zero, suc, _+_, _-_, _*_, _/_, _^_, _<_, _≤_}

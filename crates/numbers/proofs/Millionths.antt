@@ -1,4 +1,4 @@
--- Rounded products and quotients of magnitudes in 64 bits: what `decimal::product` and `decimal::quotient` compute. Assumes nothing.
+-- Rounded products and quotients of magnitudes in 64 bits: what `decimal::product` and `decimal::quotient` compute.
 use mathlib.Core.Path.{_≡_, sym, ap, _∙_}
 use Prim.Native.Nat.{ℕ, _+_, _*_, _/_, _%_, _≤_, _<_}
 use native.Mathlib.Nat.{mul-le-mul, mod-lt, div-add-mod', div-lt-iff-lt-mul, mul-add-div-right}

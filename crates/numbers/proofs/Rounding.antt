@@ -1,4 +1,4 @@
--- The rounded quotient of magnitudes, and the table of powers of ten. Assumes nothing.
+-- The rounded quotient of magnitudes, and the table of powers of ten.
 use mathlib.Core.Path.{_≡_, sym, ap, _∙_}
 use mathlib.Core.List.{List, [], _∷_}
 use Prim.Native.Nat.{ℕ, zero, suc, _+_, _*_, _-_, _/_, _^_, _≤_, _<_}

@@ -1,4 +1,4 @@
--- Tests that pick one of two cases. Assumes nothing.
+-- Tests that pick one of two cases.
 use mathlib.Core.Path.{_≡_, refl, sym, subst}
 use mathlib.Core.Bool.{Bool, true, false, cond, _&&_}
 use lib.Dec.{T}

@@ -1,4 +1,4 @@
--- "set, add, subtract, multiply, divide". Assumes nothing.
+-- "set, add, subtract, multiply, divide".
 use Prim.Native.Nat.{ℕ, _*_}
 use mathlib.Core.Bool.{cond, _&&_}
 use lib.Dec.{eqb}

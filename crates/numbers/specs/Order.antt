@@ -1,4 +1,4 @@
--- Numbers of either kind, by value. Assumes nothing.
+-- Numbers of either kind, by value.
 use mathlib.Core.Bool.{Bool, false}
 use lib.Dec.{eqb}
 use lib.IntN.{ℤ, pos, negsuc}

@@ -1,4 +1,4 @@
--- How a calculation ends, by the numbers that a run can end with. Assumes nothing.
+-- How a calculation ends, by the numbers that a run can end with.
 use Prim.Native.Nat.{ℕ}
 use lib.IntN.{ℤ}
 use Rattle.numbers.specs.declared.Number.{Number}
@@ -16,6 +16,6 @@ outcome ZeroDivisor = refused 12
 outcome OutOfRange = refused 13
 
 -- "0 is success"
-abbrev pub numberOf : Outcome → ℕ
-numberOf (success z) = 0
-numberOf (refused n) = n
+abbrev pub outcomeNumber : Outcome → ℕ
+outcomeNumber (success z) = 0
+outcomeNumber (refused n) = n

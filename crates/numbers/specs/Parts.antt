@@ -1,4 +1,4 @@
--- Whole parts. Assumes nothing.
+-- Whole parts.
 use lib.IntN.{ℤ, pos}
 use lib.Signed.{quotZ, remZ}
 use Rattle.numbers.specs.declared.Quantity.{Quantity}

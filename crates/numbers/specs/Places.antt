@@ -1,4 +1,4 @@
--- Rounding to places. Assumes nothing.
+-- Rounding to places.
 use Prim.Native.Nat.{ℕ, _-_, _^_}
 use mathlib.Core.Bool.{cond, _&&_}
 use lib.Dec.{leb}

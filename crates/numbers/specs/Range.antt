@@ -1,4 +1,4 @@
--- The range of numbers. Assumes nothing.
+-- The range of numbers.
 use Prim.Native.Nat.{ℕ}
 use mathlib.Core.Bool.{Bool}
 use lib.Dec.{leb}

@@ -1,4 +1,3 @@
--- Assumes nothing.
 use Prim.Native.Nat.{ℕ, _+_, _*_, _/_}
 
 -- the whole number nearest to a / b, halves up: "halves away from zero" of magnitudes

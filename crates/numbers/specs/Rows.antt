@@ -1,5 +1,5 @@
 -- Halves of either sign and the ends of the range: antt computes each. The rows of document 01 itself stand in
--- report/specs/Rows, as whole templates. Assumes nothing.
+-- report/specs/Rows, as whole templates.
 use mathlib.Core.Path.{_≡_, refl}
 use mathlib.Core.List.{List, [], _∷_, map}
 use Prim.Native.Nat.{ℕ}

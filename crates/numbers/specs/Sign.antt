@@ -1,4 +1,4 @@
--- Signed numbers by sign and magnitude. Assumes nothing.
+-- Signed numbers by sign and magnitude.
 use Prim.Native.Nat.{ℕ}
 use mathlib.Core.Bool.{Bool, true, false, not, Bool·beq}
 use lib.IntN.{ℤ, pos, negℤ}

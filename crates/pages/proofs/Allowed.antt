@@ -19,7 +19,7 @@ use Rattle.values.specs.Meanings.{argumentMeaning}
 use Rattle.values.proofs.Allowed.{Allowed, AsksAllowed, argument-asks}
 use Rattle.pages.specs.declared.page.Page.{Page}
 use Rattle.pages.specs.declared.heading.Heading.{Heading}
-use Rattle.pages.specs.Text.{fieldValues, rendered, anyWrong, printed, textMeaning}
+use Rattle.rendering.specs.Text.{fieldValues, rendered, anyWrong, printed, textMeaning}
 use Rattle.pages.specs.Page.{on, advancedOf, sayMeaning, headLine, headFrom, headNumber, headMeaning, headsMeaning, highestOf, breakMeaning, turnMeaning, topMeaning, lineStep}
 
 values-ask : (m : Machine) → Between 1 35 (m .datasource) → (l : List ℕ) (line : ℕ) (ps : List Piece) → EachLimited l ps → AsksAllowed (fieldValues m l line ps)

@@ -5,7 +5,8 @@ use Prim.Native.Nat.{ℕ, zero, suc, _+_, _*_, _/_, _%_, _≤_, _<_}
 use native.Mathlib.Omega.{arith}
 use lib.ListN.{length, getD}
 use Rattle.pages.specs.declared.heading.Heading.{Heading}
-use Rattle.pages.specs.Heading.{noHeading, headingIn, headingsOf, Small}
+use Rattle.pages.specs.Heading.{noHeading}
+use Rattle.pages.specs.inner.Packed.{headingIn, headingsOf, Small}
 
 -- A heading that has its place in a word is read back.
 pub read-back : (h : Heading) (w : ℕ) → Small h → w ≡ ((h .start * 256 + h .length) * 256 + h .from) * 65536 + h .number → headingIn w ≡ h

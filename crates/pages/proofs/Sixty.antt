@@ -19,7 +19,7 @@ use Rattle.values.proofs.Still.{Still, still-bind, argument-still}
 use Rattle.pages.specs.declared.page.Page.{Page}
 use Rattle.pages.specs.declared.heading.Heading.{Heading}
 use Rattle.texts.specs.Pieces.{piecesOf}
-use Rattle.pages.specs.Text.{fieldValues, rendered, anyWrong, printed, textMeaning}
+use Rattle.rendering.specs.Text.{fieldValues, rendered, anyWrong, printed, textMeaning}
 use Rattle.pages.specs.Page.{advancedOf, on, sayMeaning, headLine, headFrom, headNumber, headMeaning, headsMeaning, highestOf, breakMeaning, turnMeaning, topMeaning, lineStep}
 use Rattle.pages.proofs.Turning.{highest-most}
 

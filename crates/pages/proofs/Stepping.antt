@@ -19,13 +19,13 @@ use Rattle.meaning.proofs.Doing.{then-does, then-over, does-done}
 use Rattle.meaning.proofs.Looping.{Leads, leads-start, leads-next, leads-over}
 use Rattle.values.specs.declared.scene.Scene.{Scene}
 use Rattle.values.specs.inner.Word.{questions}
-use Rattle.values.specs.State.{answers}
+use Rattle.values.specs.Source.{answers}
 use Rattle.pages.specs.declared.page.Page.{Page}
 use Rattle.pages.specs.declared.page.Turned.{Turned}
 use Rattle.pages.specs.declared.heading.Heading.{Heading}
 use Rattle.pages.specs.declared.step.Paged.{Paged}
 use Rattle.texts.specs.Pieces.{piecesOf, fieldCount}
-use Rattle.pages.specs.inner.Pass.{Lent, machineOf, Sourced}
+use Rattle.rendering.specs.inner.Pass.{Lent, machineOf, Sourced}
 use Rattle.pages.specs.Heading.{noHeading}
 use Rattle.pages.specs.Page.{sayMeaning, headLine, headFrom, headNumber, headMeaning, headsMeaning, highestOf, topMeaning, lineStep}
 use Rattle.pages.specs.inner.Paging.{TurnReady, Turns, SayReady, Says, AllFit, headFields, HeadsReady, Heads, Tops, StepReady, Steps}

@@ -21,14 +21,14 @@ use Rattle.texts.specs.Width.{totalWidth}
 use Rattle.texts.specs.readers.Text.{piecesWithin, textPieces, fitsBehind, textFits}
 use Rattle.values.specs.declared.scene.Scene.{Scene}
 use Rattle.values.specs.inner.Word.{questions}
-use Rattle.values.specs.State.{answers}
-use Rattle.pages.specs.declared.text.Told.{Told}
+use Rattle.values.specs.Source.{answers}
+use Rattle.rendering.specs.declared.text.Told.{Told}
 use Rattle.pages.specs.declared.page.Page.{Page}
 use Rattle.pages.specs.declared.page.Turned.{Turned}
 use Rattle.pages.specs.declared.heading.Heading.{Heading}
 use Rattle.pages.specs.declared.step.Paged.{Paged}
 use Rattle.texts.specs.Pieces.{read, piecesOf, fieldCount}
-use Rattle.pages.specs.inner.Pass.{Lent, Sayable, Tells}
+use Rattle.rendering.specs.inner.Pass.{Lent, Sayable, Tells}
 use Rattle.pages.specs.Page.{brokenOf, advancedOf, sayMeaning, headLine, headFrom, headNumber, highestOf, breakMeaning, turnMeaning}
 use Rattle.pages.specs.Heading.{noHeading}
 use Rattle.pages.specs.inner.Paging.{sceneOn, TurnReady, Breaks, Turns, SayReady, Says}

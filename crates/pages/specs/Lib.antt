@@ -1,5 +1,3 @@
-pub mod Shown
-pub mod Text
 pub mod inner
 pub mod Heading
 pub mod Page

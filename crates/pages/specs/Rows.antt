@@ -1,4 +1,4 @@
--- Rows of document 01 and cases at the limits, each computed from the definitions. Assumes nothing.
+-- Rows of document 01 and cases at the limits, each computed from the definitions.
 use mathlib.Core.Path.{_≡_, refl}
 use mathlib.Core.Bool.{true}
 use mathlib.Core.List.{List, [], _∷_}
@@ -19,7 +19,7 @@ use Rattle.pages.specs.declared.page.Page.{Page}
 use Rattle.pages.specs.declared.heading.Heading.{Heading}
 use Rattle.pages.specs.Heading.{noHeading}
 use Rattle.texts.specs.Pieces.{read, piecesOf}
-use Rattle.pages.specs.Text.{textMeaning}
+use Rattle.rendering.specs.Text.{textMeaning}
 use Rattle.pages.specs.Page.{newPage, sayMeaning, headLine, headFrom, headNumber, headMeaning, highestOf, breakMeaning, turnMeaning, topMeaning, lineStep, linesMeaning}
 
 abbrev sample : Machine

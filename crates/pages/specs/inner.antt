@@ -1,2 +1,2 @@
-pub mod Pass
 pub mod Paging
+pub mod Packed

@@ -1,7 +1,8 @@
 // Headings: each of nine is kept as one number.
 ghost use mathlib.Core.Path.{_≡_};
 ghost use lib.ListN.{getD};
-ghost use Rattle.pages.specs.Heading.{Small, noHeading, headingIn, headingsOf};
+ghost use Rattle.pages.specs.Heading.{noHeading};
+ghost use Rattle.pages.specs.inner.Packed.{Small, headingIn, headingsOf};
 
 // The $PH line that defined a heading: where it starts in the template, how long it is, where its text starts in it, and its
 // number; 0 for a heading that is undefined.

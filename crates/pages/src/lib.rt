@@ -1,13 +1,10 @@
 // Text lines on pages.
 //
-// text::text_line    a line with its fields, printed whole or not at all
 // page::Page         PAGENUM and LINENUM
 // page::break_page   a break
 // heading::packed    a heading as one number
 // step::step         a text line with the break and the headings before it
 
-pub mod field; // field.rt: a value in the bytes of its field
-pub mod text; // text.rt: a line, made in one pass
 pub mod heading; // heading.rt: headings as numbers
 pub mod page; // page.rt: the page and its break
 pub mod step; // step.rt: headings, and all that a text line does

@@ -3,15 +3,15 @@ use crate::heading;
 use crate::heading::Heading;
 use crate::page;
 use crate::page::Page;
-use crate::text;
 use meaning::end::Ended;
+use rendering::text;
 use scan::bytes;
 use values::scene::Scene;
 ghost use mathlib.Core.Path.{_≡_};
 ghost use Prim.Native.Nat.{_≤_};
-ghost use Rattle.pages.specs.Heading.{headingsOf};
+ghost use Rattle.pages.specs.inner.Packed.{headingsOf};
 ghost use Rattle.pages.specs.Page.{highestOf, headLine, headFrom, headNumber};
-ghost use Rattle.pages.specs.inner.Pass.{lent};
+ghost use Rattle.rendering.specs.inner.Pass.{lent};
 ghost use Rattle.pages.specs.inner.Paging.{sceneOn, SayReady, Says, HeadsReady, Heads, StepReady, Tops, Steps};
 
 // How many headings are printed: up to the highest defined.

@@ -22,15 +22,15 @@ use Rattle.meaning.specs.declared.refusal.Refusal.the-variants.{TooManyLines, B
 use Rattle.meaning.proofs.Yielding.{yields-kept}
 use Rattle.meaning.proofs.Questions.{asks-bind, asks-run}
 use Rattle.numbers.specs.Range.{integerLimit}
-use Rattle.values.specs.State.{answers}
+use Rattle.values.specs.Source.{answers}
 use Rattle.values.proofs.Ranges.{answers-within}
 use Rattle.values.proofs.Allowed.{Allowed, AsksAllowed}
-use Rattle.execution.specs.State.{State}
-use Rattle.execution.specs.Line.{lineMeaning}
+use Rattle.control.specs.State.{State}
+use Rattle.control.specs.Line.{lineMeaning}
 use Rattle.execution.proofs.Sounds.{On, line-keeps}
 use Rattle.execution.proofs.Ranges.{InRange, line-in-range}
 use Rattle.execution.proofs.Allowed.{line-asks}
-use Rattle.report.specs.Report.{runFrom, startOf, runMeaning, Outcome, refusedWith, checkedOutcome, reportOf}
+use Rattle.runs.specs.Report.{runFrom, startOf, runMeaning, Outcome, refusedWith, checkedOutcome, reportOf}
 use Rattle.report.proofs.Sounding.{start-on}
 use Rattle.report.proofs.Ranges.{start-in-range}
 

@@ -1,16 +1,9 @@
 pub mod Loan
-pub mod Elem
 pub mod Local
-pub mod Walk
-pub mod Rows
-pub mod Splitting
-pub mod Stretching
-pub mod Starting
 pub mod Sounding
-pub mod Stored
-pub mod Beginning
 pub mod Driving
 pub mod Reprint
 pub mod Pages
+pub mod Moments
 pub mod Ranges
 pub mod Allowed

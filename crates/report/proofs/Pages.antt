@@ -21,11 +21,11 @@ use Rattle.meaning.specs.Meaning.{Meaning}
 use Rattle.meaning.specs.declared.refusal.Refusal.the-variants.{TooManyLines, BadStore}
 use Rattle.meaning.proofs.Keeping.{keeps-bind, keeps-pages}
 use Rattle.meaning.proofs.Events.{page-count}
-use Rattle.values.specs.State.{answers}
-use Rattle.execution.specs.State.{State}
-use Rattle.execution.specs.Line.{lineMeaning}
+use Rattle.values.specs.Source.{answers}
+use Rattle.control.specs.State.{State}
+use Rattle.control.specs.Line.{lineMeaning}
 use Rattle.execution.proofs.Sounds.{On, line-keeps}
-use Rattle.report.specs.Report.{runFrom, startOf, runMeaning, Outcome, refusedWith, checkedOutcome, reportOf}
+use Rattle.runs.specs.Report.{runFrom, startOf, runMeaning, Outcome, refusedWith, checkedOutcome, reportOf}
 use Rattle.report.proofs.Sounding.{start-on}
 
 -- whatever is known at a run's end

@@ -1,7 +1,7 @@
 -- Every state that a run reaches is in range, with any source whose answers lie within their limits, so with any store.
 use mathlib.Core.Path.{_≡_, refl}
 use mathlib.Core.Bool.{Bool, true, false, cond}
-use mathlib.Core.List.{List, []}
+use mathlib.Core.List.{List}
 use Prim.Native.Nat.{ℕ, zero, suc, _+_, _≤_}
 use native.Mathlib.Omega.{arith}
 use borrow.Author.Tests.{ltb-true}
@@ -19,24 +19,33 @@ use Rattle.meaning.specs.declared.question.Question.{Question}
 use Rattle.meaning.proofs.Yielding.{Yields, yields-bind, yields-kept, yields-end}
 use Rattle.numbers.specs.Range.{integerLimit}
 use Rattle.cells.proofs.Limits.{AnswerWithin}
-use Rattle.values.specs.State.{answers}
+use Rattle.values.specs.Source.{answers}
 use Rattle.values.proofs.Ranges.{MachineWithin, answers-within}
-use Rattle.execution.specs.State.{State, seen}
-use Rattle.execution.specs.Line.{lineMeaning}
+use Rattle.control.specs.State.{State, seen}
+use Rattle.control.specs.Line.{lineMeaning}
+use Rattle.control.specs.inner.Sound.{Sound}
 use Rattle.execution.proofs.Sounds.{On, line-keeps}
 use Rattle.execution.proofs.Ranges.{InRange, seen-within, range-cleared, line-in-range}
-use Rattle.report.specs.Report.{startOf}
-use Rattle.report.specs.inner.Stretch.{stretch}
+use Rattle.runs.specs.Report.{startOf}
+use Rattle.runs.specs.inner.Stretch.{stretch}
 use Rattle.report.proofs.Sounding.{start-on}
+use Rattle.report.proofs.Moments.{linesDue, turned, Moments, step-moments}
 
--- a state whose variables, answers and tables are in range, and so is all that an argument sees
+-- a state whose variables, answers and tables are in range, and so is all that an argument sees, here and on the pages to come
 pub record Ranged (s : State) : Type 0 where
   pub state : InRange s
   pub machine : MachineWithin (seen s)
+  -- where a text line is due: at the moment of each heading, of the blank line and of the text line
+  pub moments : (t : List ℕ) (due : ℕ) (l : List ℕ) → Moments (seen s) (linesDue t due (s .headings) l (turned (s .page))) (turned (s .page))
 
-stretch-in-range : (k : ℕ) (t : List ℕ) (end g : ℕ) (s : State) (c : ℕ) → end ≤ length t → g + k ≤ integerLimit → On t g s c → InRange s → Yields AnswerWithin (stretch k t end s) Ranged
+ranged : (t : List ℕ) (g : ℕ) (s : State) → g + 1 ≤ integerLimit → Sound t g s → InRange s → Ranged s
+ranged t g s h i r =
+    let m = seen-within t g s (omega arith) i r in
+    record { state = r; machine = m; moments = λ t′ due l. step-moments (seen s) m t′ due (s .headings) l (s .page) (omega (arith, i .number)) (i .first-row) }
+
+stretch-in-range : (k : ℕ) (t : List ℕ) (end g : ℕ) (s : State) (c : ℕ) → end ≤ length t → g + k + 1 ≤ integerLimit → On t g s c → InRange s → Yields AnswerWithin (stretch k t end s) Ranged
 unfolding stretch
-stretch-in-range zero t end g s c h b i r = record { state = r; machine = seen-within t g s (omega arith) (i .sound) r }
+stretch-in-range zero t end g s c h b i r = ranged t g s (omega arith) (i .sound) r
 stretch-in-range (suc k) t end g s c h b i r = by (ltb (s .at) end) refl (λ s′ c′ j r′. stretch-in-range k t end (g + 1) s′ c′ h (omega arith) j r′)
   where
     by : (x : Bool) → ltb (s .at) end ≡ x → ((s′ : State) (c′ : ℕ) → On t (g + 1) s′ c′ → InRange s′ → Yields AnswerWithin (stretch k t end s′) Ranged) → Yields AnswerWithin (cond {A = Meaning State} x (bind (lineMeaning t s) (stretch k t end)) (done s)) Ranged
@@ -44,7 +53,7 @@ stretch-in-range (suc k) t end g s c h b i r = by (ltb (s .at) end) refl (λ s�
         yields-bind AnswerWithin (lineMeaning t s) (stretch k t end) (λ s′. InRange s′ × (c′ : ℕ) × On t (g + 1) s′ c′) Ranged
         (yields-kept AnswerWithin (pageLimit 60) (lineMeaning t s) c (On t (g + 1)) InRange (line-keeps i (omega (arith, h, ltb-true (s .at) end e))) (line-in-range t g s (omega arith) (i .sound) r))
         (λ s′ q. next s′ (q .1) (q .2) (q .0))
-    by false e next = record { state = r; machine = seen-within t g s (omega arith) (i .sound) r }
+    by false e next = ranged t g s (omega arith) (i .sound) r
 
 pub start-in-range : (r : Run) → InRange (startOf r)
 start-in-range r = range-cleared (startOf r) tt (record { least = omega arith; most = omega arith })

@@ -1,4 +1,2 @@
 pub mod Reported
-pub mod Report
-pub mod inner
 pub mod Rows

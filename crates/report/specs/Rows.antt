@@ -1,5 +1,5 @@
 -- The rows of document 01 that are marked *, and its sample sheet: each is the report of a whole template on an empty store, and
--- antt computes it. Assumes nothing.
+-- antt computes it.
 use mathlib.Core.Path.{_≡_, refl}
 use mathlib.Core.List.{List, [], _∷_, _++_, map}
 use Prim.Native.Nat.{ℕ}
@@ -32,7 +32,7 @@ use Rattle.lines.specs.readers.Title.{nameAt, sectionAt}
 use Rattle.lines.specs.readers.Command.{commands, parseLine}
 use Rattle.nesting.specs.Nest.{allClosed, inSection, sectionBegun, tableEnded as nestingTableEnded, tables, testEnded, testTurned, tests, behind}
 use Rattle.names.specs.Name.{nameOf}
-use Rattle.cells.specs.Store.{above, rising, ordered, before as cellsBefore, run as cellsRun, cells, held}
+use Rattle.cells.specs.Store.{above, rising, ordered, before as cellsBefore, cellRun as cellsRun, cells, held}
 use Rattle.history.specs.State.{isHeld}
 use Rattle.meaning.specs.Event.{breaks, joined}
 use Rattle.meaning.specs.Tree.{run as meaningRun}
@@ -49,17 +49,17 @@ use Rattle.values.specs.Worth.{ranged, absolute, filteredNumber, filteredString
 use Rattle.values.specs.Letters.{upper, alike}
 use Rattle.values.specs.Meanings.{operandMeaning, argumentMeaning}
 use Rattle.values.specs.Machine.{numbered}
-use Rattle.commands.specs.Looping.{begun, beginMeaning, exceeds, counting, counted, endMeaning, loop}
-use Rattle.commands.specs.Settling.{integerFrom, integerMeaning, resultOf, millionthsOf, quantityFrom, decimalFrom, stringFrom}
-use Rattle.commands.specs.Setting.{setNumbered, decimalOutcome, newFrom, integerOutcome, stored, stringNew, setOf, setMeaning}
-use Rattle.commands.specs.Testing.{ignoring, isMissing, numbersHold, ofNumbers, ofStrings, textual, compared, testMeaning, zeroTest, zeroJudged, zeroMeaning}
+use Rattle.tables.specs.Looping.{begun, beginMeaning, exceeds, counting, counted, endMeaning, loop}
+use Rattle.coercions.specs.Settling.{integerFrom, integerMeaning, resultOf, millionthsOf, quantityFrom, decimalFrom, stringFrom}
+use Rattle.assignments.specs.Setting.{setNumbered, decimalOutcome, newFrom, integerOutcome, stored, stringNew, setOf, setMeaning}
+use Rattle.conditions.specs.Testing.{isMissing, ofNumbers, ofStrings, compared, testMeaning, zeroTest, zeroJudged, zeroMeaning, judged}
 use Rattle.texts.specs.Pieces.{read, piecesOf}
-use Rattle.pages.specs.Text.{textMeaning}
-use Rattle.pages.specs.Shown.{orStars, placesIn, valueOf as pagesValueOf, fieldBytes}
+use Rattle.rendering.specs.Text.{textMeaning}
+use Rattle.rendering.specs.Shown.{orStars, placesIn, valueOf as pagesValueOf, fieldBytes}
 use Rattle.pages.specs.Page.{sayMeaning, highestOf as pagesHighestOf, topMeaning, breakMeaning, turnMeaning, lineStep}
-use Rattle.execution.specs.Line.{breaking, breakingFor, newPageMeaning, tableBegun, tableEnded as executionTableEnded, branched, formMeaning, lineMeaning}
-use Rattle.report.specs.Report.{runFrom as reportRunFrom, checkedOutcome, reportOf, Outcome, textIn, reportIn}
-use Rattle.report.specs.declared.Report.{Report}
+use Rattle.control.specs.Line.{breaking, breakingFor, newPageMeaning, tableBegun, tableEnded as executionTableEnded, branched, formMeaning, lineMeaning}
+use Rattle.runs.specs.Report.{runFrom as reportRunFrom, checkedOutcome, reportOf, Outcome, textIn, reportIn}
+use Rattle.runs.specs.declared.Report.{Report}
 
 -- what a report hands back, and its text
 pub record Sheet : Type 0 where
@@ -123,5 +123,5 @@ rows =
     ∷ []
 
 pub rows-hold : map (λ (r : Row). r .computed) rows ≡ map (λ (r : Row). r .expected) rows
-unfolding rows above rising ordered cellsBefore cellsRun cells held within breaks meaningRun begun beginMeaning exceeds counting counted endMeaning loop checked absoluteOf numbersInMillionths operands decimalProduct dividedBy decimalQuotient integerProduct integerQuotient ranged absolute filteredNumber filteredString filtered valuesKindOf upper alike operandMeaning argumentMeaning numbered integerFrom integerMeaning resultOf millionthsOf quantityFrom decimalFrom stringFrom setNumbered decimalOutcome newFrom integerOutcome stored stringNew setOf setMeaning atMost orSkip past amongTables amongTests atElse roleOf skipFrom skipped belongs span linesWithin linesOf byteAt allAllowed scanBegins standsAt scanFirstOf shapeWords wordShape hasForm shapeIn shapeOf isFormed read piecesOf textMeaning textsBefore placesAt textsPlacesOf widthNext textsFieldOf fieldAt placed pieceAt piecesWithin textPieces widthOf totalWidth fitsBehind textFits admits filteredAt filters argumentOf argumentAt valueFrom digitsAt numberAt argumentsInMillionths fractionAt unsignedAt literalAt numberedOf numberedAt wholeAt names namedAt numberOr stringAt operandAt leftIn negative fieldsPlacesOf minus rightIn fraction fieldsUnsigned roundedField shown widthAllowed fieldsFieldOf countWithin digitCount digits rounded roundedTo orStars placesIn pagesValueOf fieldBytes sayMeaning pagesHighestOf topMeaning breakMeaning turnMeaning lineStep breaking breakingFor newPageMeaning tableBegun executionTableEnded branched formMeaning lineMeaning opposed ignoring isMissing numbersHold ofNumbers ofStrings textual compared testMeaning zeroTest zeroJudged zeroMeaning bareAt optionalAt singleAt behindSpace compareAt stringTarget targetOf setAt nameAt sectionAt commands parseLine reportRunFrom checkedOutcome reportOf isHeld firstFault lineAllowed bytesCheck formCheck nameEnd hasName cameBefore nameStep nameCheck nestEnd nestStep nestCheck nameOf orElse walk acceptedRun sectionChecked unlessFault namesChecked nestingChecked formsChecked templateChecked endAt selects sectionFrom sectionEnd templateRunFrom selected allClosed inSection sectionBegun nestingTableEnded tables testEnded testTurned tests behind joined lines
+unfolding rows above rising ordered cellsBefore cellsRun cells held within breaks meaningRun begun beginMeaning exceeds counting counted endMeaning loop checked absoluteOf numbersInMillionths operands decimalProduct dividedBy decimalQuotient integerProduct integerQuotient ranged absolute filteredNumber filteredString filtered valuesKindOf upper alike operandMeaning argumentMeaning numbered integerFrom integerMeaning resultOf millionthsOf quantityFrom decimalFrom stringFrom setNumbered decimalOutcome newFrom integerOutcome stored stringNew setOf setMeaning atMost orSkip past amongTables amongTests atElse roleOf skipFrom skipped belongs span linesWithin linesOf byteAt allAllowed scanBegins standsAt scanFirstOf shapeWords wordShape hasForm shapeIn shapeOf isFormed read piecesOf textMeaning textsBefore placesAt textsPlacesOf widthNext textsFieldOf fieldAt placed pieceAt piecesWithin textPieces widthOf totalWidth fitsBehind textFits admits filteredAt filters argumentOf argumentAt valueFrom digitsAt numberAt argumentsInMillionths fractionAt unsignedAt literalAt numberedOf numberedAt wholeAt names namedAt numberOr stringAt operandAt leftIn negative fieldsPlacesOf minus rightIn fraction fieldsUnsigned roundedField shown widthAllowed fieldsFieldOf countWithin digitCount digits rounded roundedTo orStars placesIn pagesValueOf fieldBytes sayMeaning pagesHighestOf topMeaning breakMeaning turnMeaning lineStep breaking breakingFor newPageMeaning tableBegun executionTableEnded branched formMeaning lineMeaning opposed isMissing ofNumbers ofStrings compared testMeaning zeroTest zeroJudged zeroMeaning bareAt optionalAt singleAt behindSpace compareAt stringTarget targetOf setAt nameAt sectionAt commands parseLine reportRunFrom checkedOutcome reportOf isHeld firstFault lineAllowed bytesCheck formCheck nameEnd hasName cameBefore nameStep nameCheck nestEnd nestStep nestCheck nameOf orElse walk acceptedRun sectionChecked unlessFault namesChecked nestingChecked formsChecked templateChecked endAt selects sectionFrom sectionEnd templateRunFrom selected allClosed inSection sectionBegun nestingTableEnded tables testEnded testTurned tests behind joined lines judged
 rows-hold = refl

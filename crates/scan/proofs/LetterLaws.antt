@@ -6,26 +6,25 @@ use Prim.Native.Nat.{ℕ, zero, suc, _+_, _/_}
 use lib.Dec.{eqb}
 use lib.ListN.{length, getD, drop}
 use lib.Seq.{getD-drop}
-use borrow.Author.Tests.{eqb-true}
 use Rattle.scan.specs.declared.words.WordRead.{WordRead}
 use Rattle.scan.specs.declared.words.WordRead.the-variants.{Word, NoWord}
 use Rattle.scan.specs.Line.{byteAt}
 use Rattle.scan.specs.Words.{begins, standsAt, wordIn, wordFrom, wordAt, wordElse}
 
 -- whether a word may stand where the j-th byte is b
-unfoldable pub fits : List ℕ → ℕ → ℕ → Bool
-fits [] j b = true
-fits (a ∷ w) zero b = eqb a b
-fits (a ∷ w) (suc j) b = fits w j b
+unfoldable pub lettersFit : List ℕ → ℕ → ℕ → Bool
+lettersFit [] j b = true
+lettersFit (a ∷ w) zero b = eqb a b
+lettersFit (a ∷ w) (suc j) b = lettersFit w j b
 
 -- a word that stands has the line's letters
-begins-fits : (w s : List ℕ) (j : ℕ) → begins w s ≡ true → fits w j (getD s j 0) ≡ true
-unfolding begins fits
+begins-fits : (w s : List ℕ) (j : ℕ) → begins w s ≡ true → lettersFit w j (getD s j 0) ≡ true
+unfolding begins lettersFit
 begins-fits [] s j e = refl
 begins-fits (a ∷ w) [] j e = absurd (false≢true e)
 begins-fits (a ∷ w) (b ∷ s) j e = go (eqb a b) refl j (λ k. begins-fits w s k) e
   where
-    go : (t : Bool) → eqb a b ≡ t → (j : ℕ) → ((k : ℕ) → begins w s ≡ true → fits w k (getD s k 0) ≡ true) → cond t (begins w s) false ≡ true → fits (a ∷ w) j (getD (b ∷ s) j 0) ≡ true
+    go : (t : Bool) → eqb a b ≡ t → (j : ℕ) → ((k : ℕ) → begins w s ≡ true → lettersFit w k (getD s k 0) ≡ true) → cond t (begins w s) false ≡ true → lettersFit (a ∷ w) j (getD (b ∷ s) j 0) ≡ true
     go true q zero rest e = q
     go true q (suc j) rest e = rest j e
     go false q j rest e = absurd (false≢true e)
@@ -41,7 +40,7 @@ letter j b = record { place = j; byte = b }
 -- whether a word may stand where the letters are known
 unfoldable pub fitsAll : List ℕ → List Letter → Bool
 fitsAll w [] = true
-fitsAll w (x ∷ xs) = cond (fits w (x .place) (x .byte)) (fitsAll w xs) false
+fitsAll w (x ∷ xs) = cond (lettersFit w (x .place) (x .byte)) (fitsAll w xs) false
 
 infixr 5 _and_
 pub data Known (l : List ℕ) (at : ℕ) : List Letter → Type 0 where
@@ -52,7 +51,7 @@ stands-fits : (w l : List ℕ) (at : ℕ) (xs : List Letter) → Known l at xs �
 unfolding standsAt fitsAll byteAt
 stands-fits w l at [] none e = refl
 stands-fits w l at (x ∷ xs) (q and k) e =
-    let f : fits w (x .place) (x .byte) ≡ true = rw (← q, ← getD-drop at l (x .place) 0) (begins-fits w (drop at l) (x .place) e) in
+    let f : lettersFit w (x .place) (x .byte) ≡ true = rw (← q, ← getD-drop at l (x .place) 0) (begins-fits w (drop at l) (x .place) e) in
     rw f (stands-fits w l at xs k e)
 
 -- a word is compared where it may stand

@@ -1,6 +1,6 @@
 pub mod RunLaws
 pub mod DigitLaws
-pub mod OnwardLaws
+pub mod TestLaws
 pub mod WordLaws
 pub mod NumberLaws
 pub mod LetterLaws

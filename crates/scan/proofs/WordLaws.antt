@@ -15,7 +15,7 @@ use Rattle.scan.specs.Run.{belongs, span}
 use Rattle.scan.specs.Line.{window}
 use Rattle.scan.specs.Words.{begins, standsAt, wordIn, wordFrom, wordAt, Spelled, firstOf, wordOr}
 use Rattle.scan.proofs.RunLaws.{span-end, span-stop, span-more}
-use Rattle.scan.proofs.OnwardLaws.{picked}
+use Rattle.scan.proofs.TestLaws.{picked}
 
 pub begins-end : (w s : List ℕ) (j : ℕ) → length w ≤ j → begins (drop j w) s ≡ true
 unfolding begins

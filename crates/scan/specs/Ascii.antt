@@ -1,4 +1,4 @@
--- A quoted text as the list of its bytes. Assumes nothing.
+-- A quoted text as the list of its bytes.
 use mathlib.Core.List.{List, [], _∷_}
 use Prim.Native.Nat.{ℕ}
 use Prim.Native.Char.{code}

@@ -1,4 +1,4 @@
--- The bytes and lines of a template. Assumes nothing.
+-- The bytes and lines of a template.
 use mathlib.Core.Bool.{Bool, true, false, cond}
 use mathlib.Core.List.{List, [], _∷_}
 use Prim.Native.Char.{Char, code}

@@ -1,4 +1,4 @@
--- Classes of bytes, and runs of bytes of one class. Assumes nothing.
+-- Classes of bytes, and runs of bytes of one class.
 use mathlib.Core.Bool.{Bool, not, cond, _&&_, _||_}
 use mathlib.Core.List.{List, [], _∷_}
 use Prim.Native.Char.{code}

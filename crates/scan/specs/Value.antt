@@ -1,4 +1,4 @@
--- The value of digits. Assumes nothing.
+-- The value of digits.
 use mathlib.Core.List.{List, [], _∷_}
 use Prim.Native.Char.{code}
 use Prim.Native.Nat.{ℕ, _+_, _-_, _*_}

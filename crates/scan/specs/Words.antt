@@ -1,4 +1,4 @@
--- Fixed byte strings in a line. Assumes nothing.
+-- Fixed byte strings in a line.
 use mathlib.Core.Bool.{Bool, true, false, cond}
 use mathlib.Core.List.{List, [], _∷_}
 use Prim.Native.Nat.{ℕ, zero, suc, _+_, _*_, _/_}

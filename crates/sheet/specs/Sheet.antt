@@ -4,8 +4,8 @@ use mathlib.Core.List.{List}
 use Prim.Native.Nat.{ℕ, _≤_}
 use lib.ListN.{length, take}
 use lib.Seq.{sets}
-use Rattle.report.specs.declared.Report.{Report}
-use Rattle.report.specs.Report.{Outcome, textIn, reportOf, reportIn}
+use Rattle.runs.specs.declared.Report.{Report}
+use Rattle.runs.specs.Report.{Outcome, textIn, reportOf, reportIn}
 
 -- "its read list 4,096 places"
 abbrev pub sheetOf : List ℕ → List ℕ → List ℕ → ℕ → ℕ → Outcome

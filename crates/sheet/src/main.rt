@@ -4,7 +4,7 @@ mod file; // file.rt: what is read
 mod printing; // printing.rt: the report
 
 use libc::STDOUT_FILENO;
-use report::Report;
+use runs::Report;
 
 // The closing line.
 fn close(made: Report) {

@@ -1,5 +1,5 @@
-/* The calls of libstation.a for those who link it. A test compares the names with the Rattle source, nothing the
-   parameters: keep them beside it. The calls that only tests need are in station_testing.h.
+/* The calls of libstation.a, all of them. A test compares the names with the Rattle source and with what the library exports,
+   nothing the parameters: keep them beside it.
 
    What every call here gives is document 01's ("Counting-station report interpreter"): a result or one numbered refusal, for
    any bytes and any lengths. Only the pointers are the caller's care:

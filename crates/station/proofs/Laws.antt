@@ -1,51 +1,27 @@
 -- What a call for C hands back, from what the call below it hands back.
 use mathlib.Core.Path.{_≡_, refl, sym, ap, ap₂, _∙_, subst}
-use mathlib.Core.Bool.{true, false}
 use mathlib.Core.List.{List}
-use mathlib.Core.Option.{Option, none, some}
-use Prim.Native.Nat.{ℕ, _≤_}
+use Prim.Native.Nat.{ℕ}
 use native.Mathlib.Omega.{arith}
 use lib.IntN.{ℤ, pos}
 use lib.ListN.{length, take, drop, length-drop}
 use lib.Seq.{length-take-le}
-use Rattle.numbers.specs.declared.Number.{Number}
-use Rattle.numbers.specs.declared.Number.the-variants.{Value}
-use Rattle.numbers.specs.Outcome.{Outcome, outcome}
-use Rattle.numbers.specs.declared.Rounded.{Rounded}
-use Rattle.numbers.specs.declared.Rounded.the-variants.{Units, OutOfRange}
-use Rattle.meaning.specs.declared.question.Question.{Question}
 use Rattle.meaning.specs.Answer.{Answer}
 use Rattle.meaning.specs.Number.{numberOf, endOf, refusalNumber}
 use Rattle.cells.specs.declared.Answered.{Answered}
 use Rattle.cells.specs.declared.Answered.the-variants.{Missing, Integer, Decimal, Text, Highest}
 use Rattle.cells.specs.declared.Asked.{Asked}
-use Rattle.cells.specs.declared.index.Indexed.{Indexed}
-use Rattle.cells.specs.declared.index.Indexed.the-variants.{Count, BadStore}
-use Rattle.cells.specs.Cell.{Cell, integerKind, decimalKind, stringKind}
+use Rattle.cells.specs.Cell.{integerKind, decimalKind, stringKind}
 use Rattle.cells.specs.Asking.{Reply, reply, meant, InStore}
-use Rattle.cells.specs.inner.Index.{Indexes, Answers, counted}
 use Rattle.meaning.specs.declared.refusal.Refusal.{Refusal}
 use Rattle.template.specs.declared.Run.{Run}
 use Rattle.template.specs.declared.Checked.{Checked}
 use Rattle.template.specs.declared.Checked.the-variants.{Accepted, Refused}
-use Rattle.template.specs.declared.seek.Skip.{Skip}
-use Rattle.station.specs.Checks.{ToldCheck, ToldSkip}
-use Rattle.station.specs.Codes.{Told, ToldUnits}
+use Rattle.station.specs.Checks.{ToldCheck}
 use Rattle.store.specs.declared.Edited.{Edited}
 use Rattle.store.specs.Edit.{Edit, edit}
-use Rattle.station.specs.Answers.{kindTold, valueTold, countTold, PlaceTold, ToldParts, kindHanded, valueHanded, placeHanded, countHanded, Hands, ToldAnswer, ToldLookUp, ToldIndex, ToldEdit}
-
-pub told-of : {o o′ : Outcome} {v v′ : ℤ} {r : ℕ} → o ≡ o′ → Told o v v′ r → Told o′ v v′ r
-told-of e t = rw e at t
-
-pub told-value : {n : Number} {z v v′ : ℤ} → n ≡ Value z → v′ ≡ z → Told (outcome n) v v′ 0
-told-value e h = record { number = rw e; value = rw e h }
-
-pub units-none : {o : Rounded} {n : ℕ} → o ≡ OutOfRange → ToldUnits o n n false
-units-none e = record { told = rw e; units = rw e }
-
-pub units-some : {o : Rounded} {u n : ℕ} → o ≡ Units u → ToldUnits o n u true
-units-some e = record { told = rw e; units = rw e }
+use Rattle.station.specs.Answers.{kindTold, valueTold, countTold, PlaceTold, ToldParts, ToldAnswer, ToldEdit}
+use Rattle.station.specs.inner.Handing.{kindHanded, valueHanded, placeHanded, countHanded, Hands}
 
 -- ---- questions
 
@@ -71,7 +47,7 @@ module _ {a : Answered} where
   hands-highest e = rw e (record { is-kind = refl; is-value = refl; is-place = refl; is-count = refl })
 
 -- the parts of an answer of the code are those of the answer that it means
-told-parts : (b : List ℕ) (len : ℕ) (a : Answered) {x : Answer} {k : ℕ} {v : ℤ} {i n : ℕ} → meant b a ≡ x → InStore b len a → Hands a k v i n → ToldParts b len x k v i n
+pub told-parts : (b : List ℕ) (len : ℕ) (a : Answered) {x : Answer} {k : ℕ} {v : ℤ} {i n : ℕ} → meant b a ≡ x → InStore b len a → Hands a k v i n → ToldParts b len x k v i n
 unfolding meant InStore kindTold valueTold countTold PlaceTold kindHanded valueHanded placeHanded countHanded
 told-parts b len a {k = k} {v = v} {i = i} {n = n} e s h = subst (λ (y : Answer). ToldParts b len y k v i n) e (go a s h)
   where
@@ -96,19 +72,6 @@ told-answer {b = b} {len = len} s e h q = record {
   answer = told-parts b len (s .answer) (ap (λ (y : Reply). y .answer) (e .0)) (e .1) h;
 }
 
-pub told-look-up : {b places : List ℕ} {count : ℕ} {q : Question} (a : Answered) {k : ℕ} {v : ℤ} {i n : ℕ} → Answers b places count q a → Hands a k v i n → ToldLookUp b places count q k v i n
-told-look-up {b = b} a s h = record { answer = λ len cs ready. told-parts b len a (s .answer len cs ready) (s .inside len cs ready) h }
-
-pub index-none : {i j : List ℕ} (store : Option (List Cell)) {m : Indexed} (n : ℕ) → Indexes i store j m → m ≡ BadStore → ToldIndex i store j n n 1
-unfolding counted
-index-none none n s e = record { number = refl; count = refl; filled = s .filled }
-index-none (some cs) n s e = let z : _≡_ {A = ℕ} 0 1 = cc (s .told) in absurd (omega arith)
-
-pub index-some : {i j : List ℕ} (store : Option (List Cell)) {m : Indexed} (n : ℕ) {k : ℕ} → Indexes i store j m → m ≡ Count k → ToldIndex i store j n k 0
-unfolding counted
-index-some none n s e = let z : _≡_ {A = ℕ} 0 1 = cc (s .told) in absurd (omega arith)
-index-some (some cs) n s e = record { number = refl; count = cc (s .told); filled = s .filled }
-
 -- ---- edits
 
 pub told-edit : {x : Edit} {b : List ℕ} (s : Edited) {r : ℕ} → edit s b ≡ x → r ≡ numberOf (endOf (tt {0}) (s .end)) → ToldEdit x b (s .length) r
@@ -125,6 +88,3 @@ check-accepted e h q = record { number = rw (← e, h); line = rw (← e, h); st
 
 pub check-refused : {x y : Checked} {e : Refusal} {l r : ℕ} → y ≡ x → y ≡ Refused e l → r ≡ refusalNumber e → ToldCheck x l 0 r
 check-refused p h q = record { number = rw (← p, h) q; line = rw (← p, h); start = rw (← p, h) }
-
-pub told-skip : {x : Skip} (s : Skip) → s ≡ x → ToldSkip x (s .bytes) (s .lines)
-told-skip s e = record { bytes = ap (λ (y : Skip). y .bytes) e; lines = ap (λ (y : Skip). y .lines) e }

@@ -1,19 +1,16 @@
--- What the calls for C hand back of an answer, of an index and of an edit.
+-- What the calls for C hand back of an answer and of an edit.
 use mathlib.Core.Path.{_≡_}
-use mathlib.Core.Bool.{cond}
 use mathlib.Core.List.{List}
-use mathlib.Core.Option.{Option, none, some}
 use Prim.Native.Nat.{ℕ, _+_, _≤_}
 use lib.IntN.{ℤ, pos}
 use lib.ListN.{length, take, drop}
-use Rattle.meaning.specs.Answer.{integer, decimal, string, Answer, missing, cell, highest}
+use Rattle.numbers.specs.declared.Quantity.the-variants as Q
+use Rattle.meaning.specs.Answer as A
+use Rattle.meaning.specs.Answer.{string, Answer, missing, cell, highest}
 use Rattle.meaning.specs.declared.question.Question.{Question}
 use Rattle.meaning.specs.Number.{numberOf, endOf}
-use Rattle.cells.specs.declared.Answered.{Answered}
-use Rattle.cells.specs.declared.Answered.the-variants.{Missing, Integer, Decimal, Text, Highest}
-use Rattle.cells.specs.Cell.{Cell, integerKind, decimalKind, stringKind}
-use Rattle.cells.specs.Asking.{Reply, questionAllowed, answer}
-use Rattle.cells.specs.inner.Index.{Ready, Filled}
+use Rattle.cells.specs.Cell.{integerKind, decimalKind, stringKind}
+use Rattle.cells.specs.Asking.{Reply}
 use Rattle.store.specs.Edit.{Edit}
 
 -- a question by its five numbers
@@ -23,32 +20,30 @@ questionOf k d p r e = record { kind = k; datasource = d; parameter = p; «recor
 -- the kinds of station.h: 0 is missing, then a cell's kinds, 1 a highest number
 unfoldable pub kindTold : Answer → ℕ
 kindTold missing = 0
-kindTold (cell (integer z)) = integerKind
-kindTold (cell (decimal z)) = decimalKind
+kindTold (cell (A.number (Q.Integer z))) = integerKind
+kindTold (cell (A.number (Q.Decimal z))) = decimalKind
 kindTold (cell (string s)) = stringKind
 kindTold (highest n) = 1
 
 -- a number, else 0
 unfoldable pub valueTold : Answer → ℤ
 valueTold missing = pos 0
-valueTold (cell (integer z)) = z
-valueTold (cell (decimal z)) = z
+valueTold (cell (A.number (Q.Integer z))) = z
+valueTold (cell (A.number (Q.Decimal z))) = z
 valueTold (cell (string s)) = pos 0
 valueTold (highest n) = pos 0
 
 -- a string's length or a highest number, else 0
 unfoldable pub countTold : Answer → ℕ
 countTold missing = 0
-countTold (cell (integer z)) = 0
-countTold (cell (decimal z)) = 0
+countTold (cell (A.number q)) = 0
 countTold (cell (string s)) = length s
 countTold (highest n) = n
 
 -- where a string's bytes lie in the store, the first n bytes of b; else 0
 unfoldable pub PlaceTold : List ℕ → ℕ → Answer → ℕ → Type 0
 PlaceTold b n missing i = i ≡ 0
-PlaceTold b n (cell (integer z)) i = i ≡ 0
-PlaceTold b n (cell (decimal z)) i = i ≡ 0
+PlaceTold b n (cell (A.number q)) i = i ≡ 0
 PlaceTold b n (cell (string s)) i = (take (length s) (drop i b) ≡ s) × (i + length s ≤ n)
 PlaceTold b n (highest m) i = i ≡ 0
 
@@ -63,59 +58,6 @@ pub record ToldParts (b : List ℕ) (n : ℕ) (x : Answer) (kind : ℕ) (value :
 pub record ToldAnswer (b : List ℕ) (len : ℕ) (x : Reply) (k : ℕ) (v : ℤ) (i n r : ℕ) : Type 0 where
   pub number : r ≡ numberOf (endOf (tt {0}) (x .end))
   pub answer : ToldParts b len (x .answer) k v i n
-
--- the same of an answer of the code
-unfoldable pub kindHanded : Answered → ℕ
-kindHanded Missing = 0
-kindHanded (Integer z) = integerKind
-kindHanded (Decimal z) = decimalKind
-kindHanded (Text i n) = stringKind
-kindHanded (Highest n) = 1
-
-unfoldable pub valueHanded : Answered → ℤ
-valueHanded Missing = pos 0
-valueHanded (Integer z) = z
-valueHanded (Decimal z) = z
-valueHanded (Text i n) = pos 0
-valueHanded (Highest n) = pos 0
-
-unfoldable pub placeHanded : Answered → ℕ
-placeHanded Missing = 0
-placeHanded (Integer z) = 0
-placeHanded (Decimal z) = 0
-placeHanded (Text i n) = i
-placeHanded (Highest n) = 0
-
-unfoldable pub countHanded : Answered → ℕ
-countHanded Missing = 0
-countHanded (Integer z) = 0
-countHanded (Decimal z) = 0
-countHanded (Text i n) = n
-countHanded (Highest n) = n
-
-pub record Hands (a : Answered) (kind : ℕ) (value : ℤ) (place count : ℕ) : Type 0 where
-  pub is-kind : kind ≡ kindHanded a
-  pub is-value : value ≡ valueHanded a
-  pub is-place : place ≡ placeHanded a
-  pub is-count : count ≡ countHanded a
-
--- over the index of a store in form, the answer of its cells
-pub record ToldLookUp (b places : List ℕ) (count : ℕ) (q : Question) (k : ℕ) (v : ℤ) (i n : ℕ) : Type 0 where
-  pub answer : (len : ℕ) (cs : List Cell) → Ready b len places count cs → ToldParts b len (cond (questionAllowed q) (answer q cs) missing) k v i n
-
--- 0 with the count of the cells, or 1 with the count left
-abbrev pub indexNumber : Option (List Cell) → ℕ
-indexNumber none = 1
-indexNumber (some cs) = 0
-
-abbrev pub countOr : ℕ → Option (List Cell) → ℕ
-countOr n none = n
-countOr n (some cs) = length cs
-
-pub record ToldIndex (i : List ℕ) (store : Option (List Cell)) (j : List ℕ) (n n′ r : ℕ) : Type 0 where
-  pub number : r ≡ indexNumber store
-  pub count : n′ ≡ countOr n store
-  pub filled : Filled i j store
 
 -- r is the number that the edit ends with, n the length and b the buffer that it hands back
 pub record ToldEdit (x : Edit) (b : List ℕ) (n r : ℕ) : Type 0 where

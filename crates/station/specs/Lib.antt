@@ -1,4 +1,4 @@
-pub mod Codes
 pub mod Answers
 pub mod Checks
 pub mod Reports
+pub mod inner

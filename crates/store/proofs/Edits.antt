@@ -15,7 +15,7 @@ use Rattle.cells.specs.declared.index.Indexed.{Indexed}
 use Rattle.cells.specs.declared.index.Indexed.the-variants.{Count, BadStore}
 use Rattle.cells.specs.declared.request.Request.{Request}
 use Rattle.cells.specs.declared.request.Request.the-variants as R
-use Rattle.cells.specs.Cell.{Key, Cell, number, numberOf, cellBytes, wholeCell, wholeKey}
+use Rattle.cells.specs.Cell.{Key, Cell, number, keyNumber, cellBytes, wholeCell, wholeKey}
 use Rattle.cells.specs.Store.{encode, held}
 use Rattle.cells.specs.Asking.{lookup}
 use Rattle.cells.specs.inner.Index.{Indexes}
@@ -25,7 +25,7 @@ use Rattle.cells.proofs.Locating.{HeldAs, held-some}
 use Rattle.cells.proofs.Requests.{whole-some}
 use Rattle.cells.proofs.Replies.{not-held, index-ready, built}
 use Rattle.store.specs.declared.Slot.{Slot}
-use Rattle.store.specs.Edit.{lower, higher, with, without, refusedEdit, refusedOn, doneOn, written, writtenBy, writtenOut, fits, putOn, takenOut, removeOn, checked, putOf, removeOf}
+use Rattle.store.specs.Edit.{lower, higher, with, without, refusedEdit, refusedOn, doneOn, written, writtenBy, writtenOut, fits, putOn, takenOut, removeOn, checkedEdit, putOf, removeOf}
 use Rattle.store.specs.inner.Slot.{replaced, Stretch, SlotOf}
 
 -- ---- what the request tells
@@ -38,7 +38,7 @@ unfolding requested
 bad-cell none e = refl
 bad-cell (some c) e = absurd (apart e)
 
-good-cell : (k : ℕ) (o : Option Cell) → R.Key k ≡ requested o → (c : Cell) × (o ≡ some c) × (k ≡ numberOf c)
+good-cell : (k : ℕ) (o : Option Cell) → R.Key k ≡ requested o → (c : Cell) × (o ≡ some c) × (k ≡ keyNumber c)
 unfolding requested
 good-cell k none e = absurd (apart (sym e))
 good-cell k (some c) e = (c, refl, cc)
@@ -79,9 +79,9 @@ module _ (b : List ℕ) (n : ℕ) (cs : List Cell) (k at size : ℕ) (t : Stretc
       ∙ ap (λ (x : List ℕ). x ++ z) (sym e) in
       (l ∙ omega (arith, t .inside), ap (sets b 0) w ∙ ap (λ (m : ℕ). sets b 0 (encode ds ++ replicate (n - m) 0)) (sym l))
 
-encode-with : (c : Cell) (cs : List Cell) → encode (with c cs) ≡ encode (lower (numberOf c) cs) ++ (cellBytes c ++ encode (higher (numberOf c) cs))
+encode-with : (c : Cell) (cs : List Cell) → encode (with c cs) ≡ encode (lower (keyNumber c) cs) ++ (cellBytes c ++ encode (higher (keyNumber c) cs))
 unfolding with encode
-encode-with c cs = encode-append (lower (numberOf c) cs) (c ∷ higher (numberOf c) cs)
+encode-with c cs = encode-append (lower (keyNumber c) cs) (c ∷ higher (keyNumber c) cs)
 
 encode-without : (k : ℕ) (cs : List Cell) → encode (without k cs) ≡ encode (lower k cs) ++ ([] ++ encode (higher k cs))
 unfolding without
@@ -103,20 +103,20 @@ pub record Putting (b : List ℕ) (n : ℕ) (s : List ℕ) (at size : ℕ) : Typ
 
 module _ (b : List ℕ) (n : ℕ) (p p′ : List ℕ) (r : Indexed) (i : Indexes p (held b n) p′ r) (s : List ℕ) where
   pub put-bad-store : r ≡ BadStore → refusedEdit b n F.BadStore ≡ putOf b n s
-  unfolding putOf checked
+  unfolding putOf checkedEdit
   put-bad-store e = rw (not-held b n p p′ r i e)
 
   pub remove-bad-store : r ≡ BadStore → refusedEdit b n F.BadStore ≡ removeOf b n s
-  unfolding removeOf checked
+  unfolding removeOf checkedEdit
   remove-bad-store e = rw (not-held b n p p′ r i e)
 
   module _ (count : ℕ) (e : r ≡ Count count) (q : Request) where
     pub put-bad-request : CellAsked s (wholeCell s) q → q ≡ R.Bad → refusedEdit b n F.BadRequest ≡ putOf b n s
-    unfolding putOf checked putOn writtenBy
+    unfolding putOf checkedEdit putOn writtenBy
     put-bad-request a u = rw (built b n p p′ r i count e .held, bad-cell (wholeCell s) (sym u ∙ a .told))
 
     pub remove-bad-request : KeyAsked (wholeKey s) q → q ≡ R.Bad → refusedEdit b n F.BadRequest ≡ removeOf b n s
-    unfolding removeOf checked removeOn writtenBy
+    unfolding removeOf checkedEdit removeOn writtenBy
     remove-bad-request a u = rw (built b n p p′ r i count e .held, bad-key (wholeKey s) (sym u ∙ a .told))
 
     module _ (l : 5461 ≤ length p) (k : ℕ) (u : q ≡ R.Key k) (t : Slot) (o : SlotOf b n p′ count k t) where
@@ -126,8 +126,8 @@ module _ (b : List ℕ) (n : ℕ) (p p′ : List ℕ) (r : Indexed) (i : Indexes
           let c = good-cell k (wholeCell s) (sym u ∙ a .told) in
           let h = held-some b n (g .0) (g .1 .holds) in
           let w = whole-some s (c .0) (c .1) in
-          let f : Stretch b n (g .0) (numberOf (c .0)) (t .at) (t .size) = subst (λ (x : ℕ). Stretch b n (g .0) x (t .at) (t .size)) (c .2) (o .stretch (g .0) (g .1)) in
-          let m = between b n (g .0) (numberOf (c .0)) (t .at) (t .size) f h s (with (c .0) (g .0)) (encode-with (c .0) (g .0) ∙ ap (λ (x : List ℕ). encode (lower (numberOf (c .0)) (g .0)) ++ (x ++ encode (higher (numberOf (c .0)) (g .0)))) (sym (w .bytes))) in
+          let f : Stretch b n (g .0) (keyNumber (c .0)) (t .at) (t .size) = subst (λ (x : ℕ). Stretch b n (g .0) x (t .at) (t .size)) (c .2) (o .stretch (g .0) (g .1)) in
+          let m = between b n (g .0) (keyNumber (c .0)) (t .at) (t .size) f h s (with (c .0) (g .0)) (encode-with (c .0) (g .0) ∙ ap (λ (x : List ℕ). encode (lower (keyNumber (c .0)) (g .0)) ++ (x ++ encode (higher (keyNumber (c .0)) (g .0)))) (sym (w .bytes))) in
           record {
             cells = g .0;
             cell = c .0;
@@ -142,7 +142,7 @@ module _ (b : List ℕ) (n : ℕ) (p p′ : List ℕ) (r : Indexed) (i : Indexes
           }
 
       pub remove-none : KeyAsked (wholeKey s) q → t .size < 1 → refusedEdit b n F.NoCell ≡ removeOf b n s
-      unfolding removeOf checked removeOn takenOut writtenBy
+      unfolding removeOf checkedEdit removeOn takenOut writtenBy
       remove-none a z =
           let g = index-ready b n p p′ r i count e l in
           let c = good-key k (wholeKey s) (sym u ∙ a .told) in
@@ -156,7 +156,7 @@ module _ (b : List ℕ) (n : ℕ) (p p′ : List ℕ) (r : Indexed) (i : Indexes
           (o .stretch (g .0) (g .1) .inside, held-some b n (g .0) (g .1 .holds) .inside)
 
       pub remove-done : KeyAsked (wholeKey s) q → 1 ≤ t .size → (b′ : List ℕ) → b′ ≡ replaced b n (t .at) (t .size) [] → record { end = Finished; length = n - t .size; buffer = b′ } ≡ removeOf b n s
-      unfolding removeOf checked removeOn takenOut writtenBy written
+      unfolding removeOf checkedEdit removeOn takenOut writtenBy written
       remove-done a z b′ y =
           let g = index-ready b n p p′ r i count e l in
           let c = good-key k (wholeKey s) (sym u ∙ a .told) in
@@ -168,11 +168,11 @@ module _ (b : List ℕ) (n : ℕ) (p p′ : List ℕ) (r : Indexed) (i : Indexes
 
 module _ (b : List ℕ) (n : ℕ) (s : List ℕ) (at size : ℕ) (w : Putting b n s at size) where
   pub put-full : length b < n - size + length s → refusedEdit b n F.StoreFull ≡ putOf b n s
-  unfolding putOf checked putOn fits writtenBy
+  unfolding putOf checkedEdit putOn fits writtenBy
   put-full h = rw (w .holds, w .whole, w .size-is, lt-leb (n - size + length s) (length b) h)
 
   pub put-over : 65536 < n - size + length s → refusedEdit b n F.StoreFull ≡ putOf b n s
-  unfolding putOf checked putOn fits writtenBy
+  unfolding putOf checkedEdit putOn fits writtenBy
   put-over h = rw (w .holds, w .whole, w .size-is, lt-leb (n - size + length s) 65536 h) (go (leb (n - size + length s) (length b)))
     where
       go : (t : Bool) → refusedEdit b n F.StoreFull ≡ writtenOut b n (cond (t && false) (doneOn (with (w .cell) (w .cells))) (refusedOn F.StoreFull (w .cells)))
@@ -180,7 +180,7 @@ module _ (b : List ℕ) (n : ℕ) (s : List ℕ) (at size : ℕ) (w : Putting b 
       go false = refl
 
   pub put-done : n - size + length s ≤ length b → n - size + length s ≤ 65536 → (b′ : List ℕ) → b′ ≡ replaced b n at size s → record { end = Finished; length = n - size + length s; buffer = b′ } ≡ putOf b n s
-  unfolding putOf checked putOn fits writtenBy written
+  unfolding putOf checkedEdit putOn fits writtenBy written
   put-done h k b′ e =
       rw (w .holds, w .whole, le-leb (length (encode (with (w .cell) (w .cells)))) (length b) (omega (arith, w .size-is)), le-leb (length (encode (with (w .cell) (w .cells)))) 65536 (omega (arith, w .size-is)))
       (λ j. record { end = Finished; length = sym (w .size-is) j; buffer = (e ∙ w .bytes) j })

@@ -9,7 +9,7 @@ use borrow.Author.Tests.{lt-ltb, le-ltb, eqb-true, eq-eqb}
 use lib.Dec.{ltb, eqb}
 use lib.ListN.{length, getD, take, drop, length-append, take-append-drop, List·getD-append}
 use lib.Seq.{take-append-seam, drop-append-seam, getD-append-add, length-take-le, take-at}
-use Rattle.cells.specs.Cell.{Cell, number, numberOf, keyAt, cellBytes}
+use Rattle.cells.specs.Cell.{Cell, number, keyNumber, keyAt, cellBytes}
 use Rattle.cells.specs.Store.{encode, rising}
 use Rattle.cells.specs.inner.Index.{Ready, Position, SizeAt}
 use Rattle.cells.proofs.Walking.{encode-append}
@@ -23,7 +23,7 @@ module _ (k : ℕ) where
   pub lower-append : (xs ys : List Cell) → lower k (xs ++ ys) ≡ lower k xs ++ lower k ys
   unfolding lower
   lower-append [] ys = refl
-  lower-append (x ∷ xs) ys = go (ltb (numberOf x) k) (lower-append xs ys)
+  lower-append (x ∷ xs) ys = go (ltb (keyNumber x) k) (lower-append xs ys)
     where
       go : (t : Bool) → lower k (xs ++ ys) ≡ lower k xs ++ lower k ys → cond t (x ∷ lower k (xs ++ ys)) (lower k (xs ++ ys)) ≡ cond t (x ∷ lower k xs) (lower k xs) ++ lower k ys
       go true e = ap (λ (l : List Cell). x ∷ l) e
@@ -32,7 +32,7 @@ module _ (k : ℕ) where
   pub higher-append : (xs ys : List Cell) → higher k (xs ++ ys) ≡ higher k xs ++ higher k ys
   unfolding higher
   higher-append [] ys = refl
-  higher-append (x ∷ xs) ys = go (ltb k (numberOf x)) (higher-append xs ys)
+  higher-append (x ∷ xs) ys = go (ltb k (keyNumber x)) (higher-append xs ys)
     where
       go : (t : Bool) → higher k (xs ++ ys) ≡ higher k xs ++ higher k ys → cond t (x ∷ higher k (xs ++ ys)) (higher k (xs ++ ys)) ≡ cond t (x ∷ higher k xs) (higher k xs) ++ higher k ys
       go true e = ap (λ (l : List Cell). x ∷ l) e
@@ -42,42 +42,42 @@ module _ (k : ℕ) where
   unfolding lower higher
   all-lower [] h = (refl, refl)
   all-lower (x ∷ xs) h =
-      let u : numberOf x < k = h 0 (omega arith) in
+      let u : keyNumber x < k = h 0 (omega arith) in
       let r = all-lower xs (λ i l. h (suc i) (omega arith)) in
-      (rw (lt-ltb (numberOf x) k u) (ap (λ (l : List Cell). x ∷ l) (r .0)), rw (le-ltb k (numberOf x) (omega arith)) (r .1))
+      (rw (lt-ltb (keyNumber x) k u) (ap (λ (l : List Cell). x ∷ l) (r .0)), rw (le-ltb k (keyNumber x) (omega arith)) (r .1))
 
   pub all-higher : (xs : List Cell) → ((i : ℕ) → i < length xs → k < getD (keys xs) i 0) → (lower k xs ≡ []) × (higher k xs ≡ xs)
   unfolding lower higher
   all-higher [] h = (refl, refl)
   all-higher (x ∷ xs) h =
-      let u : k < numberOf x = h 0 (omega arith) in
+      let u : k < keyNumber x = h 0 (omega arith) in
       let r = all-higher xs (λ i l. h (suc i) (omega arith)) in
-      (rw (le-ltb (numberOf x) k (omega arith)) (r .0), rw (lt-ltb k (numberOf x) u) (ap (λ (l : List Cell). x ∷ l) (r .1)))
+      (rw (le-ltb (keyNumber x) k (omega arith)) (r .0), rw (lt-ltb k (keyNumber x) u) (ap (λ (l : List Cell). x ∷ l) (r .1)))
 
-  pub none-here : (c : Cell) (xs : List Cell) → numberOf c ≡ k → (lower k (c ∷ xs) ≡ lower k xs) × (higher k (c ∷ xs) ≡ higher k xs)
+  pub none-here : (c : Cell) (xs : List Cell) → keyNumber c ≡ k → (lower k (c ∷ xs) ≡ lower k xs) × (higher k (c ∷ xs) ≡ higher k xs)
   unfolding lower higher
-  none-here c xs e = (rw (le-ltb (numberOf c) k (omega arith)), rw (le-ltb k (numberOf c) (omega arith)))
+  none-here c xs e = (rw (le-ltb (keyNumber c) k (omega arith)), rw (le-ltb k (keyNumber c) (omega arith)))
 
-above-all : (k : ℕ) (c : Cell) (ys : List Cell) → k < numberOf c → ((i : ℕ) → i < length ys → numberOf c < getD (keys ys) i 0) → (i : ℕ) → i < length (c ∷ ys) → k < getD (keys (c ∷ ys)) i 0
+above-all : (k : ℕ) (c : Cell) (ys : List Cell) → k < keyNumber c → ((i : ℕ) → i < length ys → keyNumber c < getD (keys ys) i 0) → (i : ℕ) → i < length (c ∷ ys) → k < getD (keys (c ∷ ys)) i 0
 above-all k c ys g h zero u = g
 above-all k c ys g h (suc i) u = omega (arith, h i (omega arith))
 
 -- ---- keys on either side of a cell
 
 module _ (cs xs : List Cell) (c : Cell) (ys : List Cell) (s : cs ≡ xs ++ (c ∷ ys)) where
-  keys-split : keys cs ≡ keys xs ++ (numberOf c ∷ keys ys)
+  keys-split : keys cs ≡ keys xs ++ (keyNumber c ∷ keys ys)
   keys-split = ap keys s ∙ keys-append xs (c ∷ ys)
 
   key-left : (i : ℕ) → i < length xs → getD (keys xs) i 0 ≡ getD (keys cs) i 0
   key-left i h =
-      sym (List·getD-append (keys xs) (numberOf c ∷ keys ys) 0 i (omega (arith, length-keys xs))) ∙ ap (λ (l : List ℕ). getD l i 0) (sym keys-split)
+      sym (List·getD-append (keys xs) (keyNumber c ∷ keys ys) 0 i (omega (arith, length-keys xs))) ∙ ap (λ (l : List ℕ). getD l i 0) (sym keys-split)
 
   key-right : (i : ℕ) → getD (keys ys) i 0 ≡ getD (keys cs) (length xs + suc i) 0
   key-right i =
-      sym (getD-append-add (keys xs) (numberOf c ∷ keys ys) (suc i) 0)
+      sym (getD-append-add (keys xs) (keyNumber c ∷ keys ys) (suc i) 0)
       ∙ ap₂ (λ (l : List ℕ) (n : ℕ). getD l (n + suc i) 0) (sym keys-split) (length-keys xs)
 
-  above-right : rising cs ≡ true → (i : ℕ) → i < length ys → numberOf c < getD (keys ys) i 0
+  above-right : rising cs ≡ true → (i : ℕ) → i < length ys → keyNumber c < getD (keys ys) i 0
   above-right r i h =
       omega (arith, key-right i, key-here cs xs c ys s, keys-rise cs (length xs) (length xs + suc i) r (omega arith) (omega (arith, ap length s, length-append xs (c ∷ ys))))
 
@@ -147,7 +147,7 @@ module _ (b : List ℕ) (n : ℕ) (index : List ℕ) (count k p : ℕ) (q : Posi
       here : Located b index cs p
       here = locate b n index count cs r p h
 
-      key-is : t ≡ eqb (numberOf (here .picked .cell)) k
+      key-is : t ≡ eqb (keyNumber (here .picked .cell)) k
       key-is = ke (omega (arith, here .room)) ∙ ap (λ (x : ℕ). eqb (number (keyAt b (x + 1))) k) pl ∙ ap (λ (x : ℕ). eqb x k) (here .key ∙ here .number)
 
       rise : rising cs ≡ true
@@ -169,7 +169,7 @@ module _ (b : List ℕ) (n : ℕ) (index : List ℕ) (count k p : ℕ) (q : Posi
             let y = l .picked .right in
             let s = l .picked .split in
             let hb = held-some b n cs (r .holds) in
-            let m : numberOf c ≡ k = eqb-true _ _ (sym (key-is cs r) ∙ e) in
+            let m : keyNumber c ≡ k = eqb-true _ _ (sym (key-is cs r) ∙ e) in
             let a : at ≡ length (encode x) = pl ∙ l .place in
             let w : size ≡ length (cellBytes c) = z .size c (l .rest) (l .allowed) (ap (λ (i : ℕ). drop i b) pl ∙ l .bytes) in
             let o = none-here k c y m in
@@ -196,9 +196,9 @@ module _ (b : List ℕ) (n : ℕ) (index : List ℕ) (count k p : ℕ) (q : Posi
             let s = l .picked .split in
             let hb = held-some b n cs (r .holds) in
             let f = q .first (sorted b n index count cs r) in
-            let ne : numberOf c ≡ k → ⊥ = no-cell cs r in
-            let ge : k ≤ numberOf c = omega (arith, higher-keys b n index count cs r k p f p (omega arith) (omega (arith, r .tally)), l .number) in
-            let gt : k < numberOf c = lt-of-le-of-ne ge (λ m. ne (sym m)) in
+            let ne : keyNumber c ≡ k → ⊥ = no-cell cs r in
+            let ge : k ≤ keyNumber c = omega (arith, higher-keys b n index count cs r k p f p (omega arith) (omega (arith, r .tally)), l .number) in
+            let gt : k < keyNumber c = lt-of-le-of-ne ge (λ m. ne (sym m)) in
             let a : at ≡ length (encode x) = pl ∙ l .place in
             let t = all-higher k (c ∷ y) (above-all k c y gt (above-right cs x c y s (rise cs r))) in
             let lo : lower k cs ≡ x = ap (lower k) s ∙ lower-append k x (c ∷ y) ∙ ap₂ (λ (u v : List Cell). u ++ v) (lefts cs r .0) (t .0) ∙ append-nil x in
@@ -211,7 +211,7 @@ module _ (b : List ℕ) (n : ℕ) (index : List ℕ) (count k p : ℕ) (q : Posi
               found = λ v. absurd (omega arith);
             }
           where
-            no-cell : (cs : List Cell) (r : Ready b n index count cs) → numberOf (here cs r .picked .cell) ≡ k → ⊥
+            no-cell : (cs : List Cell) (r : Ready b n index count cs) → keyNumber (here cs r .picked .cell) ≡ k → ⊥
             no-cell cs r m = false≢true (sym e ∙ key-is cs r ∙ eq-eqb _ _ m)
 
             no-key : (cs : List Cell) → Ready b n index count cs → (i : ℕ) → i < length cs → getD (keys cs) i 0 ≡ k → ⊥

@@ -10,7 +10,7 @@ use Rattle.meaning.specs.declared.refusal.Refusal.{Refusal}
 use Rattle.meaning.specs.declared.refusal.Refusal.the-variants.{BadStore, BadRequest, StoreFull, NoCell}
 use Rattle.meaning.specs.declared.end.Ended.{Ended}
 use Rattle.meaning.specs.declared.end.Ended.the-variants.{Finished, Halted}
-use Rattle.cells.specs.Cell.{Key, Cell, number, numberOf, wholeCell, wholeKey}
+use Rattle.cells.specs.Cell.{Key, Cell, number, keyNumber, wholeCell, wholeKey}
 use Rattle.cells.specs.Store.{capacity, encode, held}
 use Rattle.cells.specs.Asking.{refusedWith, lookup}
 use Rattle.store.specs.declared.Edited.{Edited}
@@ -18,14 +18,14 @@ use Rattle.store.specs.declared.Edited.{Edited}
 -- the cells whose keys are below n, and above n
 unfoldable pub lower : ℕ → List Cell → List Cell
 lower n [] = []
-lower n (c ∷ cs) = cond (ltb (numberOf c) n) (c ∷ lower n cs) (lower n cs)
+lower n (c ∷ cs) = cond (ltb (keyNumber c) n) (c ∷ lower n cs) (lower n cs)
 
 unfoldable pub higher : ℕ → List Cell → List Cell
 higher n [] = []
-higher n (c ∷ cs) = cond (ltb n (numberOf c)) (c ∷ higher n cs) (higher n cs)
+higher n (c ∷ cs) = cond (ltb n (keyNumber c)) (c ∷ higher n cs) (higher n cs)
 
 unfoldable pub with : Cell → List Cell → List Cell
-with c cs = lower (numberOf c) cs ++ (c ∷ higher (numberOf c) cs)
+with c cs = lower (keyNumber c) cs ++ (c ∷ higher (keyNumber c) cs)
 
 unfoldable pub without : ℕ → List Cell → List Cell
 without n cs = lower n cs ++ higher n cs
@@ -89,16 +89,16 @@ abbrev pub writtenOut : List ℕ → ℕ → CellEdit → Edit
 writtenOut b n x = writtenBy b n (x .left) (x .end)
 
 -- 1, before the others: "Ask, put and remove check 1, 15, 16, 17."
-unfoldable pub checked : List ℕ → ℕ → (List Cell → CellEdit) → Option (List Cell) → Edit
-checked b n f none = refusedEdit b n BadStore
-checked b n f (some cs) = writtenOut b n (f cs)
+unfoldable pub checkedEdit : List ℕ → ℕ → (List Cell → CellEdit) → Option (List Cell) → Edit
+checkedEdit b n f none = refusedEdit b n BadStore
+checkedEdit b n f (some cs) = writtenOut b n (f cs)
 
 -- put and remove, on a buffer and a length, with the bytes of a cell or a key
 unfoldable pub putOf : List ℕ → ℕ → List ℕ → Edit
-putOf b n s = checked b n (putOn (length b) (wholeCell s)) (held b n)
+putOf b n s = checkedEdit b n (putOn (length b) (wholeCell s)) (held b n)
 
 unfoldable pub removeOf : List ℕ → ℕ → List ℕ → Edit
-removeOf b n s = checked b n (removeOn (wholeKey s)) (held b n)
+removeOf b n s = checkedEdit b n (removeOn (wholeKey s)) (held b n)
 
 -- what a call handed back, as an edit
 abbrev pub edit : Edited → List ℕ → Edit

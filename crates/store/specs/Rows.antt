@@ -6,11 +6,11 @@ use lib.ListN.{replicate}
 use Rattle.meaning.specs.declared.refusal.Refusal.the-variants.{BadStore, BadRequest, StoreFull, NoCell}
 use Rattle.meaning.specs.declared.end.Ended.the-variants.{Finished}
 use Rattle.numbers.specs.Range.{within}
-use Rattle.cells.specs.Bytes.{pair, quad, octet, pairAt, quadAt, octetAt, unsigned, signed, begins, same}
-use Rattle.cells.specs.Cell.{between, keyAllowed, keyBytes, number, each, valueAllowed, cellAllowed, kindOf, valueBytes, cellBytes, keyAt, valueOf, front, wholeCell, wholeKey}
-use Rattle.cells.specs.Store.{encode, above, rising, before, run, ordered, cells, held}
+use Rattle.cells.specs.Bytes.{pair, quad, octet, pairAt, quadAt, octetAt, inComplement, fromComplement, begins, equalBytes}
+use Rattle.cells.specs.Cell.{between, keyAllowed, keyBytes, number, each, valueAllowed, cellAllowed, kindOf, valueBytes, cellBytes, keyAt, cellBy, cellOf, passing, front, wholeCell, wholeKey}
+use Rattle.cells.specs.Store.{encode, above, rising, before, cellRun, ordered, cells, held}
 use Rattle.cells.specs.Asking.{lookup}
-use Rattle.store.specs.Edit.{lower, higher, with, without, refusedEdit, written, fits, putOn, takenOut, removeOn, writtenBy, checked, putOf, removeOf}
+use Rattle.store.specs.Edit.{lower, higher, with, without, refusedEdit, written, fits, putOn, takenOut, removeOn, writtenBy, checkedEdit, putOf, removeOf}
 
 -- two integers, and a string with the first one's key
 abbrev first : List ℕ
@@ -51,10 +51,10 @@ unfolding
     pairAt
     quadAt
     octetAt
-    unsigned
-    signed
+    inComplement
+    fromComplement
     begins
-    same
+    equalBytes
     between
     keyAllowed
     keyBytes
@@ -66,7 +66,9 @@ unfolding
     valueBytes
     cellBytes
     keyAt
-    valueOf
+    cellBy
+    cellOf
+    passing
     front
     wholeCell
     wholeKey
@@ -74,7 +76,7 @@ unfolding
     above
     rising
     before
-    run
+    cellRun
     ordered
     cells
     held
@@ -89,7 +91,7 @@ unfolding
     takenOut
     removeOn
     writtenBy
-    checked
+    checkedEdit
     putOf
     removeOf
     within

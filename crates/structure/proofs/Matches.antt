@@ -1,8 +1,7 @@
 -- The search by depth finds the match: where checks 2 to 4 accept, behind a test, an $ELSE or a $BT.
 use mathlib.Core.Path.{_≡_, refl, sym, ap, _∙_, subst}
-use mathlib.Core.Bool.{false}
 use mathlib.Core.List.{List, _∷_}
-use mathlib.Core.Option.{some}
+use mathlib.Core.Option.{some, Option·some-injective}
 use Prim.Native.Nat.{ℕ, zero, suc, _+_, _≤_, _<_}
 use native.Mathlib.Omega.{arith}
 use lib.ListN.{length, drop}
@@ -94,14 +93,11 @@ search-is-match {t} {M} {at} c q o =
     subst (λ (x : ℕ). MatchedBy q M (topOf q ∷ M) (linesOf (drop at t)) x (k .lines)) b
     (subst (λ (x : ℕ). MatchedBy q M (topOf q ∷ M) (linesOf (drop at t)) (i .bytes) x) m (i .matched))
 
-some-inj : {A : Type 0} {x y : A} → some x ≡ some y → x ≡ y
-some-inj e = cc
-
 -- There is one match at most.
 pub matched-one : {q : Sought} {M W : List Mark} {ls : List (List ℕ)} {b k b′ k′ : ℕ} → MatchedBy q M W ls b k → MatchedBy q M W ls b′ k′ → (b ≡ b′) × (k ≡ k′)
 matched-one (this W X l ls e a) (this W′ X′ l′ ls′ e′ a′) = (refl, refl)
-matched-one {q} {M} (this W X l ls e a) (later W′ X′ l′ ls′ b k e′ n m) = absurd (n (subst (Around M q) (some-inj (sym e ∙ e′)) a))
-matched-one {q} {M} (later W X l ls b k e n m) (this W′ X′ l′ ls′ e′ a′) = absurd (n (subst (Around M q) (some-inj (sym e′ ∙ e)) a′))
+matched-one {q} {M} (this W X l ls e a) (later W′ X′ l′ ls′ b k e′ n m) = absurd (n (subst (Around M q) (Option·some-injective _ _ (sym e ∙ e′)) a))
+matched-one {q} {M} (later W X l ls b k e n m) (this W′ X′ l′ ls′ e′ a′) = absurd (n (subst (Around M q) (Option·some-injective _ _ (sym e′ ∙ e)) a′))
 matched-one {q} {M} (later W X l ls b k e n m) (later W′ X′ l′ ls′ b′ k′ e′ n′ m′) =
-    let i = matched-one m (subst (λ (Y : List Mark). MatchedBy q M Y ls b′ k′) (some-inj (sym e′ ∙ e)) m′) in
+    let i = matched-one m (subst (λ (Y : List Mark). MatchedBy q M Y ls b′ k′) (Option·some-injective _ _ (sym e′ ∙ e)) m′) in
     (ap (λ (x : ℕ). length l + 1 + x) (i .0), ap (λ (x : ℕ). 1 + x) (i .1))

@@ -1,17 +1,15 @@
 -- Checks 5 and 6 look at the front of a line; where check 3 accepts, that is the name in the line's form.
 use mathlib.Core.Path.{_≡_, refl, sym, ap, _∙_, subst}
-use mathlib.Core.Bool.{Bool, true, false, not, cond, _&&_, true≢false}
-use mathlib.Core.List.{List, [], _∷_, _++_, append-assoc, append-nil}
+use mathlib.Core.Bool.{Bool, true, false, not, cond, true≢false}
+use mathlib.Core.List.{List, [], _∷_, _++_, append-assoc}
 use mathlib.Core.Option.{Option, none, some}
-use Prim.Native.Nat.{ℕ, zero, suc, _+_, _-_, _≤_, _<_}
-use native.Mathlib.Numerals.{add-one}
+use Prim.Native.Nat.{ℕ, suc, _+_, _-_, _<_}
 use native.Mathlib.Omega.{arith}
-use borrow.Author.Tests.{eqb-true, eqb-false, ne-eqb, eq-eqb}
+use borrow.Author.Tests.{eqb-false, ne-eqb, eq-eqb}
 use lib.Dec.{eqb}
 use lib.ListN.{length, take, drop, length-append, length-drop, length-take}
 use lib.Seq.{take-all, take-append-seam}
 use Rattle.meaning.specs.Each.{Each}
-use Rattle.scan.specs.Ascii.{ascii}
 use Rattle.scan.specs.Line.{window}
 use Rattle.scan.specs.Words.{begins}
 use Rattle.lines.specs.declared.command.Line.{Line}
@@ -20,7 +18,6 @@ use Rattle.lines.specs.readers.Command.{parseLine}
 use Rattle.lines.proofs.SectionLaws.{section-begins, begins-section}
 use Rattle.names.specs.Name as name
 use Rattle.names.specs.Name.{sectionWord, sameBytes}
-use Rattle.template.specs.declared.Verdict.{Verdict}
 use Rattle.template.specs.declared.Verdict.the-variants.{Fine, Fault}
 use Rattle.template.specs.Lines.{linesOf}
 use Rattle.template.specs.Form.{isFormed}

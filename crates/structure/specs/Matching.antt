@@ -1,5 +1,4 @@
 -- "its matching `$ELSE`, or `$ENDIF` if there is none", "the matching $ET": by what is open behind each line, as check 4 has it.
--- Assumes nothing.
 use mathlib.Core.Path.{_≡_}
 use mathlib.Core.List.{List, _∷_}
 use mathlib.Core.Option.{some}

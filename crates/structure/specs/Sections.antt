@@ -1,4 +1,4 @@
--- The names of sections, taken from the forms of their lines. Assumes nothing.
+-- The names of sections, taken from the forms of their lines.
 use mathlib.Core.Bool.{Bool, true, false, cond}
 use mathlib.Core.List.{List, [], _∷_}
 use mathlib.Core.Option.{Option, none, some}

@@ -1,4 +1,4 @@
--- Checks 3 to 5. Assumes nothing.
+-- Checks 3 to 5.
 use mathlib.Core.Bool.{Bool, true, false, cond}
 use mathlib.Core.List.{List, [], _∷_}
 use mathlib.Core.Option.{Option, none, some}

@@ -1,4 +1,4 @@
--- What a line is to the checks of a whole template. Assumes nothing.
+-- What a line is to the checks of a whole template.
 use mathlib.Core.Bool.{Bool, true, false, cond}
 use mathlib.Core.List.{List, [], _∷_}
 use Prim.Native.Nat.{ℕ}

@@ -1,4 +1,4 @@
--- The lines of a template. Assumes nothing.
+-- The lines of a template.
 use mathlib.Core.List.{List, [], _∷_}
 use Prim.Native.Nat.{ℕ, zero, suc, _+_}
 use lib.ListN.{length, drop}

@@ -1,4 +1,4 @@
--- What is open at a line of a template, and a template that checks 2 to 4 let through. Assumes nothing.
+-- What is open at a line of a template, and a template that checks 2 to 4 let through.
 use mathlib.Core.Path.{_≡_}
 use mathlib.Core.List.{List, []}
 use mathlib.Core.Option.{some}

@@ -1,4 +1,4 @@
--- "Checks 2–5 each cover the whole template, then the next." Assumes nothing.
+-- "Checks 2–5 each cover the whole template, then the next."
 use mathlib.Core.List.{List}
 use Prim.Native.Nat.{ℕ}
 use Rattle.meaning.specs.declared.refusal.Refusal.{Refusal}

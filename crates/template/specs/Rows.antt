@@ -1,4 +1,4 @@
--- Small templates, each with what the definitions say of it: antt computes each. Assumes nothing.
+-- Small templates, each with what the definitions say of it: antt computes each.
 use mathlib.Core.Path.{_≡_, refl}
 use mathlib.Core.List.{List, [], _∷_, _++_, map}
 use Prim.Native.Nat.{ℕ}
@@ -24,7 +24,6 @@ use Rattle.lines.specs.readers.Simple.{singleAt, bareAt, optionalAt}
 use Rattle.lines.specs.readers.Fetch.{parameterAt, fetchedAt, fetchAt}
 use Rattle.lines.specs.readers.Title.{nameAt, sectionAt, headingOf, headingAt, remarkAt}
 use Rattle.lines.specs.readers.Command.{commands, parseLine}
-use Rattle.meaning.specs.declared.refusal.Refusal.{Refusal}
 use Rattle.meaning.specs.declared.refusal.Refusal.the-variants.{BadTemplate, BadLine, BadNesting, RepeatedSection, NoSection}
 use Rattle.nesting.specs.Nest.{tests, tables, sectionBegun, testTurned, testEnded, tableEnded, inSection, behind, allClosed}
 use Rattle.names.specs.Name.{nameOf}
@@ -49,7 +48,7 @@ lines (l ∷ ls) = ascii l ++ (10 ∷ lines ls)
 
 -- what the checks say of a template, or where a search goes on
 pub data Result : Type 0 where
-  checked : Checked → Result
+  checkIs : Checked → Result
   found : Skip → Result
 
 pub record Row : Type 0 where
@@ -58,10 +57,10 @@ pub record Row : Type 0 where
 
 -- a template, the caller's name, and what is expected
 abbrev check : List ℕ → String → Checked → Row
-check t name e = record { computed = checked (templateChecked t (ascii name)); expected = checked e }
+check t name e = record { computed = checkIs (templateChecked t (ascii name)); expected = checkIs e }
 
-abbrev run : ℕ → ℕ → ℕ → Checked
-run start line end = Accepted (record { start = start; line = line; end = end })
+abbrev runIs : ℕ → ℕ → ℕ → Checked
+runIs start line end = Accepted (record { start = start; line = line; end = end })
 
 -- what stands behind the line that seeks, and how many bytes and lines are passed over
 abbrev seek : List ℕ → Sought → ℕ → ℕ → Row
@@ -73,15 +72,15 @@ two = lines ("$REM first" ∷ "$SEC A" ∷ "text" ∷ "$SEC B" ∷ "text" ∷ []
 unfoldable pub rows : List Row
 rows =
     -- one section, the last, all, none
-    check two "A" (run 11 2 23)
-    ∷ check two "B" (run 23 4 35)
-    ∷ check two "" (run 11 2 35)
+    check two "A" (runIs 11 2 23)
+    ∷ check two "B" (runIs 23 4 35)
+    ∷ check two "" (runIs 11 2 35)
     ∷ check two "C" (Refused NoSection 0)
     ∷ check [] "" (Refused NoSection 0)
     -- the last line without its end; the caller's name by its first eight bytes
-    ∷ check (ascii "$SEC LONGNAME1") "LONGNAME and more" (run 0 1 14)
+    ∷ check (ascii "$SEC LONGNAME1") "LONGNAME and more" (runIs 0 1 14)
     -- 2: 132 bytes and 133, a byte that isn't allowed
-    ∷ check (lines ("$SEC A" ∷ []) ++ replicate 132 120) "A" (run 0 1 139)
+    ∷ check (lines ("$SEC A" ∷ []) ++ replicate 132 120) "A" (runIs 0 1 139)
     ∷ check (lines ("$SEC A" ∷ []) ++ replicate 133 120) "A" (Refused BadTemplate 2)
     ∷ check (lines ("$SEC A" ∷ "" ∷ []) ++ (127 ∷ [])) "A" (Refused BadTemplate 3)
     -- 3 comes before 4, 4 before 5, 5 before 6
@@ -96,7 +95,7 @@ rows =
     ∷ check (lines ("$SEC A" ∷ "$BT 2" ∷ "text" ∷ [])) "A" (Refused BadNesting 3)
     ∷ check (lines ("$REM" ∷ "" ∷ "$SEC A" ∷ [])) "A" (Refused BadNesting 2)
     -- 4: at most 10 tests and 5 tables
-    ∷ check (lines ("$SEC A" ∷ (replicate 10 "$IF 1" ++ replicate 10 "$ENDIF"))) "A" (run 0 1 137)
+    ∷ check (lines ("$SEC A" ∷ (replicate 10 "$IF 1" ++ replicate 10 "$ENDIF"))) "A" (runIs 0 1 137)
     ∷ check (lines ("$SEC A" ∷ replicate 11 "$IF 1")) "A" (Refused BadNesting 12)
     ∷ check (lines ("$SEC A" ∷ replicate 6 "$BT 1")) "A" (Refused BadNesting 7)
     -- 5: by the first eight characters

@@ -1,4 +1,4 @@
--- "The caller's name selects one section; an empty name selects all". Assumes nothing.
+-- "The caller's name selects one section; an empty name selects all".
 use mathlib.Core.Bool.{Bool, not, cond}
 use mathlib.Core.List.{List, [], _∷_}
 use Prim.Native.Nat.{ℕ, suc, _+_, _<_, _≤_}

@@ -1,4 +1,4 @@
--- Where a failed test, an executed $ELSE and a $BT with n below 1 go on. Assumes nothing.
+-- Where a failed test, an executed $ELSE and a $BT with n below 1 go on.
 use mathlib.Core.Bool.{cond}
 use mathlib.Core.List.{List, [], _∷_}
 use Prim.Native.Nat.{ℕ, zero, suc, _+_}

@@ -1,4 +1,4 @@
--- "2–5 name the first line at fault". Assumes nothing.
+-- "2–5 name the first line at fault".
 use mathlib.Core.Bool.{Bool, cond, _&&_}
 use mathlib.Core.List.{List, [], _∷_}
 use Prim.Native.Nat.{ℕ, suc}

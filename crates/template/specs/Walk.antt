@@ -1,4 +1,4 @@
--- A check that goes from line to line with a state. Assumes nothing.
+-- A check that goes from line to line with a state.
 use mathlib.Core.List.{List, [], _∷_}
 use mathlib.Core.Option.{Option, none, some}
 use Prim.Native.Nat.{ℕ, suc}

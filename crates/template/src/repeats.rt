@@ -8,9 +8,9 @@ ghost use Rattle.template.specs.Lines.{linesOf};
 ghost use Rattle.template.specs.inner.Notes.{RuledOut, notedWith};
 ghost use Rattle.template.specs.Checks.{hasName, cameBefore, nameCheck};
 
-const PLACES: usize = 16_361;
+const SLOTS: usize = 16_361;
 
-// At a place no name is noted, or names with one print, from 1 to 254, or with several.
+// In a slot no name is noted, or names with one fingerprint, from 1 to 254, or with several.
 const NOTHING: u8 = 0;
 
 const MIXED: u8 = 255;
@@ -37,22 +37,22 @@ fn has_name(template: &[u8], lines: u32, name: &[u8]) -> bool
     false
 }
 
-// What is noted at a place once a name with a print is noted there too.
-fn noted_with(noted: u8, print: u8) -> u8
-    ensures { λ r. ⌜ r ≡ notedWith noted print ⌝ }
+// What is noted in a slot once a name with a fingerprint is noted there too.
+fn noted_with(noted: u8, fingerprint: u8) -> u8
+    ensures { λ r. ⌜ r ≡ notedWith noted fingerprint ⌝ }
 {
     if noted == NOTHING {
-        return print;
+        return fingerprint;
     }
-    if noted == print {
-        return print;
+    if noted == fingerprint {
+        return fingerprint;
     }
     MIXED
 }
 
-// A line that isn't $SEC has the empty name, which never came before; nor did a name where another print alone is noted.
-fn came_before(template: &[u8], lines: u32, name: &[u8], noted: u8, print: u8) -> bool
-    requires { ⌜ (length (now template) ≤ 32768) × (RuledOut noted print → hasName (now name) (take lines (linesOf (now template))) ≡ false) ⌝ }
+// A line that isn't $SEC has the empty name, which never came before; nor did a name where another fingerprint alone is noted.
+fn came_before(template: &[u8], lines: u32, name: &[u8], noted: u8, fingerprint: u8) -> bool
+    requires { ⌜ (length (now template) ≤ 32768) × (RuledOut noted fingerprint → hasName (now name) (take lines (linesOf (now template))) ≡ false) ⌝ }
     ensures { λ r. ⌜ r ≡ cameBefore (now (name .entry)) (take lines (linesOf (now (template .entry)))) ⌝ }
 {
     if name.len() == 0 {
@@ -61,31 +61,31 @@ fn came_before(template: &[u8], lines: u32, name: &[u8], noted: u8, print: u8) -
     if noted == MIXED {
         return has_name(template, lines, name);
     }
-    if noted == print {
+    if noted == fingerprint {
         return has_name(template, lines, name);
     }
     false
 }
 
-// Each name before is noted by its print at a place, both from its key, so that few names are sought that are new.
+// Each name before is noted by its fingerprint in a slot, both from its hash, so that few names are sought that are new.
 pub fn check(template: &[u8]) -> Verdict
     requires { ⌜ length (now template) ≤ 32768 ⌝ }
     ensures { λ r. ⌜ r ≡ nameCheck (now (template .entry)) ⌝ }
 {
     let mut at = 0;
     let mut lines: u32 = 0;
-    let mut noted = [NOTHING; PLACES];
+    let mut noted = [NOTHING; SLOTS];
     while at < template.len() {
         let line = scan::bytes::line_of(&template[at..]);
         let name = names::name_of(line);
-        let key = names::key_of(name);
-        let place = key % PLACES;
-        let print = (key / PLACES + 1) as u8;
-        let before = noted[place];
-        if came_before(template, lines, name, before, print) {
+        let hash = names::hash_of(name);
+        let slot = hash % SLOTS;
+        let fingerprint = (hash / SLOTS + 1) as u8;
+        let before = noted[slot];
+        if came_before(template, lines, name, before, fingerprint) {
             return Verdict::Fault(lines + 1);
         }
-        noted[place] = noted_with(before, print);
+        noted[slot] = noted_with(before, fingerprint);
         at += line.len() + 1;
         lines += 1;
     }

@@ -13,7 +13,7 @@ use Rattle.scan.specs.declared.digits.Numeral.{Numeral}
 use Rattle.scan.specs.declared.digits.Numeral.the-variants.{Value, NoNumeral}
 use Rattle.scan.specs.Line.{byteAt}
 use Rattle.scan.specs.readers.Digits.{digitsAt, numberAt}
-use Rattle.scan.proofs.OnwardLaws.{picked, tested}
+use Rattle.scan.proofs.TestLaws.{picked, tested}
 use Rattle.scan.proofs.RunLaws.{byte-within}
 use Rattle.scan.proofs.NumberLaws.{Within, number-within}
 use Rattle.arguments.specs.declared.operand.Operand.{Operand}
@@ -22,7 +22,7 @@ use Rattle.arguments.specs.declared.argument.Argument.{Argument}
 use Rattle.arguments.specs.declared.argument.ArgumentRead.{ArgumentRead}
 use Rattle.arguments.specs.declared.argument.ArgumentRead.the-variants.{ArgumentTo, NoArgument}
 use Rattle.arguments.specs.readers.Argument.{argumentAt}
-use Rattle.arguments.specs.Parameter.{parameterOf}
+use Rattle.arguments.specs.inner.Parameter.{parameterOf}
 use Rattle.arguments.proofs.Parsed.{ArgumentWithin, questionsOf, small-parameter, argument-bounded, argument-bytes}
 use Rattle.texts.specs.declared.text.Places.{Places}
 use Rattle.texts.specs.declared.text.Places.the-variants.{Unsaid, Said}

@@ -2,27 +2,23 @@
 use mathlib.Core.Path.{_≡_, refl, sym, ap, _∙_}
 use mathlib.Core.Bool.{Bool, true, false, not, cond, _||_, false≢true}
 use mathlib.Core.List.{List, [], _∷_}
-use mathlib.Core.Option.{Option, none, some}
-use Prim.Native.Nat.{ℕ, suc, _+_, _<_, _≤_}
+use mathlib.Core.Option.{Option, some}
+use Prim.Native.Nat.{ℕ, _+_, _<_}
 use native.Mathlib.Nat.{add-zero}
 use native.Mathlib.Omega.{arith}
 use borrow.Author.Tests.{lt-leb, leb-true, leb-false}
 use lib.Dec.{leb, eqb}
 use lib.ListN.{length, getD, drop}
-use lib.Seq.{drop-cons}
 use Rattle.scan.specs.declared.run.Class.the-variants.{Unbraced}
 use Rattle.scan.specs.Line.{byteAt}
 use Rattle.scan.specs.Run.{belongs, span}
 use Rattle.scan.proofs.RunLaws.{span-end, span-stop, span-more}
-use Rattle.texts.specs.declared.text.FieldRead.{FieldRead}
-use Rattle.texts.specs.declared.text.FieldRead.the-variants.{FieldTo, NoField}
 use Rattle.texts.specs.declared.text.Piece.{Piece}
 use Rattle.texts.specs.declared.text.Piece.the-variants.{Plain}
-use Rattle.texts.specs.declared.text.PieceRead.{PieceRead}
 use Rattle.texts.specs.declared.text.PieceRead.the-variants.{PieceTo, NoPiece}
 use Rattle.texts.specs.Width.{widthOf}
 use Rattle.texts.specs.readers.Text.{pieceAt, fieldAt, placed, before, textPieces, fitsBehind}
-use Rattle.texts.specs.Pieces.{plainRun, plains}
+use Rattle.texts.specs.inner.Plain.{plainRun, plains}
 use Rattle.texts.proofs.PieceLaws.{pieces-more}
 use Rattle.texts.proofs.TextLaws.{piece-passed}
 
@@ -85,22 +81,3 @@ module _ (l s : List ℕ) (i : ℕ) (e : s ≡ plainRun l i) where
   pub plain-pieces : (ps : List Piece) → textPieces l (i + length s) ≡ some ps → textPieces l i ≡ some (plains s ps)
   unfolding plainRun
   plain-pieces ps q = run-pieces l s i e ∙ rw q (befores-some s ps)
-
-  -- Where a byte is a piece, the run has it.
-  pub plain-some : (b next : ℕ) → pieceAt l i ≡ PieceTo (Plain b) next → 0 < length s
-  unfolding plainRun pieceAt placed belongs byteAt
-  plain-some b next = go (leb (length l) i) refl
-    where
-      no-field : (r : FieldRead) → placed r ≡ PieceTo (Plain b) next → ⊥
-      no-field (FieldTo f n) q = let z : _≡_ {A = ℕ} 0 1 = cc in omega arith
-      no-field NoField q = let z : _≡_ {A = ℕ} 0 1 = cc in omega arith
-
-      byte : i < length l → (a c : Bool) → eqb (getD l i 0) 123 ≡ a → eqb (getD l i 0) 125 ≡ c → cond a (placed (fieldAt l (i + 1))) (cond c NoPiece (PieceTo (Plain (getD l i 0)) (i + 1))) ≡ PieceTo (Plain b) next → 0 < length s
-      byte h true c p q r = absurd (no-field (fieldAt l (i + 1)) r)
-      byte h false true p q r = let z : _≡_ {A = ℕ} 0 1 = cc in absurd (omega arith)
-      byte h false false p q r =
-          let n : belongs Unbraced (getD l i 0) ≡ true = rw (p, q) in omega (arith, ap length (e ∙ span-more Unbraced l i h n))
-
-      go : (t : Bool) → leb (length l) i ≡ t → cond t NoPiece (cond (eqb (getD l i 0) 123) (placed (fieldAt l (i + 1))) (cond (eqb (getD l i 0) 125) NoPiece (PieceTo (Plain (getD l i 0)) (i + 1)))) ≡ PieceTo (Plain b) next → 0 < length s
-      go true q r = let z : _≡_ {A = ℕ} 0 1 = cc in absurd (omega arith)
-      go false q r = byte (leb-false (length l) i q) (eqb (getD l i 0) 123) (eqb (getD l i 0) 125) refl refl r

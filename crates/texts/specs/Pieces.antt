@@ -1,10 +1,7 @@
--- The pieces of an accepted text, and its fields. Assumes nothing.
+-- The pieces of an accepted text, and its fields.
 use mathlib.Core.List.{List, [], _∷_}
 use mathlib.Core.Option.{Option, none, some}
 use Prim.Native.Nat.{ℕ, _+_}
-use lib.ListN.{drop}
-use Rattle.scan.specs.declared.run.Class.the-variants.{Unbraced}
-use Rattle.scan.specs.Run.{span}
 use Rattle.texts.specs.declared.text.Piece.{Piece}
 use Rattle.texts.specs.declared.text.Piece.the-variants.{Plain, Placed}
 use Rattle.texts.specs.readers.Text.{textPieces}
@@ -23,12 +20,3 @@ abbrev pub fieldCount : List Piece → ℕ
 fieldCount [] = 0
 fieldCount (Plain b ∷ ps) = fieldCount ps
 fieldCount (Placed f ∷ ps) = 1 + fieldCount ps
-
--- the bytes from a place on up to the next brace
-unfoldable pub plainRun : List ℕ → ℕ → List ℕ
-plainRun l at = span Unbraced (drop at l)
-
--- each of them is a piece (proofs/PlainLaws)
-abbrev pub plains : List ℕ → List Piece → List Piece
-plains [] ps = ps
-plains (b ∷ s) ps = Plain b ∷ plains s ps

@@ -1,4 +1,4 @@
--- The width of a text's pieces. Assumes nothing.
+-- The width of a text's pieces.
 use mathlib.Core.List.{List, [], _∷_}
 use Prim.Native.Nat.{ℕ, _+_}
 use Rattle.texts.specs.declared.text.Piece.{Piece}

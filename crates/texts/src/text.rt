@@ -10,7 +10,7 @@ use scan::run::Class;
 ghost use mathlib.Core.Path.{_≡_};
 ghost use Rattle.texts.specs.Width.{widthOf};
 ghost use Rattle.texts.specs.readers.Text.{placesAt, fieldAt, pieceAt, textFits};
-ghost use Rattle.texts.specs.Pieces.{plainRun};
+ghost use Rattle.texts.specs.inner.Plain.{plainRun};
 
 // `{argument,w}` says no places, `{argument,w.d}` says d.
 pub enum Places {

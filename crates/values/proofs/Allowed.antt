@@ -9,13 +9,15 @@ use lib.Dec.{leb}
 use lib.IntN.{ℤ, pos, negsuc}
 use Rattle.meaning.specs.Answer.{Answer}
 use Rattle.meaning.specs.Tree.{done, stop, ask, bind}
-use Rattle.meaning.specs.Meaning.{Meaning}
+use Rattle.meaning.specs.Meaning.{Meaning, asksEach}
 use Rattle.meaning.specs.declared.question.Question.{Question}
 use Rattle.meaning.specs.declared.refusal.Refusal.the-variants.{BadIndex}
 use Rattle.meaning.proofs.Yielding.{Yields}
 use Rattle.meaning.proofs.Questions.{Asks, asks-bind, asks-then}
 use Rattle.cells.specs.Cell.{between, keyAllowed}
-use Rattle.cells.specs.Asking.{unusedZero, questionAllowed}
+use Rattle.cells.specs.Asking.{questionAllowed}
+use Rattle.cells.specs.inner.Tests.{unusedZero}
+use Rattle.cells.proofs.Questions.{by-numbers}
 use Rattle.cells.proofs.Limits.{AnswerWithin}
 use Rattle.arguments.specs.declared.argument.Argument.{Argument}
 use Rattle.arguments.specs.declared.argument.Filter.{Filter}
@@ -31,7 +33,7 @@ use Rattle.values.specs.declared.fetch.Along.the-variants.{Records, Entr
 use Rattle.values.specs.Machine.{Machine}
 use Rattle.values.specs.Worth.{answered, filtered, kindOf}
 use Rattle.values.specs.Meanings.{indexNumber, limited, indexValue, question, asks, cellMeaning, worthOf, operandMeaning, argumentMeaning}
-use Rattle.values.specs.Fetching.{elementQuestion, elementQuestions, asksEach, countValue, firstOf, asksElements, fetchMeaning}
+use Rattle.values.specs.Fetching.{elementQuestion, elementQuestions, countValue, firstOf, asksElements, fetchMeaning}
 
 -- a question that `ask` doesn't refuse with 15
 abbrev pub Allowed : Question → Type 0
@@ -41,8 +43,8 @@ abbrev pub AsksAllowed : {A : Type 0} → Meaning A → Type 0
 AsksAllowed t = Asks AnswerWithin Allowed t
 
 question-allowed : (d kind p r e : ℕ) → Between 1 35 d → Between 1 65535 p → r ≤ 999 → e ≤ 999 → unusedZero (question d kind p r e) ≡ true → Allowed (question d kind p r e)
-unfolding questionAllowed keyAllowed between
-question-allowed d kind p r e a b i j u = rw (le-leb 1 d (a .least), le-leb d 35 (a .most), le-leb 1 p (b .least), le-leb p 65535 (b .most), le-leb r 999 i, le-leb e 999 j) u
+unfolding keyAllowed between
+question-allowed d kind p r e a b i j u = rw (by-numbers (question d kind p r e), le-leb 1 d (a .least), le-leb d 35 (a .most), le-leb 1 p (b .least), le-leb p 65535 (b .most), le-leb r 999 i, le-leb e 999 j) u
 
 -- "Unused numbers are 0.": kinds 2 and 3 are asked where |RECCNT and |ENTCNT may stand
 of-parameter : (d p : ℕ) (f : Filter) → unusedZero (question d (kindOf f) p 0 0) ≡ true

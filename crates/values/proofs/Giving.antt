@@ -7,7 +7,7 @@ use lib.Dec.{leb}
 use lib.IntN.{ℤ, pos, negsuc}
 use Rattle.meaning.specs.Answer.{Answer}
 use Rattle.meaning.specs.Tree.{done, stop, ask, print, bind, finished}
-use Rattle.meaning.specs.Meaning.{Meaning}
+use Rattle.meaning.specs.Meaning.{Meaning, asksEach}
 use Rattle.meaning.specs.Place.{Place, Does, placesLeft, roomLeft, from}
 use Rattle.meaning.specs.Rule.{Rule, after, Keeps, AtEnd}
 use Rattle.meaning.specs.declared.question.Question.{Question}
@@ -23,7 +23,7 @@ use Rattle.values.specs.declared.fetch.Along.{Along}
 use Rattle.values.specs.Machine.{Machine}
 use Rattle.values.specs.Worth.{answered, filtered, kindOf}
 use Rattle.values.specs.Meanings.{indexNumber, limited, indexValue, asks, cellMeaning, worthOf, operandMeaning, argumentMeaning}
-use Rattle.values.specs.Fetching.{firstOf, asksEach, countValue, asksElements, elementQuestion, elementQuestions, fetchMeaning}
+use Rattle.values.specs.Fetching.{firstOf, countValue, asksElements, elementQuestion, elementQuestions, fetchMeaning}
 
 -- The tree prints nothing, and where it is done with a, Φ a holds.
 abbrev pub Gives : {A : Type 0} → Meaning A → (A → Type 0) → Type 0

@@ -12,7 +12,7 @@ use Rattle.meaning.specs.Each.{Each}
 use Rattle.meaning.specs.Answer as A
 use Rattle.meaning.specs.Answer.{Answer, cell, highest}
 use Rattle.meaning.specs.Tree.{done, stop, ask, bind}
-use Rattle.meaning.specs.Meaning.{Meaning}
+use Rattle.meaning.specs.Meaning.{Meaning, asksEach}
 use Rattle.meaning.specs.declared.question.Question.{Question}
 use Rattle.meaning.specs.declared.refusal.Refusal.{Refusal}
 use Rattle.meaning.specs.declared.refusal.Refusal.the-variants.{BadIndex}
@@ -36,8 +36,8 @@ use Rattle.values.specs.Letters.{upper}
 use Rattle.values.specs.Machine.{Machine, numbered}
 use Rattle.values.specs.Worth.{Worth, missing, wrong, number, string, answered, absolute, filteredNumber, filteredString, filtered, kindOf}
 use Rattle.values.specs.Meanings.{indexNumber, indexValue, question, asks, cellMeaning, worthOf, element, operandMeaning, argumentMeaning}
-use Rattle.values.specs.Fetching.{elementQuestion, elementQuestions, asksEach, countValue, firstOf, asksElements, fetchMeaning}
-use Rattle.values.specs.State.{answers}
+use Rattle.values.specs.Fetching.{elementQuestion, elementQuestions, countValue, firstOf, asksElements, fetchMeaning}
+use Rattle.values.specs.Source.{answers}
 use Rattle.values.proofs.Keeping.{absolute-integer, absolute-decimal}
 
 -- "SV1–SV99 hold up to 16 bytes each, IV integers, FV decimals"; strings of cells and of the template have "0–16 bytes"
@@ -101,8 +101,8 @@ numbered-there d e l (suc k) h = getD-there d e l k (omega (arith, h .most))
 pub answered-within : (a : Answer) → AnswerWithin a → WorthWithin (answered a)
 unfolding answered
 answered-within A.missing h = tt
-answered-within (cell (A.integer z)) h = h
-answered-within (cell (A.decimal z)) h = h
+answered-within (cell (A.number (Integer z))) h = h
+answered-within (cell (A.number (Decimal z))) h = h
 answered-within (cell (A.string s)) h = h
 answered-within (highest n) h = omega arith
 

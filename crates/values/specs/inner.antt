@@ -1,2 +1,4 @@
 pub mod Word
 pub mod Yielding
+pub mod Fetch
+pub mod State

@@ -6,8 +6,8 @@ ghost use Prim.Native.Nat.{_≤_};
 ghost use lib.ListN.{length, take, drop};
 ghost use Rattle.values.specs.Letters as L;
 ghost use Rattle.values.specs.Letters.{equalStrings};
-ghost use Rattle.values.specs.State.{cased, textOf};
-ghost use Rattle.values.specs.State as S;
+ghost use Rattle.values.specs.inner.State.{cased, textOf};
+ghost use Rattle.values.specs.inner.State as S;
 ghost use Rattle.values.specs.inner.Yielding.{Sized};
 
 // "A string argument lies in the template, in a cell or in an SV."

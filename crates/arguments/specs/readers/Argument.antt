@@ -1,4 +1,4 @@
--- Operands with filters. Assumes nothing.
+-- Operands with filters.
 use mathlib.Core.Bool.{cond}
 use mathlib.Core.List.{List, [], _∷_}
 use Prim.Native.Nat.{ℕ, _+_}

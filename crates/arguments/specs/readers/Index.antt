@@ -1,4 +1,4 @@
--- Indexes. Assumes nothing.
+-- Indexes.
 use mathlib.Core.Bool.{cond}
 use mathlib.Core.List.{List}
 use Prim.Native.Nat.{ℕ, _+_}

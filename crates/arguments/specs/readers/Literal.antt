@@ -1,4 +1,4 @@
--- Integers and decimals. Assumes nothing.
+-- Integers and decimals.
 use mathlib.Core.Bool.{Bool, true, false, cond}
 use mathlib.Core.List.{List}
 use Prim.Native.Nat.{ℕ, _+_, _-_, _*_, _^_}

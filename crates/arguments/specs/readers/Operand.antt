@@ -1,4 +1,4 @@
--- What stands before a filter. Assumes nothing.
+-- What stands before a filter.
 use mathlib.Core.Bool.{cond}
 use mathlib.Core.List.{List, [], _∷_}
 use Prim.Native.Nat.{ℕ, _+_}

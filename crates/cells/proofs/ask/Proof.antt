@@ -1,4 +1,4 @@
--- The index decides 1, the question 15; else the answer is the one over the index. Assumes nothing.
+-- The index decides 1, the question 15; else the answer is the one over the index.
 use native.Mathlib.Omega.{arith}
 use Prim.Native.Nat.{ℕ}
 use lib.ListN.{length-replicate}

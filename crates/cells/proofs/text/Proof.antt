@@ -1,4 +1,4 @@
--- A part past the end is cut to what there is. Assumes nothing.
+-- A part past the end is cut to what there is.
 use denote.Ref.{now}
 use Rattle.cells.proofs.Replies.{text-past, text-cut, text-in}
 use borrow.Author.Needs.{needs}

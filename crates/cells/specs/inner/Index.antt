@@ -13,7 +13,7 @@ use Rattle.cells.specs.declared.Answered.{Answered}
 use Rattle.cells.specs.declared.index.Indexed.{Indexed}
 use Rattle.cells.specs.declared.index.Indexed.the-variants.{Count, BadStore}
 use Rattle.cells.specs.Bytes.{pairAt}
-use Rattle.cells.specs.Cell.{Cell, number, numberOf, keyAt, cellAllowed, cellBytes}
+use Rattle.cells.specs.Cell.{Cell, number, keyNumber, keyAt, cellAllowed, cellBytes}
 use Rattle.cells.specs.Store.{held}
 use Rattle.cells.specs.Asking.{questionAllowed, lookup, found, answer, meant, InStore}
 
@@ -75,8 +75,8 @@ pub record CellAnswer (b places : List ℕ) (count k : ℕ) (r : Answered) : Typ
 
 -- r is the number that a cell has at an offset: the last of cs whose key lies from low up to end, or 0 if none does
 pub data LastOf (cs : List Cell) (low end offset : ℕ) : ℕ → Type 0 where
-  nothing : ((xs : List Cell) (c : Cell) (ys : List Cell) → cs ≡ xs ++ (c ∷ ys) → low ≤ numberOf c → numberOf c < end → ⊥) → LastOf cs low end offset 0
-  last : {r : ℕ} (xs : List Cell) (c : Cell) (ys : List Cell) → cs ≡ xs ++ (c ∷ ys) → low ≤ numberOf c → numberOf c < end → r ≡ pairAt (cellBytes c) offset → ((vs : List Cell) (d : Cell) (ws : List Cell) → cs ≡ vs ++ (d ∷ ws) → numberOf d < end → numberOf d ≤ numberOf c) → LastOf cs low end offset r
+  nothing : ((xs : List Cell) (c : Cell) (ys : List Cell) → cs ≡ xs ++ (c ∷ ys) → low ≤ keyNumber c → keyNumber c < end → ⊥) → LastOf cs low end offset 0
+  last : {r : ℕ} (xs : List Cell) (c : Cell) (ys : List Cell) → cs ≡ xs ++ (c ∷ ys) → low ≤ keyNumber c → keyNumber c < end → r ≡ pairAt (cellBytes c) offset → ((vs : List Cell) (d : Cell) (ws : List Cell) → cs ≡ vs ++ (d ∷ ws) → keyNumber d < end → keyNumber d ≤ keyNumber c) → LastOf cs low end offset r
 
 pub record Highest (b places : List ℕ) (count low end offset r : ℕ) : Type 0 where
   pub last : (n : ℕ) (cs : List Cell) → Ready b n places count cs → LastOf cs low end offset r

@@ -6,11 +6,11 @@ use Prim.Native.Nat.{ℕ, _≤_}
 use lib.ListN.{length}
 use Rattle.cells.specs.declared.request.Request.{Request}
 use Rattle.cells.specs.declared.request.Request.the-variants as R
-use Rattle.cells.specs.Cell.{Key, Cell, number, numberOf}
+use Rattle.cells.specs.Cell.{Key, Cell, number, keyNumber}
 
 unfoldable pub requested : Option Cell → Request
 requested none = R.Bad
-requested (some c) = R.Key (numberOf c)
+requested (some c) = R.Key (keyNumber c)
 
 unfoldable pub requestedKey : Option Key → Request
 requestedKey none = R.Bad

@@ -1,21 +1,23 @@
--- The form of a cell as the code tests it, by places in the bytes.
+-- The form of a cell as the code tests it, by places in the bytes; and the numbers of a question.
 use mathlib.Core.Path.{_≡_}
-use mathlib.Core.Bool.{Bool, cond, _&&_}
+use mathlib.Core.Bool.{Bool, true, false, cond, _&&_}
 use mathlib.Core.List.{List}
 use mathlib.Core.Option.{Option, none, some}
 use Prim.Native.Nat.{ℕ, _+_, _-_, _≤_, _<_}
 use lib.Dec.{leb, eqb}
 use lib.ListN.{length, getD, take, drop}
+use Rattle.meaning.specs.declared.question.Question.{Question}
 use Rattle.numbers.specs.Range.{integerLimit, decimalLimit, within}
-use Rattle.cells.specs.Bytes.{quadAt, octetAt, signed, word, long}
-use Rattle.cells.specs.Cell.{Key, Cell, between, each, printable, integerKind, decimalKind, stringKind, cellBytes, front}
+use Rattle.cells.specs.Bytes.{quadAt, octetAt, fromComplement, word, long}
+use Rattle.cells.specs.Cell.{between, each, printable, Kind, kinds, rowIn, integerKind, decimalKind, Cell, cellBytes, front}
 
-abbrev pub keyOf : ℕ → ℕ → ℕ → ℕ → Key
-keyOf d p r e = record { datasource = d; parameter = p; recordNumber = r; entryNumber = e }
+-- how many bytes a cell of a kind has: the byte of kind, the key, the value; 0 where there is no such kind
+unfoldable pub sizeBy : Option Kind → ℕ
+sizeBy none = 0
+sizeBy (some k) = 8 + k .size
 
--- how many bytes a cell of each kind has
 unfoldable pub sizeOf : ℕ → ℕ
-sizeOf k = cond (eqb k integerKind) 12 (cond (eqb k decimalKind) 16 (cond (eqb k stringKind) 25 0))
+sizeOf k = sizeBy (rowIn kinds k)
 
 abbrev pub zeros : List ℕ → Bool
 zeros s = each (between 0 0) s
@@ -29,8 +31,8 @@ unfoldable pub valueFormed : List ℕ → Bool
 valueFormed s =
     cond
     (eqb (getD s 0 0) integerKind)
-    (within integerLimit (signed word (quadAt s 8)))
-    (cond (eqb (getD s 0 0) decimalKind) (within decimalLimit (signed long (octetAt s 8))) (stringFormed s))
+    (within integerLimit (fromComplement word (quadAt s 8)))
+    (cond (eqb (getD s 0 0) decimalKind) (within decimalLimit (fromComplement long (octetAt s 8))) (stringFormed s))
 
 -- how many bytes the cell has that s begins with, 0 where there is none
 unfoldable pub sizeFound : Option Cell → ℕ
@@ -45,3 +47,11 @@ pub record Sized (s : List ℕ) (r : ℕ) : Type 0 where
   pub size : r ≡ frontSize s
   pub inside : r ≤ length s
   pub least : 0 < r → 12 ≤ r
+
+-- the numbers that a question doesn't use, by its kind
+unfoldable pub unusedZero : Question → Bool
+unusedZero q =
+    cond
+    (eqb (q .kind) 1)
+    true
+    (cond (eqb (q .kind) 2) (eqb (q .«record») 0 && eqb (q .entry) 0) (cond (eqb (q .kind) 3) (eqb (q .entry) 0) false))

@@ -1,4 +1,4 @@
--- How the code finds a command: by the number k of its word in a table. Assumes nothing.
+-- How the code finds a command: by the number k of its word in a table.
 use mathlib.Core.Bool.{cond}
 use mathlib.Core.List.{List}
 use Prim.Native.Nat.{ℕ}

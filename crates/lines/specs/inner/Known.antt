@@ -1,5 +1,4 @@
 -- How the code reads a line that check 3 has passed: as parseLine does, by a law (proofs/KnownLaws), but no text is judged again.
--- Assumes nothing.
 use mathlib.Core.Bool.{cond}
 use mathlib.Core.List.{List}
 use Prim.Native.Nat.{ℕ, _+_}

@@ -1,4 +1,4 @@
--- "word, then arguments, one space before each", and nothing behind the last. Assumes nothing.
+-- "word, then arguments, one space before each", and nothing behind the last.
 use mathlib.Core.Bool.{cond}
 use mathlib.Core.List.{List}
 use Prim.Native.Nat.{ℕ, _+_}

@@ -1,4 +1,4 @@
--- What a line is: "Commands", each by its word and what stands behind it. Assumes nothing.
+-- What a line is: "Commands", each by its word and what stands behind it.
 use mathlib.Core.Bool.{cond}
 use mathlib.Core.List.{List, [], _∷_}
 use Prim.Native.Nat.{ℕ}

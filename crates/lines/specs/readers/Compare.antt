@@ -1,5 +1,4 @@
 -- "`$IFEQ`, `$IFNE`, `$IFLT`, `$IFLE`, `$IFGT`, `$IFGE` (two numbers, by value); `$IFEQSS`, `$IFEQSI` (two strings ..)".
--- Assumes nothing.
 use mathlib.Core.List.{List}
 use Prim.Native.Nat.{ℕ}
 use Rattle.arguments.specs.readers.Argument.{argumentAt}

@@ -1,4 +1,4 @@
--- "`$REC n Pm record entry count` fills Rn"; "`$TBL` the same for Tn". Assumes nothing.
+-- "`$REC n Pm record entry count` fills Rn"; "`$TBL` the same for Tn".
 use mathlib.Core.Bool.{cond}
 use mathlib.Core.List.{List}
 use Prim.Native.Nat.{ℕ, _+_}

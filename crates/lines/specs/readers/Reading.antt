@@ -1,4 +1,4 @@
--- What was read in a line, with the place behind it, handed on; or what stands for its lack. Assumes nothing.
+-- What was read in a line, with the place behind it, handed on; or what stands for its lack.
 use Prim.Native.Nat.{ℕ}
 use Rattle.scan.specs.declared.digits.Numeral.{Numeral}
 use Rattle.scan.specs.declared.digits.Numeral.the-variants.{Value, NoNumeral}

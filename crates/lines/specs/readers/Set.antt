@@ -1,4 +1,4 @@
--- "`$SETE`, `$SETA`, `$SETS`, `$SETM`, `$SETD` variable argument", and "`$SETDS n`". Assumes nothing.
+-- "`$SETE`, `$SETA`, `$SETS`, `$SETM`, `$SETD` variable argument", and "`$SETDS n`".
 use mathlib.Core.List.{List}
 use Prim.Native.Nat.{ℕ}
 use Rattle.arguments.specs.declared.operand.Operand.{Operand}

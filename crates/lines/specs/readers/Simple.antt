@@ -1,4 +1,4 @@
--- Commands of one argument, of none, and of one that may be absent. Assumes nothing.
+-- Commands of one argument, of none, and of one that may be absent.
 use mathlib.Core.Bool.{cond}
 use mathlib.Core.List.{List}
 use Prim.Native.Nat.{ℕ}

@@ -1,4 +1,4 @@
--- "`$SEC name`", "`$PHn text`", "`$REM`". Assumes nothing.
+-- "`$SEC name`", "`$PHn text`", "`$REM`".
 use mathlib.Core.Bool.{cond}
 use mathlib.Core.List.{List}
 use Prim.Native.Nat.{ℕ, _+_}

@@ -1,4 +1,4 @@
--- How the code holds what is open: as digits in base 5, the innermost lowest. Assumes nothing.
+-- How the code holds what is open: as digits in base 5, the innermost lowest.
 use mathlib.Core.Path.{_≡_}
 use mathlib.Core.Bool.{Bool, cond}
 use mathlib.Core.List.{List, [], _∷_}

@@ -17,7 +17,7 @@ use Rattle.pages.specs.declared.page.Turned.{Turned}
 use Rattle.pages.specs.declared.heading.Heading.{Heading}
 use Rattle.pages.specs.declared.step.Paged.{Paged}
 use Rattle.texts.specs.Pieces.{piecesOf, fieldCount}
-use Rattle.pages.specs.inner.Pass.{Lent, machineOf, Sourced, Sayable}
+use Rattle.rendering.specs.inner.Pass.{Lent, machineOf, Sourced, Sayable}
 use Rattle.pages.specs.Page.{sayMeaning, headLine, headFrom, headsMeaning, highestOf, breakMeaning, turnMeaning, topMeaning, lineStep}
 
 -- what a line is executed in on a page, where it names line k

@@ -1,4 +1,4 @@
--- Digits and numbers in a line. Assumes nothing.
+-- Digits and numbers in a line.
 use mathlib.Core.Bool.{cond}
 use mathlib.Core.List.{List}
 use Prim.Native.Nat.{ℕ, _+_}

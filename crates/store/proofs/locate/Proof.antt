@@ -1,4 +1,4 @@
--- The position tells the cells with lower keys from the others. Assumes nothing.
+-- The position tells the cells with lower keys from the others.
 use Rattle.store.proofs.Slots.{slot-past, slot-found, slot-free}
 use borrow.Author.Needs.{needs}
 use Rattle.store.proofs.locate.Statement.{statement}

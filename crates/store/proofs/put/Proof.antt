@@ -1,4 +1,4 @@
--- The index decides 1, the request 15, the new length 16; else the slot gives way to the cell. Assumes nothing.
+-- The index decides 1, the request 15, the new length 16; else the slot gives way to the cell.
 use native.Mathlib.Omega.{arith}
 use Prim.Native.Nat.{ℕ}
 use denote.Ref.{now}

@@ -1,4 +1,4 @@
--- The index decides 1, the request 15, the slot 17; else the cells behind it move up to its place. Assumes nothing.
+-- The index decides 1, the request 15, the slot 17; else the cells behind it move up to its place.
 use native.Mathlib.Omega.{arith}
 use Prim.Native.Nat.{ℕ, _+_, _≤_}
 use denote.Ref.{now}

@@ -1,4 +1,4 @@
--- The fields of texts and headings. Assumes nothing.
+-- The fields of texts and headings.
 use mathlib.Core.Bool.{Bool, false, cond}
 use mathlib.Core.List.{List, [], _∷_}
 use mathlib.Core.Option.{Option, none, some}

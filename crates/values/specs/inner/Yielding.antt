@@ -27,7 +27,8 @@ use Rattle.values.specs.declared.worth.Valued.{Valued}
 use Rattle.values.specs.inner.Word.{questions}
 use Rattle.values.specs.Worth.{Worth, answered}
 use Rattle.values.specs.Meanings.{question, asks, element, operandMeaning, argumentMeaning}
-use Rattle.values.specs.State.{answers, Strings, strings, meant, fetched, machine}
+use Rattle.values.specs.Source.{answers}
+use Rattle.values.specs.inner.State.{Strings, strings, meant, fetched, machine}
 
 -- an index from 0 to 999, or 1000
 unfoldable pub placeOf : ℤ → ℕ

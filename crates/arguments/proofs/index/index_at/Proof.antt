@@ -4,7 +4,6 @@ use Rattle.scan.proofs.DigitLaws.{digits-within}
 use borrow.Author.Tests.{eq-eqb, ne-eqb}
 use Rattle.arguments.specs.readers.Index.{indexAt, variableIndex}
 use mathlib.Core.Path.{sym, _∙_}
-use borrow.Author.Tests.{eq-eqb, ne-eqb}
 use native.Mathlib.Omega.{arith}
 use borrow.Author.Needs.{needs}
 use Rattle.arguments.proofs.index.index_at.Statement.{statement}

@@ -1,4 +1,4 @@
--- The bytes are those that the definition reads. Assumes nothing.
+-- The bytes are those that the definition reads.
 use native.Mathlib.Omega.{arith}
 use Rattle.cells.specs.Cell.{number, keyAt}
 use borrow.Author.Needs.{needs}

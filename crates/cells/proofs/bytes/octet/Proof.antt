@@ -1,4 +1,4 @@
--- The bytes are those that the definition reads. Assumes nothing.
+-- The bytes are those that the definition reads.
 use mathlib.Core.Path.{_≡_, ap}
 use native.Mathlib.Omega.{arith}
 use denote.Ref.{now}

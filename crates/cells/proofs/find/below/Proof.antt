@@ -1,4 +1,4 @@
--- The highest bit of the wrapped difference. Assumes nothing.
+-- The highest bit of the wrapped difference.
 use native.Mathlib.Omega.{arith}
 use Rattle.cells.proofs.Halving.{wrapped-below}
 use borrow.Author.Needs.{needs}

@@ -1,4 +1,4 @@
--- The key is what stands before the byte. Assumes nothing.
+-- The key is what stands before the byte.
 use native.Mathlib.Omega.{arith}
 use Rattle.cells.proofs.Halving.{key-past, key-above, key-level}
 use borrow.Author.Needs.{needs}

@@ -1,4 +1,4 @@
--- Past its end a list has the default. Assumes nothing.
+-- Past its end a list has the default.
 use mathlib.Core.Path.{sym}
 use denote.Ref.{now}
 use lib.ListN.{List·getD-eq-default}

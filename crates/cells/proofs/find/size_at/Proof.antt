@@ -1,4 +1,4 @@
--- The kind says how many bytes the cell has. Assumes nothing.
+-- The kind says how many bytes the cell has.
 use Rattle.cells.proofs.Values.{size-in, size-past}
 use borrow.Author.Needs.{needs}
 use Rattle.cells.proofs.find.size_at.Statement.{statement}

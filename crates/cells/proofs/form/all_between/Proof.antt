@@ -1,4 +1,4 @@
--- The loop keeps: what is left of the bytes is within the limits just when all of them are. Assumes nothing.
+-- The loop keeps: what is left of the bytes is within the limits just when all of them are.
 use mathlib.Core.Path.{_≡_, refl, sym, _∙_}
 use Prim.Native.Nat.{_-_}
 use lib.ListN.{length, drop}

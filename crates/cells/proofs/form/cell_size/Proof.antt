@@ -1,4 +1,4 @@
--- Each test that fails leaves no cell; where all pass, the bytes begin with a cell. Assumes nothing.
+-- Each test that fails leaves no cell; where all pass, the bytes begin with a cell.
 use Rattle.cells.proofs.CellForm.{room-for-key, no-bytes, unknown-kind, cut-short, refused-key, refused-value, sized-cell}
 use denote.Ref.{now}
 use borrow.Author.Needs.{needs}

@@ -1,4 +1,4 @@
--- The four numbers are those of the key. Assumes nothing.
+-- The four numbers are those of the key.
 use Rattle.cells.specs.Cell.{keyAt}
 use borrow.Author.Needs.{needs}
 use Rattle.cells.proofs.form.key_allowed.Statement.{statement}

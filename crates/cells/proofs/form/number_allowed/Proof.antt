@@ -1,4 +1,4 @@
--- A number above half of the highest is negative. Assumes nothing.
+-- A number above half of the highest is negative.
 use Rattle.cells.proofs.Laws.{allowed-positive, allowed-negative}
 use borrow.Author.Needs.{needs}
 use Rattle.cells.proofs.form.number_allowed.Statement.{statement}

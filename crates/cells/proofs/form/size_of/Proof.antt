@@ -1,4 +1,4 @@
--- Each test is one of the definition's, in its order. Assumes nothing.
+-- Each test is one of the definition's, in its order.
 use Rattle.cells.proofs.Laws.{size-of-integer, size-of-decimal, size-of-string, size-of-none}
 use Rattle.cells.proofs.form.size_of.Statement.{statement}
 use Rattle.cells.proofs.form.size_of.Tie as tie

@@ -1,4 +1,4 @@
--- The bytes behind the length are tested in two stretches. Assumes nothing.
+-- The bytes behind the length are tested in two stretches.
 use Rattle.cells.proofs.Laws.{text-long, text-unprintable, text-all}
 use borrow.Author.Needs.{needs}
 use Rattle.cells.proofs.form.string_allowed.Statement.{statement}

@@ -1,4 +1,4 @@
--- The kind picks the test, as in the definition. Assumes nothing.
+-- The kind picks the test, as in the definition.
 use native.Mathlib.Omega.{arith}
 use Rattle.cells.proofs.CellForm.{size-integer, size-decimal, size-string}
 use Rattle.cells.proofs.Laws.{value-of-integer, value-of-decimal, value-of-string}

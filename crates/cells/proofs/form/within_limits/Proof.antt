@@ -1,4 +1,4 @@
--- Each test is one of the definition's, in its order. Assumes nothing.
+-- Each test is one of the definition's, in its order.
 use borrow.Author.Tests.{le-leb, lt-leb}
 use Rattle.cells.specs.Cell.{keyAllowed}
 use Rattle.cells.proofs.Laws.{between-low, between-high, between-in}

@@ -1,4 +1,4 @@
--- The store is longer than its buffer or than 65,536 bytes, or the walk decides. Assumes nothing.
+-- The store is longer than its buffer or than 65,536 bytes, or the walk decides.
 use Rattle.cells.proofs.Walking.{build-past, build-over, build-walk}
 use borrow.Author.Needs.{needs}
 use Rattle.cells.proofs.index.build.Statement.{statement}

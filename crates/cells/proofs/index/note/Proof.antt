@@ -1,4 +1,4 @@
--- Past its end nothing is stored. Assumes nothing.
+-- Past its end nothing is stored.
 use mathlib.Core.Path.{sym}
 use lib.Seq.{set-out}
 use borrow.Author.Needs.{needs}

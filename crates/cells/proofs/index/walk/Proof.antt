@@ -1,4 +1,4 @@
--- The loop keeps what `Walked` says: the bytes passed are those of cells in form, whose places are written down. Assumes nothing.
+-- The loop keeps what `Walked` says: the bytes passed are those of cells in form, whose places are written down.
 use native.Mathlib.Omega.{arith}
 use Prim.Native.Nat.{_-_}
 use lib.ListN.{length}

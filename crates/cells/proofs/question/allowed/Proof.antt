@@ -1,7 +1,6 @@
--- Each test is one of the definition's, in its order. Assumes nothing.
+-- Each test is one of the definition's, in its order.
 use mathlib.Core.Path.{_≡_, _∙_}
-use Rattle.cells.specs.Cell.{keyAllowed}
-use Rattle.cells.specs.inner.Tests.{keyOf}
+use Rattle.cells.specs.Cell.{keyOf, keyAllowed}
 use Rattle.cells.specs.Asking.{asked}
 use Rattle.cells.proofs.Questions.{refused-limits, allowed-one, refused-record, allowed-two, allowed-three, refused-kind}
 use borrow.Author.Needs.{needs}

@@ -1,4 +1,4 @@
--- The kind picks the answer, as in the definition. Assumes nothing.
+-- The kind picks the answer, as in the definition.
 use native.Mathlib.Omega.{arith}
 use Rattle.cells.proofs.Questions.{answers-refused, key-inside, answers-cell, answers-highest, reach-most, offset-most}
 use denote.Ref.{now}

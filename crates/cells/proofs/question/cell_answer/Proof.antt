@@ -1,4 +1,4 @@
--- The cell at the position has the key, or none has. Assumes nothing.
+-- The cell at the position has the key, or none has.
 use Rattle.cells.proofs.Answering.{cell-past, cell-found, cell-other}
 use borrow.Author.Needs.{needs}
 use Rattle.cells.proofs.question.cell_answer.Statement.{statement}

@@ -1,4 +1,4 @@
--- The cell before the position is the last whose key is below the end. Assumes nothing.
+-- The cell before the position is the last whose key is below the end.
 use native.Mathlib.Omega.{arith}
 use Rattle.cells.proofs.Answering.{highest-first, highest-none-in, highest-last}
 use borrow.Author.Needs.{needs}

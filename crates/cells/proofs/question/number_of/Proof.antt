@@ -1,4 +1,4 @@
--- Within the limits nothing overflows. Assumes nothing.
+-- Within the limits nothing overflows.
 use native.Mathlib.Omega.{arith}
 use Rattle.cells.specs.Cell.{number}
 use Rattle.cells.proofs.CellForm.{limits}

@@ -1,4 +1,4 @@
--- The bytes are one cell just when the cell that they begin with is as long as they are. Assumes nothing.
+-- The bytes are one cell just when the cell that they begin with is as long as they are.
 use native.Mathlib.Omega.{arith}
 use Rattle.cells.proofs.Requests.{request-none, request-more, request-cell}
 use borrow.Author.Needs.{needs}

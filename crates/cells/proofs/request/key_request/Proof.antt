@@ -1,4 +1,4 @@
--- The bytes are a key just when there are 7 of them, within the limits. Assumes nothing.
+-- The bytes are a key just when there are 7 of them, within the limits.
 use Rattle.cells.proofs.Requests.{key-short, key-long, key-out, key-in}
 use borrow.Author.Needs.{needs}
 use Rattle.cells.proofs.request.key_request.Statement.{statement}

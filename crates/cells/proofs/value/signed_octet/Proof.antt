@@ -1,4 +1,4 @@
--- A number above half of the highest is negative: -1 - (2^64 - 1 - n) is n - 2^64. Assumes nothing.
+-- A number above half of the highest is negative: -1 - (2^64 - 1 - n) is n - 2^64.
 use native.Mathlib.Omega.{arith}
 use mathlib.Core.Path.{_∙_}
 use Prim.Native.Nat.{_-_, _<_, _^_}

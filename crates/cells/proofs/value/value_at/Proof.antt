@@ -1,4 +1,4 @@
--- The bytes are those of the cell that begins at the place, if one does. Assumes nothing.
+-- The bytes are those of the cell that begins at the place, if one does.
 use native.Mathlib.Omega.{arith}
 use mathlib.Core.Path.{refl}
 use Rattle.cells.proofs.CellForm.{size-integer, size-decimal}

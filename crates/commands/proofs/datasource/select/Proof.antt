@@ -4,7 +4,6 @@ use mir.ValLaws.{toZ-ofZ}
 use mir.Val.{SFits}
 use mir.Syntax.{w64}
 use borrow.Author.Needs.{needs}
-use borrow.Author.Needs.{needs}
 use Rattle.commands.proofs.datasource.select.Statement.{statement}
 use Rattle.commands.proofs.datasource.select.Tie as tie
 

@@ -1,5 +1,5 @@
 -- The definition counts from 1.
-use Rattle.commands.proofs.Sets.{put-none, put-in, put-past}
+use Rattle.assignments.proofs.Sets.{put-none, put-in, put-past}
 use mathlib.Core.Path.{refl}
 use borrow.Author.Needs.{needs}
 use Rattle.commands.proofs.fetching.put_word.Statement.{statement}

@@ -1,14 +1,17 @@
-use Rattle.execution.proofs.Lining.{past-ready, form-ready, form-parsed, line-executes}
+-- The line is split, parsed and handed to the lines that set or to those that only read.
+use Rattle.execution.proofs.Lining.{past-ready, form-parsed, update-ready, read-ready, line-executes}
 use borrow.Author.Needs.{needs}
 use Rattle.execution.proofs.line.line.Statement.{statement}
 use Rattle.execution.proofs.line.line.Tie as tie
 use Rattle.execution.proofs.line.line.Reads as reads
 use Rattle.execution.proofs.line.line.Lts as lts
-use Rattle.execution.proofs.flow.past.Reads as past-reads
-use Rattle.execution.proofs.flow.scene_of.Reads as scene-of-reads
-use Rattle.execution.proofs.line.execute.Reads as execute-reads
+use Rattle.control.proofs.flow.past.Reads as past-reads
+use Rattle.control.proofs.flow.scene_of.Reads as scene-of-reads
 use Rattle.lines.proofs.command.form_of.Reads as form-of-reads
+use Rattle.readonly.proofs.read.execute.Reads as read-execute-reads
 use Rattle.scan.proofs.bytes.line_of.Reads as line-of-reads
+use Rattle.updates.proofs.update.execute.Reads as update-execute-reads
+use Rattle.updates.proofs.update.is_update.Reads as is-update-reads
 
 sub-line-of : tie.Need-sub-line-of
 sub-line-of c = search needs
@@ -31,8 +34,11 @@ scene-of-requires c κs = search needs
 past-requires : tie.Need-past-requires
 past-requires c κs = past-ready (c .before .before .before .before .before .before .before .before .before .before .before .before .pre) (c .before .before .line-of .ensures)
 
+is-update-requires : tie.Need-is-update-requires
+is-update-requires c κs = search needs
+
 execute-requires : tie.Need-execute-requires
-execute-requires c κs = form-ready (c .before .before .before .before .before .before .before .before .before .before .before .before .before .before .before .before .before .before .before .before .before .before .pre) (c .before .before .before .before .before .before .before .before .before .before .before .before .line-of .ensures) (c .before .before .before .before .before .before .before .before .before .before .scene-of .ensures) (c .before .before .before .before .before .before .before .before .before .past .ensures) (form-parsed (c .before .before .before .before .before .before .before .before .before .before .before .before .before .before .before .before .before .before .before .before .before .before .pre) (c .before .before .before .before .before .before .before .before .before .before .before .before .line-of .ensures) (c .before .before .before .before .before .before .before .before .before .before .before .form-of .ensures))
+execute-requires c κs = update-ready (c .before .before .before .before .before .before .before .before .before .before .before .before .before .before .before .before .before .before .before .before .before .before .before .pre) (c .before .before .before .before .before .before .before .before .before .before .before .before .before .line-of .ensures) (c .before .before .before .before .before .before .before .before .before .before .before .scene-of .ensures) (c .before .before .before .before .before .before .before .before .before .before .past .ensures) (form-parsed (c .before .before .before .before .before .before .before .before .before .before .before .before .before .before .before .before .before .before .before .before .before .before .before .pre) (c .before .before .before .before .before .before .before .before .before .before .before .before .before .line-of .ensures) (c .before .before .before .before .before .before .before .before .before .before .before .before .form-of .ensures)) _ (c .before .before .before .before .before .before .before .before .before .is-update .ensures) (c .before .before .before .before .before .before .before .before .if1 .taken)
 
 same-length : tie.Need-same-length
 same-length c = search needs
@@ -52,11 +58,35 @@ same-length-5 c = search needs
 same-length-6 : tie.Need-same-length-6
 same-length-6 c = search needs
 
+returns : tie.Need-returns
+returns c = line-executes (c .before .before .before .before .before .before .before .before .before .before .before .before .before .before .before .before .before .before .before .before .before .before .before .before .before .before .before .before .before .before .before .before .before .before .pre) (c .before .before .before .before .before .before .before .before .before .before .before .before .before .before .before .before .before .before .before .before .before .before .before .before .line-of .ensures) (c .before .before .before .before .before .before .before .before .before .before .before .before .before .before .before .before .before .before .before .before .before .before .scene-of .ensures) (c .before .before .before .before .before .before .before .before .before .before .before .before .before .before .before .before .before .before .before .before .before .past .ensures) (form-parsed (c .before .before .before .before .before .before .before .before .before .before .before .before .before .before .before .before .before .before .before .before .before .before .before .before .before .before .before .before .before .before .before .before .before .before .pre) (c .before .before .before .before .before .before .before .before .before .before .before .before .before .before .before .before .before .before .before .before .before .before .before .before .line-of .ensures) (c .before .before .before .before .before .before .before .before .before .before .before .before .before .before .before .before .before .before .before .before .before .before .before .form-of .ensures)) _ _ _ _ _ _ (c .before .before .before .before .before .before .before .before .before .before .execute .ensures .executes _ _)
+
+execute-requires-2 : tie.Need-execute-requires-2
+execute-requires-2 c κs = read-ready (c .before .before .before .before .before .before .before .before .before .before .before .before .before .before .before .before .before .before .before .before .before .before .before .before .pre) (c .before .before .before .before .before .before .before .before .before .before .before .before .before .before .line-of .ensures) (c .before .before .before .before .before .before .before .before .before .before .before .before .scene-of .ensures) (c .before .before .before .before .before .before .before .before .before .before .before .past .ensures) (form-parsed (c .before .before .before .before .before .before .before .before .before .before .before .before .before .before .before .before .before .before .before .before .before .before .before .before .pre) (c .before .before .before .before .before .before .before .before .before .before .before .before .before .before .line-of .ensures) (c .before .before .before .before .before .before .before .before .before .before .before .before .before .form-of .ensures)) _ (c .before .before .before .before .before .before .before .before .before .before .is-update .ensures) (c .before .before .before .before .before .before .before .before .before .if1 .left)
+
 same-length-7 : tie.Need-same-length-7
 same-length-7 c = search needs
 
-returns : tie.Need-returns
-returns c = line-executes (c .before .before .before .before .before .before .before .before .before .before .before .before .before .before .before .before .before .before .before .before .before .before .before .before .before .before .before .before .before .before .before .before .before .before .before .pre) (c .before .before .before .before .before .before .before .before .before .before .before .before .before .before .before .before .before .before .before .before .before .before .before .before .before .line-of .ensures) (c .before .before .before .before .before .before .before .before .before .before .before .before .before .before .before .before .before .before .before .before .before .before .before .scene-of .ensures) (c .before .before .before .before .before .before .before .before .before .before .before .before .before .before .before .before .before .before .before .before .before .before .past .ensures) (form-parsed (c .before .before .before .before .before .before .before .before .before .before .before .before .before .before .before .before .before .before .before .before .before .before .before .before .before .before .before .before .before .before .before .before .before .before .before .pre) (c .before .before .before .before .before .before .before .before .before .before .before .before .before .before .before .before .before .before .before .before .before .before .before .before .before .line-of .ensures) (c .before .before .before .before .before .before .before .before .before .before .before .before .before .before .before .before .before .before .before .before .before .before .before .before .form-of .ensures)) _ _ _ _ _ _ (c .before .before .before .before .before .before .before .before .before .before .before .before .execute .ensures)
+same-length-8 : tie.Need-same-length-8
+same-length-8 c = search needs
+
+same-length-9 : tie.Need-same-length-9
+same-length-9 c = search needs
+
+same-length-10 : tie.Need-same-length-10
+same-length-10 c = search needs
+
+same-length-11 : tie.Need-same-length-11
+same-length-11 c = search needs
+
+same-length-12 : tie.Need-same-length-12
+same-length-12 c = search needs
+
+same-length-13 : tie.Need-same-length-13
+same-length-13 c = search needs
+
+returns-2 : tie.Need-returns-2
+returns-2 c = line-executes (c .before .before .before .before .before .before .before .before .before .before .before .before .before .before .before .before .before .before .before .before .before .before .before .before .before .before .before .pre) (c .before .before .before .before .before .before .before .before .before .before .before .before .before .before .before .before .before .line-of .ensures) (c .before .before .before .before .before .before .before .before .before .before .before .before .before .before .before .scene-of .ensures) (c .before .before .before .before .before .before .before .before .before .before .before .before .before .before .past .ensures) (form-parsed (c .before .before .before .before .before .before .before .before .before .before .before .before .before .before .before .before .before .before .before .before .before .before .before .before .before .before .before .pre) (c .before .before .before .before .before .before .before .before .before .before .before .before .before .before .before .before .before .line-of .ensures) (c .before .before .before .before .before .before .before .before .before .before .before .before .before .before .before .before .form-of .ensures)) _ _ _ _ _ _ (c .before .before .execute2 .ensures .executes _)
 
 pub line-spec : {M : Type 1} → statement M
 line-spec =
@@ -69,6 +99,7 @@ line-spec =
     form-of-requires
     scene-of-requires
     past-requires
+    is-update-requires
     execute-requires
     same-length
     same-length-2
@@ -76,5 +107,13 @@ line-spec =
     same-length-4
     same-length-5
     same-length-6
+    returns
+    execute-requires-2
     same-length-7
-    returns)
+    same-length-8
+    same-length-9
+    same-length-10
+    same-length-11
+    same-length-12
+    same-length-13
+    returns-2)

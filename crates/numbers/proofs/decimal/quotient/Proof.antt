@@ -1,4 +1,4 @@
--- `decimal::quotient` meets its contract. Assumes nothing.
+-- `decimal::quotient` meets its contract.
 use borrow.Author.Needs.{needs}
 use native.Mathlib.Omega.{arith}
 use mathlib.Core.Path.{sym, ap, _∙_}

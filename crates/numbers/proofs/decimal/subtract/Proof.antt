@@ -1,4 +1,4 @@
--- `decimal::subtract` meets its contract. Assumes nothing.
+-- `decimal::subtract` meets its contract.
 use borrow.Author.Needs.{needs}
 use Rattle.numbers.specs.Range.{decimalLimit}
 use Rattle.numbers.specs.Arithmetic.{differenceOf}

@@ -1,4 +1,4 @@
--- `integer::add` meets its contract. Assumes nothing.
+-- `integer::add` meets its contract.
 use borrow.Author.Needs.{needs}
 use Rattle.numbers.specs.Range.{integerLimit}
 use Rattle.numbers.specs.Arithmetic.{sumOf}

@@ -1,4 +1,4 @@
--- `integer::divide` meets its contract: a quotient is no longer than its dividend, so it fits and is in range. Assumes nothing.
+-- `integer::divide` meets its contract: a quotient is no longer than its dividend, so it fits and is in range.
 use borrow.Author.Needs.{needs}
 use native.Mathlib.Nat.{div-le-self}
 use native.Mathlib.Omega.{arith}

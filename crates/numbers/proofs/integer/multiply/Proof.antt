@@ -1,4 +1,4 @@
--- `integer::multiply` meets its contract: the product of two integers in range is at most 4×10^18, so 64 bits hold it. Assumes nothing.
+-- `integer::multiply` meets its contract: the product of two integers in range is at most 4×10^18, so 64 bits hold it.
 use borrow.Author.Needs.{needs}
 use native.Mathlib.Nat.{mul-le-mul}
 use native.Mathlib.Omega.{arith}

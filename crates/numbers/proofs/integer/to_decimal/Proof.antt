@@ -1,4 +1,4 @@
--- `integer::to_decimal` meets its contract. Assumes nothing.
+-- `integer::to_decimal` meets its contract.
 use borrow.Author.Needs.{needs}
 use borrow.Author.Tests.{not-true, not-false}
 use native.Mathlib.Omega.{arith}

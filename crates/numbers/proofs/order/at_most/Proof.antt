@@ -1,4 +1,4 @@
--- `order::at_most` meets its contract. Assumes nothing.
+-- `order::at_most` meets its contract.
 use borrow.Author.Needs.{needs}
 use mathlib.Core.Path.{ap, _∙_}
 use mathlib.Core.Bool.{not}

@@ -1,4 +1,4 @@
--- `order::equal` meets its contract: neither number is less than the other. Assumes nothing.
+-- `order::equal` meets its contract: neither number is less than the other.
 use borrow.Author.Needs.{needs}
 use mathlib.Core.Path.{sym, ap, _∙_}
 use mathlib.Core.Bool.{Bool, false, not, cond}

@@ -1,4 +1,4 @@
--- `order::less` meets its contract: whole parts decide where they differ, else the rests do. Assumes nothing.
+-- `order::less` meets its contract: whole parts decide where they differ, else the rests do.
 use borrow.Author.Needs.{needs}
 use mathlib.Core.Path.{_≡_, sym, ap, _∙_}
 use mir.Syntax.{w64}

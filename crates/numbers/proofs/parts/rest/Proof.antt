@@ -1,4 +1,4 @@
--- `parts::rest` meets its contract: an integer leaves no millionths. Assumes nothing.
+-- `parts::rest` meets its contract: an integer leaves no millionths.
 use borrow.Author.Needs.{needs}
 use native.Mathlib.Omega.{arith}
 use mathlib.Core.Path.{sym, ap, _∙_}

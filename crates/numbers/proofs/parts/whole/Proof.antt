@@ -1,4 +1,4 @@
--- `parts::whole` meets its contract: an integer is the quotient of its millionths. Assumes nothing.
+-- `parts::whole` meets its contract: an integer is the quotient of its millionths.
 use borrow.Author.Needs.{needs}
 use native.Mathlib.Omega.{arith}
 use mathlib.Core.Path.{sym, ap, _∙_}

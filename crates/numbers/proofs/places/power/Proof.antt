@@ -1,4 +1,4 @@
--- `places::power` meets its contract: the table is the one that `rising` makes. Assumes nothing.
+-- `places::power` meets its contract: the table is the one that `rising` makes.
 use borrow.Author.Needs.{needs}
 use mathlib.Core.Path.{_∙_}
 use native.Mathlib.Nat.{one-mul}

@@ -1,4 +1,4 @@
--- `range::absolute` meets its contract. Assumes nothing.
+-- `range::absolute` meets its contract.
 use borrow.Author.Needs.{needs}
 use mathlib.Core.Path.{ap, _∙_}
 use Prim.Native.Nat.{ℕ}

@@ -1,4 +1,4 @@
--- `range::both_in_range` meets its contract. Assumes nothing.
+-- `range::both_in_range` meets its contract.
 use borrow.Author.Needs.{needs}
 use mathlib.Core.Path.{_≡_, sym, _∙_}
 use Rattle.numbers.specs.Range.{within}

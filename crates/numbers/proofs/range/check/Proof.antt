@@ -1,4 +1,4 @@
--- `range::check` meets its contract. Assumes nothing.
+-- `range::check` meets its contract.
 use borrow.Author.Needs.{needs}
 use mathlib.Core.Path.{_≡_, sym, ap, _∙_}
 use mir.Syntax.{w64}

@@ -1,4 +1,4 @@
--- `range::check_signed` meets its contract. Assumes nothing.
+-- `range::check_signed` meets its contract.
 use borrow.Author.Needs.{needs}
 use native.Mathlib.Omega.{arith}
 use mathlib.Core.Path.{_≡_, sym, ap, _∙_}

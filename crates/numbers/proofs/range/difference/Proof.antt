@@ -1,4 +1,4 @@
--- `range::difference` meets its contract: the difference of two numbers in range is at most 4×10^15, so 64 bits hold it. Assumes nothing.
+-- `range::difference` meets its contract: the difference of two numbers in range is at most 4×10^15, so 64 bits hold it.
 use borrow.Author.Needs.{needs}
 use native.Mathlib.Omega.{arith}
 use lib.IntN.{_-ℤ_}

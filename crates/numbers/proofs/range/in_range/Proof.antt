@@ -1,4 +1,4 @@
--- `range::in_range` meets its contract. Assumes nothing.
+-- `range::in_range` meets its contract.
 use borrow.Author.Needs.{needs}
 use mathlib.Core.Path.{ap}
 use Prim.Native.Nat.{ℕ}

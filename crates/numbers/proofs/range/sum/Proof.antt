@@ -1,4 +1,4 @@
--- `range::sum` meets its contract: the sum of two numbers in range is at most 4×10^15, so 64 bits hold it. Assumes nothing.
+-- `range::sum` meets its contract: the sum of two numbers in range is at most 4×10^15, so 64 bits hold it.
 use borrow.Author.Needs.{needs}
 use native.Mathlib.Omega.{arith}
 use lib.IntN.{_+ℤ_}

@@ -1,4 +1,4 @@
--- `sign::magnitude` meets its contract: of a negative number, -1 - x is one less than the magnitude. Assumes nothing.
+-- `sign::magnitude` meets its contract: of a negative number, -1 - x is one less than the magnitude.
 use borrow.Author.Needs.{needs}
 use native.Mathlib.Omega.{arith}
 use mir.Syntax.{w64}

@@ -1,4 +1,4 @@
--- `sign::opposite` meets its contract. Assumes nothing.
+-- `sign::opposite` meets its contract.
 use borrow.Author.Needs.{needs}
 use mathlib.Core.Bool.{Bool, not, Bool·beq}
 use lib.IntN.{ℤ, pos}

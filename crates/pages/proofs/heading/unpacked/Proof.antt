@@ -1,4 +1,4 @@
-use Rattle.pages.specs.Heading.{headingIn}
+use Rattle.pages.specs.inner.Packed.{headingIn}
 use mathlib.Core.Path.{refl}
 use borrow.Author.Needs.{needs}
 use Rattle.pages.proofs.heading.unpacked.Statement.{statement}

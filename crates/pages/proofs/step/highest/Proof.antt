@@ -1,5 +1,5 @@
 use Rattle.pages.proofs.Turning.{highest-here, highest-below, highest-none}
-use Rattle.pages.specs.Heading.{headingsOf}
+use Rattle.pages.specs.inner.Packed.{headingsOf}
 use Rattle.pages.specs.Page.{highestOf}
 use native.Mathlib.Omega.{arith}
 use Prim.Native.Nat.{_≤_}

@@ -1,7 +1,7 @@
 use borrow.Author.Needs.{needs}
 use Rattle.pages.proofs.Stepping.{InHeads, heads-begin, head-ready, head-same, head-next, head-over, last-ready, heads-last}
-use Rattle.pages.specs.Heading.{headingsOf}
-use Rattle.pages.specs.inner.Pass.{lent}
+use Rattle.pages.specs.inner.Packed.{headingsOf}
+use Rattle.rendering.specs.inner.Pass.{lent}
 use Prim.Native.Nat.{_-_}
 use Rattle.pages.proofs.step.say_heads.Statement.{statement}
 use Rattle.pages.proofs.step.say_heads.Tie as tie

@@ -1,4 +1,4 @@
-use Rattle.pages.specs.Heading.{headingsOf}
+use Rattle.pages.specs.inner.Packed.{headingsOf}
 use Rattle.pages.proofs.Stepping.{step-turn-over, step-top-ready, step-top-over, step-say-ready, step-same, steps}
 use denote.Ref.{now}
 use borrow.Author.Needs.{needs}

@@ -1,4 +1,4 @@
-use Rattle.pages.specs.Heading.{headingsOf}
+use Rattle.pages.specs.inner.Packed.{headingsOf}
 use Rattle.pages.proofs.Stepping.{top-not, top-none, top-ready, top-heads}
 use denote.Ref.{now}
 use borrow.Author.Needs.{needs}

@@ -1,4 +1,4 @@
--- Each of the three writes has room, so that together they make the buffer of the definition. Assumes nothing.
+-- Each of the three writes has room, so that together they make the buffer of the definition.
 use Rattle.store.proofs.Replacing.{replaced-is}
 use borrow.Author.Needs.{needs}
 use Rattle.store.proofs.replace.replace.Statement.{statement}

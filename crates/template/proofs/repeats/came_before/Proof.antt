@@ -27,7 +27,7 @@ returns-4 : tie.Need-returns-4
 unfolding cameBefore
 returns-4 c =
     rw (ne-eqb _ _ (c .before .before .if1 .left))
-    (sym (c .before .before .before .before .before .pre .1 (record { one-print = c .before .if2 .left; another = c .if3 .left })))
+    (sym (c .before .before .before .before .before .pre .1 (record { one-fingerprint = c .before .if2 .left; another = c .if3 .left })))
 
 pub came-before-spec : {M : Type 1} → statement M
 came-before-spec =

@@ -3,7 +3,7 @@ use mathlib.Core.Path.{_≡_, refl}
 use Prim.Native.Nat.{ℕ, _-_, _≤_, zero-le}
 use native.Mathlib.Omega.{arith}
 use lib.ListN.{length, take, drop, length-replicate}
-use Rattle.names.proofs.NameLaws.{key-bound}
+use Rattle.names.proofs.NameLaws.{hash-bound}
 use Rattle.template.specs.Lines.{linesOf}
 use Rattle.template.specs.Walk.{walk}
 use Rattle.template.specs.Checks.{nameStep, nameEnd, nameCheck}
@@ -40,14 +40,14 @@ line-of-requires c κs = search needs
 name-of-requires : tie.Need-name-of-requires Inv-loop μ-loop
 name-of-requires c κs = search needs
 
-key-of-requires : tie.Need-key-of-requires Inv-loop μ-loop
-key-of-requires c κs = search needs
+hash-of-requires : tie.Need-hash-of-requires Inv-loop μ-loop
+hash-of-requires c κs = search needs
 
-add-print : tie.Need-add-print Inv-loop μ-loop
-add-print c = search needs
+add-fingerprint : tie.Need-add-fingerprint Inv-loop μ-loop
+add-fingerprint c = search needs
 
-cast-print : tie.Need-cast-print Inv-loop μ-loop
-cast-print c = omega (arith, c .key-of .ensures, key-bound (c .before .name-of .result .now))
+cast-fingerprint : tie.Need-cast-fingerprint Inv-loop μ-loop
+cast-fingerprint c = omega (arith, c .hash-of .ensures, hash-bound (c .before .name-of .result .now))
 
 array-read-before : tie.Need-array-read-before Inv-loop μ-loop
 array-read-before c = omega (arith, c .before .before .before .before .before .loop .inv .2 .size)
@@ -55,7 +55,7 @@ array-read-before c = omega (arith, c .before .before .before .before .before .l
 came-before-requires : tie.Need-came-before-requires Inv-loop μ-loop
 came-before-requires c κs =
     let k = c .before .before .before .before .before in
-    (k .before .before .pre, λ r. k .loop .inv .2 .unseen _ (rw (← c .key-of .ensures) r))
+    (k .before .before .pre, λ r. k .loop .inv .2 .unseen _ (rw (← c .hash-of .ensures) r))
 
 add-t21 : tie.Need-add-t21 Inv-loop μ-loop
 add-t21 c = search needs
@@ -93,7 +93,7 @@ loop-again c =
     let h = k .loop-test .taken in
     let e = part-line (k .before .before .before .args .template .now) _ (k .before .loop .at) (c .before .before .before .before .before .line-of .ensures) in
     let o = c .before .before .before .before .name-of .ensures in
-    (walk-later (nameStep _) nameEnd _ _ _ _ (i .0) _ h e _ (name-fresh _ _ _ _ _ o (c .before .before .came-before .ensures) (c .before .if1 .left)), lines-on _ _ _ n (i .1) h e, noted-on _ _ _ n (i .1) h e _ _ _ _ (i .2) o (c .before .before .before .key-of .ensures) (c .noted-with .ensures), omega arith)
+    (walk-later (nameStep _) nameEnd _ _ _ _ (i .0) _ h e _ (name-fresh _ _ _ _ _ o (c .before .before .came-before .ensures) (c .before .if1 .left)), lines-on _ _ _ n (i .1) h e, noted-on _ _ _ n (i .1) h e _ _ _ _ (i .2) o (c .before .before .before .hash-of .ensures) (c .noted-with .ensures), omega arith)
 
 returns-2 : tie.Need-returns-2 Inv-loop μ-loop
 unfolding nameEnd
@@ -111,9 +111,9 @@ check-spec =
     part-line-of-end
     line-of-requires
     name-of-requires
-    key-of-requires
-    add-print
-    cast-print
+    hash-of-requires
+    add-fingerprint
+    cast-fingerprint
     array-read-before
     came-before-requires
     add-t21

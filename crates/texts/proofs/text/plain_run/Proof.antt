@@ -6,7 +6,7 @@ use lib.Seq.{take-all, length-take-le}
 use Rattle.scan.specs.declared.run.Class.the-variants.{Unbraced}
 use Rattle.scan.specs.Run.{span}
 use Rattle.scan.proofs.RunLaws.{length-span, take-span}
-use Rattle.texts.specs.Pieces.{plainRun}
+use Rattle.texts.specs.inner.Plain.{plainRun}
 use borrow.Author.Needs.{needs}
 use Rattle.texts.proofs.text.plain_run.Statement.{statement}
 use Rattle.texts.proofs.text.plain_run.Tie as tie

@@ -1,0 +1,80 @@
+-- $SETE, $SETA, $SETS, $SETM, $SETD.
+use mathlib.Core.List.{List}
+use Prim.Native.Nat.{ℕ, zero, suc}
+use lib.IntN.{ℤ, pos}
+use lib.ListN.{set, take}
+use Rattle.meaning.specs.Tree.{bind}
+use Rattle.meaning.specs.Meaning.{Meaning}
+use Rattle.numbers.specs.Range.{integerLimit, decimalLimit}
+use Rattle.numbers.specs.Outcome.{Outcome, success}
+use Rattle.numbers.specs.Arithmetic.{sumOf, differenceOf, integerProduct, integerQuotient, decimalProduct, decimalQuotient}
+use Rattle.arguments.specs.declared.argument.Argument.{Argument}
+use Rattle.lines.specs.declared.command.Operation.{Operation}
+use Rattle.lines.specs.declared.command.Operation.the-variants.{Assign, Add, Subtract, Multiply, Divide}
+use Rattle.lines.specs.declared.command.Target.{Target}
+use Rattle.lines.specs.declared.command.Target.the-variants.{IntegerTarget, DecimalTarget, StringTarget}
+use Rattle.values.specs.Machine.{Machine, numbered}
+use Rattle.values.specs.Worth.{Worth}
+use Rattle.values.specs.Meanings.{argumentMeaning}
+use Rattle.coercions.specs.Settling.{Settled, settled, andThen, concluded, integerFrom, decimalFrom, stringFrom, resultOf}
+
+-- "set, add, subtract, multiply, divide"; "IV takes an integer and divides toward zero"
+unfoldable pub integerOutcome : Operation → ℤ → ℤ → Outcome
+integerOutcome Assign a b = success b
+integerOutcome Add a b = sumOf integerLimit a b
+integerOutcome Subtract a b = differenceOf integerLimit a b
+integerOutcome Multiply a b = integerProduct a b
+integerOutcome Divide a b = integerQuotient a b
+
+-- "products and quotients are rounded to the nearest millionth, halves away from zero, then checked for range"
+unfoldable pub decimalOutcome : Operation → ℤ → ℤ → Outcome
+decimalOutcome Assign a b = success b
+decimalOutcome Add a b = sumOf decimalLimit a b
+decimalOutcome Subtract a b = differenceOf decimalLimit a b
+decimalOutcome Multiply a b = decimalProduct a b
+decimalOutcome Divide a b = decimalQuotient a b
+
+-- the n-th, counted from 1, is x now; a parsed line names one that is there (commands/proofs/Ranges:target-there, fetch-there)
+unfoldable pub setNumbered : {A : Type 0} → List A → ℕ → A → List A
+setNumbered l zero x = l
+setNumbered l (suc k) x = set l k x
+
+-- a result as the n-th variable
+unfoldable pub stored : {A : Type 0} → List A → ℕ → Settled A → Settled (List A)
+stored vs n x = andThen x (λ z. settled (setNumbered vs n z))
+
+-- what is taken from a value, and what an operation makes of it
+unfoldable pub newFrom : (Worth → Settled ℤ) → (ℤ → Outcome) → Worth → Settled ℤ
+newFrom from operation w = andThen (from w) (λ b. resultOf (operation b))
+
+-- what IVn and FVn become that are a now
+abbrev pub integerNew : Operation → ℤ → Worth → Settled ℤ
+integerNew o a = newFrom integerFrom (integerOutcome o a)
+
+abbrev pub decimalNew : Operation → ℤ → Worth → Settled ℤ
+decimalNew o a = newFrom decimalFrom (decimalOutcome o a)
+
+-- "SV takes a string"; "SV1–SV99 hold up to 16 bytes each". No string of a run has more, so none is cut (commands/proofs/Ranges:string-whole).
+unfoldable pub stringNew : Worth → Settled (List ℕ)
+stringNew w = andThen (stringFrom w) (λ s. settled (take 16 s))
+
+abbrev pub withIntegers : Machine → List ℤ → Machine
+withIntegers m vs = record { integers = vs; decimals = m .decimals; strings = m .strings; counter = m .counter; records = m .records; entries = m .entries; datasource = m .datasource; page = m .page; row = m .row }
+
+abbrev pub withDecimals : Machine → List ℤ → Machine
+withDecimals m vs = record { integers = m .integers; decimals = vs; strings = m .strings; counter = m .counter; records = m .records; entries = m .entries; datasource = m .datasource; page = m .page; row = m .row }
+
+abbrev pub withStrings : Machine → List (List ℕ) → Machine
+withStrings m vs = record { integers = m .integers; decimals = m .decimals; strings = vs; counter = m .counter; records = m .records; entries = m .entries; datasource = m .datasource; page = m .page; row = m .row }
+
+-- a string's word is $SETE: "after another word than $SETE it is 3"
+unfoldable pub setOf : Machine → Operation → Target → Worth → Settled Machine
+setOf m o (IntegerTarget n) w =
+    andThen (stored (m .integers) n (integerNew o (numbered (pos 0) (m .integers) n) w)) (λ vs. settled (withIntegers m vs))
+setOf m o (DecimalTarget n) w =
+    andThen (stored (m .decimals) n (decimalNew o (numbered (pos 0) (m .decimals) n) w)) (λ vs. settled (withDecimals m vs))
+setOf m o (StringTarget n) w = andThen (stored (m .strings) n (stringNew w)) (λ vs. settled (withStrings m vs))
+
+-- the line s, whose number is `line`
+unfoldable pub setMeaning : Machine → List ℕ → ℕ → Operation → Target → Argument → Meaning Machine
+setMeaning m s line o t a = bind (argumentMeaning m s line a) (λ w. concluded line (setOf m o t w))

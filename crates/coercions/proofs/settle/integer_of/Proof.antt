@@ -1,0 +1,46 @@
+-- One law for each kind of value.
+use Rattle.coercions.proofs.Settles.{integer-missing, integer-wrong, integer-number, integer-text}
+use borrow.Author.Needs.{needs}
+use Rattle.coercions.proofs.settle.integer_of.Statement.{statement}
+use Rattle.coercions.proofs.settle.integer_of.Tie as tie
+
+enum-told : tie.Need-enum-told
+enum-told c = search needs
+
+enum-told-2 : tie.Need-enum-told-2
+enum-told-2 c = search needs
+
+enum-known-worth : tie.Need-enum-known-worth
+enum-known-worth c = search needs
+
+integer-in-requires : tie.Need-integer-in-requires
+integer-in-requires c κs = search needs
+
+enum-told-3 : tie.Need-enum-told-3
+enum-told-3 c = search needs
+
+returns : tie.Need-returns
+returns c = integer-missing _ (c .enum-told .given .1)
+
+returns-2 : tie.Need-returns-2
+returns-2 c = integer-wrong _ (c .enum-told2 .given .1)
+
+returns-3 : tie.Need-returns-3
+returns-3 c = search (needs, integer-number)
+
+returns-4 : tie.Need-returns-4
+returns-4 c = integer-text _ _ (c .enum-told3 .given .1)
+
+pub integer-of-spec : {M : Type 1} → statement M
+integer-of-spec =
+    tie.close
+    (tie.spec
+    enum-told
+    enum-told-2
+    enum-known-worth
+    integer-in-requires
+    enum-told-3
+    returns
+    returns-2
+    returns-3
+    returns-4)

@@ -1,0 +1,6 @@
+pub mod Going
+pub mod Arms
+pub mod Held
+pub mod Sound
+pub mod Executing
+pub mod Updating

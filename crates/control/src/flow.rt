@@ -1,0 +1,96 @@
+// Where a run goes on, and what its lines are executed in.
+use crate::state::Flow;
+use pages::page::Page;
+use tables::table;
+use tables::table::Tables;
+use template::seek;
+use template::seek::Sought;
+use values::scene::Scene;
+ghost use mathlib.Core.Path.{_≡_};
+ghost use Prim.Native.Nat.{_+_, _≤_};
+ghost use Rattle.control.specs.inner.Arms.{Jumpable};
+ghost use Rattle.control.specs.inner.Going.{sceneOf, placedAt, datasourceIn, tablesIn, feedsIn, pageIn, jumpedIn, againIn};
+
+// What a line is executed in.
+pub fn scene_of(flow: Flow, number: u32) -> Scene
+    ensures { λ r. ⌜ r ≡ sceneOf flow number ⌝ }
+{
+    let page = flow.page;
+    let tables = flow.tables;
+    Scene {
+        datasource: flow.datasource,
+        page: page.number,
+        row: page.line,
+        number,
+        turn: table::turn_of(tables),
+    }
+}
+
+fn placed(mut flow: Flow, at: usize, line: u32) -> Flow
+    ensures { λ r. ⌜ r ≡ placedAt flow at line ⌝ }
+{
+    flow.at = at;
+    flow.line = line;
+    flow
+}
+
+pub fn with_datasource(mut flow: Flow, datasource: u32) -> Flow
+    ensures { λ r. ⌜ r ≡ datasourceIn flow datasource ⌝ }
+{
+    flow.datasource = datasource;
+    flow
+}
+
+pub fn with_tables(mut flow: Flow, tables: Tables) -> Flow
+    ensures { λ r. ⌜ r ≡ tablesIn flow tables ⌝ }
+{
+    flow.tables = tables;
+    flow
+}
+
+pub fn with_feeds(mut flow: Flow, feeds: bool) -> Flow
+    ensures { λ r. ⌜ r ≡ feedsIn flow feeds ⌝ }
+{
+    flow.feeds = feeds;
+    flow
+}
+
+pub fn with_page(mut flow: Flow, page: Page) -> Flow
+    ensures { λ r. ⌜ r ≡ pageIn flow page ⌝ }
+{
+    flow.page = page;
+    flow
+}
+
+// Behind a line of so many bytes.
+pub fn past(flow: Flow, length: usize) -> Flow
+    requires { ⌜ (flow .at + length ≤ 65536) × (flow .line ≤ 65536) ⌝ }
+    ensures { λ r. ⌜ r ≡ placedAt flow (flow .at + length + 1) (flow .line + 1) ⌝ }
+{
+    let at = flow.at + length + 1;
+    let line = flow.line + 1;
+    placed(flow, at, line)
+}
+
+// Behind the line that matches.
+pub fn jumped(template: &[u8], flow: Flow, sought: Sought) -> Flow
+    requires { ⌜ Jumpable (now template) flow ⌝ }
+    ensures { λ r. ⌜ r ≡ jumpedIn (now (template .entry)) flow sought ⌝ }
+{
+    let at = flow.at;
+    if template.len() < at {
+        return flow;
+    }
+    let skip = seek::skip_lines(&template[at..], sought);
+    let line = flow.line + skip.lines;
+    placed(flow, at + skip.bytes, line)
+}
+
+// The line behind the $BT of the innermost table.
+pub fn again(flow: Flow) -> Flow
+    ensures { λ r. ⌜ r ≡ againIn flow ⌝ }
+{
+    let tables = flow.tables;
+    let table = table::innermost(tables);
+    placed(flow, table.start, table.line)
+}

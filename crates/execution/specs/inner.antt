@@ -1,5 +1,0 @@
-pub mod Held
-pub mod Sound
-pub mod Going
-pub mod Executing
-pub mod Arms

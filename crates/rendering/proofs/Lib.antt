@@ -1,0 +1,4 @@
+pub mod Shows
+pub mod Making
+pub mod Telling
+pub mod InRange

@@ -1,0 +1,111 @@
+-- A text line as the code makes it, in one pass, and what its contracts say.
+use mathlib.Core.Path.{_≡_}
+use mathlib.Core.Bool.{Bool, true, false}
+use mathlib.Core.List.{List, [], _∷_, _++_}
+use Prim.Native.Nat.{ℕ, _+_, _≤_}
+use lib.IntN.{ℤ}
+use lib.ListN.{length, take}
+use Rattle.meaning.specs.Answer.{Answer}
+use Rattle.meaning.specs.Tree.{done, bind}
+use Rattle.meaning.specs.Meaning.{Meaning}
+use Rattle.meaning.specs.Number.{endOf}
+use Rattle.meaning.specs.Place.{at, Does}
+use Rattle.meaning.specs.declared.question.Question.{Question}
+use Rattle.cells.specs.Cell.{Cell}
+use Rattle.cells.specs.inner.Index.{Ready}
+use Rattle.texts.specs.declared.text.Piece.{Piece}
+use Rattle.texts.specs.declared.text.Piece.the-variants.{Plain, Placed}
+use Rattle.texts.specs.readers.Text.{textFits}
+use Rattle.values.specs.declared.scene.Scene.{Scene}
+use Rattle.values.specs.declared.worth.Worth as C
+use Rattle.values.specs.declared.worth.Worth.the-variants as W
+use Rattle.values.specs.inner.Word.{questions}
+use Rattle.values.specs.Worth.{Worth}
+use Rattle.values.specs.Machine.{Machine}
+use Rattle.values.specs.Meanings.{argumentMeaning}
+use Rattle.values.specs.Source.{answers}
+use Rattle.values.specs.inner.State.{machine}
+use Rattle.rendering.specs.declared.text.Made.{Made}
+use Rattle.rendering.specs.declared.text.Told.{Told}
+use Rattle.rendering.specs.Shown.{fieldBytes}
+use Rattle.texts.specs.Pieces.{piecesOf, fieldCount}
+use Rattle.rendering.specs.Text.{isWrong, or, textMeaning}
+
+-- the bytes made so far, and whether a kind was wrong
+pub record Worked : Type 0 where
+  pub bytes : List ℕ
+  pub wrong : Bool
+
+abbrev pub worked : List ℕ → Bool → Worked
+worked s w = record { bytes = s; wrong = w }
+
+abbrev pub pass : Machine → List ℕ → ℕ → List Piece → List ℕ → Bool → Meaning Worked
+pass m l line [] made w = done (worked made w)
+pass m l line (Plain b ∷ ps) made w = pass m l line ps (made ++ b ∷ []) w
+pass m l line (Placed f ∷ ps) made w =
+    bind (argumentMeaning m l line (f .argument)) (λ v. pass m l line ps (made ++ fieldBytes (f .width) (f .places) v) (or w (isWrong v)))
+
+-- whether a kind was wrong, with one more value as the code holds it
+unfoldable pub orWrong : Bool → C.Worth → Bool
+orWrong w W.Missing = w
+orWrong w W.Wrong = true
+orWrong w (W.Number q) = w
+orWrong w (W.Text t) = w
+
+-- all that a line reads: the store and its index, the variables, what was fetched
+pub record Lent : Type 0 where
+  pub store : List ℕ
+  pub index : List ℕ
+  pub count : ℕ
+  pub integers : List ℤ
+  pub decimals : List ℤ
+  pub rows : List (List ℕ)
+  pub lengths : List ℕ
+  pub records : List ℕ
+  pub entries : List ℕ
+
+abbrev pub lent : List ℕ → List ℕ → ℕ → List ℤ → List ℤ → List (List ℕ) → List ℕ → List ℕ → List ℕ → Lent
+lent store index count integers decimals rows lengths records entries =
+    record {
+      store = store;
+      index = index;
+      count = count;
+      integers = integers;
+      decimals = decimals;
+      rows = rows;
+      lengths = lengths;
+      records = records;
+      entries = entries;
+    }
+
+-- the machine that it stands for, with a source of answers
+abbrev pub machineOf : Lent → Scene → (Question → Answer) → Machine
+machineOf x s source =
+    machine source (x .integers) (x .decimals) (x .rows) (x .lengths) (x .records) (x .entries) s
+
+-- something said of the answers that the store gives, where the index is that of its cells
+abbrev pub Sourced : Lent → ((Question → Answer) → Type 0) → Type 0
+Sourced x P = (n : ℕ) (cs : List Cell) → Ready (x .store) n (x .index) (x .count) cs → P (answers (x .store) n)
+
+-- What a line requires: its text has a form and fits, there are places in the log for all its fields, and limits that the
+-- checks of the template and of the store give.
+pub record Sayable (x : Lent) (d : ℕ) (l : List ℕ) (from a : ℕ) : Type 0 where
+  pub fits : textFits l from ≡ true
+  pub short-line : length l ≤ 65536
+  pub short-store : length (x .store) ≤ 65536
+  pub datasource : d ≤ 35
+  pub logged : a + fieldCount (piecesOf l from) ≤ 512
+
+-- r and the buffer are what one pass over the text made
+pub record Makes (x : Lent) (s : Scene) (l : List ℕ) (from : ℕ) (log : List ℕ) (a p : ℕ) (log′ b′ : List ℕ) (r : Made) : Type 0 where
+  pub does : Sourced x (λ source. (text : List ℕ) (m g : ℕ) → Does source (pass (machineOf x s source) l (s .number) (piecesOf l from) [] false) (at text m (questions log) a p g) (at text m (questions log′) (r .asked) p g) (endOf (worked (take (r .filled) b′) (r .wrong)) (r .end)))
+  pub few : r .asked ≤ a + fieldCount (piecesOf l from)
+  pub filled : r .filled ≤ 132
+  pub whole : length b′ ≡ 133
+
+-- the line of the scene s was printed, or refused
+pub record Tells (x : Lent) (s : Scene) (l : List ℕ) (from : ℕ) (text : List ℕ) (m : ℕ) (log : List ℕ) (a p : ℕ) (text′ log′ : List ℕ) (r : Told) : Type 0 where
+  pub does : Sourced x (λ source. (g : ℕ) → Does source (textMeaning (machineOf x s source) l from (s .number)) (at text m (questions log) a p g) (at text′ (r .printed) (questions log′) (r .asked) p g) (endOf tt (r .end)))
+  pub few : r .asked ≤ a + fieldCount (piecesOf l from)
+  pub kept : length text′ ≡ length text
+  pub room : r .printed ≤ length text

@@ -1,0 +1,8 @@
+pub mod Elem
+pub mod Walk
+pub mod Rows
+pub mod Splitting
+pub mod Stretching
+pub mod Starting
+pub mod Stored
+pub mod Beginning

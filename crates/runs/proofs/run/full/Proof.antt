@@ -1,0 +1,11 @@
+use mathlib.Core.Path.{refl}
+use Rattle.runs.specs.inner.Start.{fullAt}
+use Rattle.runs.proofs.run.full.Statement.{statement}
+use Rattle.runs.proofs.run.full.Tie as tie
+
+returns : tie.Need-returns
+unfolding fullAt
+returns c = refl
+
+pub full-spec : {M : Type 1} → statement M
+full-spec = tie.close (tie.spec returns)

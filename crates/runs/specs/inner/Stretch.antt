@@ -1,0 +1,122 @@
+-- What `begin`, `run` and `report` ask for and hand back: a run goes stretch by stretch, as many lines as the log has places for.
+use mathlib.Core.Path.{_≡_}
+use mathlib.Core.Bool.{true, false, cond}
+use mathlib.Core.List.{List, []}
+use Prim.Native.Nat.{ℕ, zero, suc, _+_, _-_, _≤_, _<_}
+use lib.Dec.{ltb}
+use lib.ListN.{length, take, replicate}
+use Rattle.template.specs.declared.Run.{Run}
+use Rattle.template.specs.declared.Checked.the-variants.{Accepted}
+use Rattle.template.specs.Order.{templateChecked}
+use Rattle.meaning.specs.Answer.{Answer}
+use Rattle.meaning.specs.Tree.{done, bind, finished}
+use Rattle.meaning.specs.Place.{Place, at, Does}
+use Rattle.meaning.specs.Number.{numberOf, lineOf, endOf}
+use Rattle.meaning.specs.Meaning.{Meaning}
+use Rattle.meaning.specs.declared.question.Question.{Question}
+use Rattle.meaning.specs.declared.end.Ended.{Ended}
+use Rattle.values.specs.inner.Word.{questions}
+use Rattle.runs.specs.declared.state.Saved.{Saved}
+use Rattle.runs.specs.declared.state.Log.{Log}
+use Rattle.runs.specs.declared.state.Stretch.{Stretch}
+use Rattle.runs.specs.declared.Report.{Report}
+use Rattle.control.specs.inner.Held.{Held, stateOf}
+use Rattle.control.specs.State.{State}
+use Rattle.control.specs.Line.{lineMeaning}
+use Rattle.control.specs.inner.Sound.{Sound}
+use Rattle.control.specs.inner.Executing.{sourceOf, Kept}
+use Rattle.runs.specs.Report.{runFrom, startOf, Outcome, textIn, reportOf, reportIn}
+
+-- at most k lines
+unfoldable pub stretch : ℕ → List ℕ → ℕ → State → Meaning State
+stretch zero t end s = done s
+stretch (suc k) t end s = cond (ltb (s .at) end) (bind (lineMeaning t s) (stretch k t end)) (done s)
+
+-- what is saved between two stretches, beside the rows of SV
+abbrev pub heldIn : Saved → List (List ℕ) → Held
+heldIn v rows =
+    record {
+      integers = v .integers;
+      decimals = v .decimals;
+      rows = rows;
+      lengths = v .lengths;
+      records = v .records;
+      entries = v .entries;
+      headings = v .headings;
+    }
+
+-- the part of the store buffer that is the store
+abbrev pub storeOf : Saved → List ℕ → List ℕ
+storeOf v b = take (v .len) b
+
+abbrev pub stateIn : Saved → List (List ℕ) → List ℕ → State
+stateIn v rows b = stateOf (sourceOf (storeOf v b)) (heldIn v rows) (v .flow)
+
+-- between two stretches, where `left` lines may still be executed: a line raises PAGENUM by at most one
+pub record Standing (t : List ℕ) (left : ℕ) (s : State) : Type 0 where
+  pub most : left ≤ 50000
+  pub sound : Sound t (50001 - left) s
+
+pub record RunReady (t b index T : List ℕ) (rows : List (List ℕ)) (v : Saved) : Type 0 where
+  pub stored : v .len ≤ length b
+  pub short : v .len ≤ 65536
+  pub kept : Kept (storeOf v b) index (v .count)
+  pub inside : v .end ≤ length t
+  pub standing : Standing t (v .left) (stateIn v rows b)
+  pub room : v .printed ≤ length T
+  pub asked : v .asked ≤ v .places
+  pub rows-held : length rows ≡ 99
+  pub indexed : length index ≡ 5461
+
+-- a log that is empty, with the places that are left
+abbrev pub fresh : List ℕ → Saved → Place Question
+fresh T v = at T (v .printed) (questions (replicate 512 0)) 0 (v .places - v .asked) (v .flow .page .number)
+
+-- what stood before, that the run left where it is over: how it ended, and in which state
+pub record Over (t b T : List ℕ) (rows : List (List ℕ)) (v : Saved) (T′ : List ℕ) (log : Log) (r : Report) : Type 0 where
+  pub ended : Ended
+  pub last : State
+  pub does : Does (sourceOf (storeOf v b)) (runFrom (v .left) t (v .end) (stateIn v rows b)) (fresh T v) (at T′ (r .bytes) (questions (log .words)) (log .n) (v .places - v .asked) (r .pages)) (endOf last ended)
+  pub number : r .number ≡ numberOf (endOf (tt {0}) ended)
+  pub line : r .line ≡ lineOf (endOf (tt {0}) ended)
+  pub questions : r .questions ≡ v .asked + log .n
+
+-- a stretch from s on led to r
+pub record Ran (t b index T : List ℕ) (rows : List (List ℕ)) (s : Stretch) (T′ : List ℕ) (rows′ : List (List ℕ)) (r : Stretch) : Type 0 where
+  pub few : r .log .n ≤ 512
+  pub place : r .log .at ≡ s .saved .asked
+  -- the log is full: so many lines were executed
+  pub on : r .more ≡ true → Does (sourceOf (storeOf (s .saved) b)) (stretch (s .saved .left - r .saved .left) t (s .saved .end) (stateIn (s .saved) rows b)) (fresh T (s .saved)) (at T′ (r .saved .printed) (questions (r .log .words)) (r .log .n) (s .saved .places - s .saved .asked) (r .saved .flow .page .number)) (finished (stateIn (r .saved) rows′ b))
+  pub ready : r .more ≡ true → RunReady t b index T′ rows′ (r .saved)
+  pub less : r .more ≡ true → r .saved .left < s .saved .left
+  pub asked : r .more ≡ true → r .saved .asked ≡ s .saved .asked + r .log .n
+  pub same-end : r .more ≡ true → r .saved .end ≡ s .saved .end
+  pub same-store : r .more ≡ true → r .saved .len ≡ s .saved .len
+  pub same-places : r .more ≡ true → r .saved .places ≡ s .saved .places
+  -- the run is over
+  pub over : r .more ≡ false → Over t b T rows (s .saved) T′ (r .log) (r .report)
+
+-- ---- the whole
+
+-- o is a refusal of the whole call, and r says so: nothing is printed, nothing asked
+pub record Untouched (o : Outcome) (r : Report) : Type 0 where
+  pub result : r ≡ reportIn o
+  pub text : textIn o ≡ []
+  pub questions : o .questions ≡ []
+
+-- before the first line: the checks have refused the call, or the run may start, whatever the rows of SV hold
+pub record Begun (t name b : List ℕ) (n places : ℕ) (index : List ℕ) (r : Stretch) : Type 0 where
+  pub refused : r .more ≡ false → (room : ℕ) → Untouched (reportOf t name b n places room) (r .report)
+  pub run : r .more ≡ true → Run
+  pub accepted : (m : r .more ≡ true) → templateChecked t name ≡ Accepted (run m)
+  pub start : (m : r .more ≡ true) (rows : List (List ℕ)) (source : Question → Answer) → stateOf source (heldIn (r .saved) rows) (r .saved .flow) ≡ startOf (run m)
+  pub end : (m : r .more ≡ true) → r .saved .end ≡ run m .end
+  pub left : r .more ≡ true → r .saved .left ≡ 50000
+  pub page : r .more ≡ true → r .saved .flow .page .number ≡ 1
+  pub printed : r .more ≡ true → r .saved .printed ≡ 0
+  pub asked : r .more ≡ true → r .saved .asked ≡ 0
+  pub lent : r .more ≡ true → r .saved .places ≡ places
+  pub len : r .more ≡ true → r .saved .len ≡ n
+  pub stored : r .more ≡ true → n ≤ length b
+  pub short : r .more ≡ true → n ≤ 65536
+  pub kept : r .more ≡ true → Kept (take n b) index (r .saved .count)

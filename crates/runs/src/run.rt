@@ -1,0 +1,180 @@
+// A stretch of lines: as many as the log has places for.
+use crate::Report;
+use crate::start;
+use crate::state::Log;
+use crate::state::Saved;
+use crate::state::Stretch;
+use execution::line;
+use meaning::end::Ended;
+use meaning::end::Halt;
+use meaning::refusal::Refusal;
+ghost use mathlib.Core.Path.{_≡_};
+ghost use Prim.Native.Nat.{_+_, _<_, _^_};
+ghost use Rattle.runs.specs.inner.Stretch.{RunReady, Ran};
+ghost use Rattle.runs.specs.inner.Start.{overAt, fullAt};
+
+// The run is over: how it ended, and what it left.
+fn over(
+    end: Ended,
+    page: u32,
+    printed: usize,
+    at: usize,
+    words: &[u64; 512],
+    logged: usize,
+) -> Stretch
+    requires { ⌜ at + logged < 2 ^ 64 ⌝ }
+    ensures { λ r. ⌜ r ≡ overAt end page printed at (now (words .entry)) logged ⌝ }
+{
+    let saved = start::nothing();
+    let words = *words;
+    let questions = at + logged;
+    Stretch {
+        more: false,
+        log: Log {
+            at,
+            n: logged,
+            words,
+        },
+        report: Report {
+            number: end.number(),
+            line: end.line(),
+            pages: page,
+            bytes: printed,
+            questions,
+        },
+        saved,
+    }
+}
+
+// The log is full: its questions stand on the read list from a place on, and the run goes on as saved.
+fn full(at: usize, words: &[u64; 512], logged: usize, saved: Saved) -> Stretch
+    ensures { λ r. ⌜ r ≡ fullAt at (now (words .entry)) logged saved ⌝ }
+{
+    let words = *words;
+    Stretch {
+        more: true,
+        log: Log {
+            at,
+            n: logged,
+            words,
+        },
+        report: Report {
+            number: 0,
+            line: 0,
+            pages: 0,
+            bytes: 0,
+            questions: 0,
+        },
+        saved,
+    }
+}
+
+// From a stretch on: lines are executed while the log has places for all questions that a line may ask.
+pub fn run<'a, 'b, 'c>(
+    template: &'a [u8],
+    store: &'a [u8],
+    index: &'b mut [u16; 5461],
+    text: &'c mut [u8],
+    strings: &'c mut [[u8; 16]; 99],
+    s: Stretch,
+) -> Stretch
+    requires { ⌜ RunReady (now template) (now store) (now index) (now text) (now strings) (s .saved) ⌝ }
+    ensures { λ r. ⌜ (Ran (now (template .entry)) (now (store .entry)) (now (index .entry)) (now (text .entry)) (now (strings .entry)) s (now (text .exit)) (now (strings .exit)) r) × (now (index .exit) ≡ now (index .entry)) ⌝ }
+{
+    let saved = s.saved;
+    let len = saved.len;
+    let part = &store[0..len];
+    let end = saved.end;
+    let count = saved.count;
+    let asked = saved.asked;
+    let places = saved.places - asked;
+    let mut integers = saved.integers;
+    let mut decimals = saved.decimals;
+    let mut lengths = saved.lengths;
+    let mut records = saved.records;
+    let mut entries = saved.entries;
+    let mut headings = saved.headings;
+    let mut flow = saved.flow;
+    let mut left = saved.left;
+    let mut printed = saved.printed;
+    let mut words = [0u64; 512];
+    let mut logged = 0usize;
+    while 0 < left {
+        let at = flow.at;
+        if end <= at {
+            return over(
+                Ended::Finished,
+                flow.page.number,
+                printed,
+                asked,
+                &words,
+                logged,
+            );
+        }
+        if 182 < logged {
+            let next = Saved {
+                flow,
+                left,
+                end,
+                len,
+                count,
+                printed,
+                asked: asked + logged,
+                places: saved.places,
+                integers,
+                decimals,
+                lengths,
+                records,
+                entries,
+                headings,
+            };
+            return full(asked, &words, logged, next);
+        }
+        let lined = line::line(
+            template,
+            part,
+            index,
+            count,
+            &mut integers,
+            &mut decimals,
+            strings,
+            &mut lengths,
+            &mut records,
+            &mut entries,
+            &mut headings,
+            text,
+            printed,
+            &mut words,
+            logged,
+            places,
+            flow,
+        );
+        flow = lined.flow;
+        printed = lined.printed;
+        logged = lined.asked;
+        let ended = lined.end;
+        let Ended::Finished = ended else {
+            return over(ended, flow.page.number, printed, asked, &words, logged);
+        };
+        left -= 1;
+    }
+    let due = flow.at;
+    if due < end {
+        return over(
+            Ended::Halted(Halt::Refused(Refusal::TooManyLines), flow.line),
+            flow.page.number,
+            printed,
+            asked,
+            &words,
+            logged,
+        );
+    }
+    over(
+        Ended::Finished,
+        flow.page.number,
+        printed,
+        asked,
+        &words,
+        logged,
+    )
+}

@@ -1,0 +1,73 @@
+// The index of a store, and questions over it.
+use cells::index::Indexed;
+use meaning::question::Question;
+use station::question;
+ghost use mathlib.Core.Path.{_≡_};
+ghost use Prim.Native.Nat.{_≤_};
+ghost use lib.ListN.{length};
+ghost use lib.Seq.{sets};
+ghost use Rattle.cells.specs.Store.{held};
+ghost use Rattle.station.specs.Answers.{questionOf};
+ghost use Rattle.station_testing.specs.Index.{listing, listed, ToldLookUp};
+
+fn copy_in(places: &mut [u16], found: &[u16])
+    requires { ⌜ length (now found) ≤ length (now places) ⌝ }
+    ensures { λ _. ⌜ now (places .exit) ≡ sets (now (places .entry)) 0 (now (found .entry)) ⌝ }
+{
+    let mut j = 0;
+    while j < found.len() {
+        places[j] = found[j];
+        j += 1;
+    }
+}
+
+// The places of the cells, and how many there are; 1 where the store is out of form, 16 where there are too few places.
+#[no_mangle]
+pub extern "C" fn station_index(
+    buffer: &[u8],
+    length: usize,
+    places: &mut [u16],
+    count: &mut usize,
+) -> u32
+    ensures { λ r. ⌜ listing r (now (count .exit)) (now (places .exit)) ≡ listed (now (places .entry)) (now (count .entry)) (held (now (buffer .entry)) length) ⌝ }
+{
+    let mut found = [0u16; 5461];
+    let Indexed::Count(n) = cells::index::build(buffer, length, &mut found) else {
+        return 1;
+    };
+    if places.len() < n {
+        return 16;
+    }
+    copy_in(places, &found[0..n]);
+    *count = n;
+    0
+}
+
+// A question over the index of a store.
+#[no_mangle]
+pub extern "C" fn station_look_up(
+    buffer: &[u8],
+    places: &[u16],
+    known: usize,
+    kind: u32,
+    datasource: u32,
+    parameter: u32,
+    item: u32,
+    entry: u32,
+    answered: &mut u8,
+    value: &mut i64,
+    place: &mut usize,
+    count: &mut usize,
+)
+    ensures { λ _. ⌜ ToldLookUp (now (buffer .entry)) (now (places .entry)) known (questionOf kind datasource parameter item entry) (now (answered .exit)) (now (value .exit)) (now (place .exit)) (now (count .exit)) ⌝ }
+{
+    let question = Question {
+        kind: kind,
+        datasource: datasource,
+        parameter: parameter,
+        record: item,
+        entry: entry,
+    };
+    let answer = cells::question::answer(buffer, places, known, question);
+    question::hand_answer(answer, answered, value, place, count);
+}
