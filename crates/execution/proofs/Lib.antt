@@ -3,3 +3,4 @@ pub mod Sounds
 pub mod Lining
 pub mod Ranges
 pub mod Allowed
+pub mod Counting

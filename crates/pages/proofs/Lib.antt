@@ -4,3 +4,4 @@ pub mod Stepping
 pub mod Sixty
 pub mod Ranges
 pub mod Allowed
+pub mod Counting

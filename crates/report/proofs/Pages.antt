@@ -1,5 +1,5 @@
--- No page of a report holds more than 60 lines, and the pages that it reports are those of its events.
-use mathlib.Core.Path.{_≡_, refl, sym}
+-- No page of a report holds more than 60 lines, and the pages that it reports are those of its events, and PAGENUM at the end.
+use mathlib.Core.Path.{_≡_, refl, sym, subst}
 use mathlib.Core.Bool.{Bool, true, false, cond}
 use mathlib.Core.List.{List}
 use Prim.Native.Nat.{ℕ, zero, suc, _+_, _≤_}
@@ -7,25 +7,31 @@ use native.Mathlib.Omega.{arith}
 use borrow.Author.Tests.{ltb-true}
 use lib.Dec.{ltb}
 use lib.ListN.{length}
+use Rattle.template.specs.declared.Run.{Run}
 use Rattle.template.specs.declared.Checked.{Checked}
 use Rattle.template.specs.declared.Checked.the-variants.{Accepted, Refused}
 use Rattle.template.specs.Order.{templateChecked}
 use Rattle.template.proofs.Accepted.{accepted-runs, Early, refused-early}
 use Rattle.cells.specs.Store.{held}
 use Rattle.history.specs.State.{isHeld}
+use Rattle.meaning.specs.Answer.{Answer}
 use Rattle.meaning.specs.Each.{Each}
-use Rattle.meaning.specs.Event.{pageFrom, laterPages, pages}
-use Rattle.meaning.specs.Tree.{done, stop, bind, run}
-use Rattle.meaning.specs.Rule.{Keeps, pageLimit}
+use Rattle.meaning.specs.Event.{breaks, pageFrom, laterPages, pages}
+use Rattle.meaning.specs.Tree.{done, stop, bind, finished, run}
+use Rattle.meaning.specs.Rule.{after, Keeps, AtEnd, pageLimit}
 use Rattle.meaning.specs.Meaning.{Meaning}
+use Rattle.meaning.specs.declared.question.Question.{Question}
 use Rattle.meaning.specs.declared.refusal.Refusal.the-variants.{TooManyLines, BadStore}
-use Rattle.meaning.proofs.Keeping.{keeps-bind, keeps-pages}
+use Rattle.meaning.proofs.Keeping.{keeps-bind, keeps-end, keeps-pages}
 use Rattle.meaning.proofs.Events.{page-count}
 use Rattle.values.specs.Source.{answers}
 use Rattle.control.specs.State.{State}
 use Rattle.control.specs.Line.{lineMeaning}
+use Rattle.pages.proofs.Counting.{counting, counted}
 use Rattle.execution.proofs.Sounds.{On, line-keeps}
-use Rattle.runs.specs.Report.{runFrom, startOf, runMeaning, Outcome, refusedWith, checkedOutcome, reportOf}
+use Rattle.execution.proofs.Counting.{Counted, line-counts}
+use Rattle.runs.specs.Report.{runFrom, startOf, runMeaning, Outcome, ranTo, refusedWith, checkedOutcome, reportOf}
+use Rattle.runs.specs.inner.Stretch.{stretch}
 use Rattle.report.proofs.Sounding.{start-on}
 
 -- whatever is known at a run's end
@@ -76,3 +82,41 @@ pages-reported t name b n places room = by (isHeld (held b n))
     by : (f : Bool) → Paged (cond f (checkedOutcome t (answers b n) places room (templateChecked t name)) (refusedWith BadStore 0))
     by true h = checked (templateChecked t name) (refused-early t name) h
     by false h = absurd (h (omega arith) (omega arith))
+
+-- ---- "pages (PAGENUM at the end)"
+
+run-counts : (n : ℕ) (t : List ℕ) (end : ℕ) (s : State) (c : ℕ) → Counted s c → Keeps counting (runFrom n t end s) c Counted
+unfolding runFrom
+run-counts zero t end s c h = by (ltb (s .at) end)
+  where
+    by : (b : Bool) → Keeps counting (cond {A = Meaning State} b (stop TooManyLines (s .line)) (done s)) c Counted
+    by true = tt
+    by false = h
+run-counts (suc n) t end s c h = by (ltb (s .at) end) (λ s′ c′ j. run-counts n t end s′ c′ j)
+  where
+    by : (b : Bool) → ((s′ : State) (c′ : ℕ) → Counted s′ c′ → Keeps counting (runFrom n t end s′) c′ Counted) → Keeps counting (cond {A = Meaning State} b (bind (lineMeaning t s) (runFrom n t end)) (done s)) c Counted
+    by true k = keeps-bind counting (lineMeaning t s) (runFrom n t end) c Counted Counted (line-counts t s c h) k
+    by false k = h
+
+stretch-counts : (n : ℕ) (t : List ℕ) (end : ℕ) (s : State) (c : ℕ) → Counted s c → Keeps counting (stretch n t end s) c Counted
+unfolding stretch
+stretch-counts zero t end s c h = h
+stretch-counts (suc n) t end s c h = by (ltb (s .at) end) (λ s′ c′ j. stretch-counts n t end s′ c′ j)
+  where
+    by : (b : Bool) → ((s′ : State) (c′ : ℕ) → Counted s′ c′ → Keeps counting (stretch n t end s′) c′ Counted) → Keeps counting (cond {A = Meaning State} b (bind (lineMeaning t s) (stretch n t end)) (done s)) c Counted
+    by true k = keeps-bind counting (lineMeaning t s) (stretch n t end) c Counted Counted (line-counts t s c h) k
+    by false k = h
+
+module _ (source : Question → Answer) (places room : ℕ) (t : List ℕ) (r : Run) where
+  ends-counted : (m : Meaning State) → Keeps counting m 0 Counted → (s : State) → run source places room m .end ≡ finished s → s .page .number ≡ 1 + breaks (run source places room m .events)
+  ends-counted m k s e =
+      let h : s .page .number ≡ suc (after counting 0 (run source places room m .events)) = subst (λ x. AtEnd Counted x (after counting 0 (run source places room m .events))) e (keeps-end counting source places room m 0 Counted k) in
+      omega (arith, h, counted 0 (run source places room m .events))
+
+  -- A run that ends with success reports PAGENUM.
+  pub pages-are-pagenum : (s : State) → run source places room (runMeaning t r) .end ≡ finished s → ranTo (run source places room (runMeaning t r)) .pages ≡ s .page .number
+  pages-are-pagenum s e = sym (ends-counted (runMeaning t r) (run-counts 50000 t (r .end) (startOf r) 0 refl) s e)
+
+  -- After any number of lines PAGENUM is what a report that ended there would report: one more than the breaks printed.
+  pub pagenum-counts : (k : ℕ) (s : State) → run source places room (stretch k t (r .end) (startOf r)) .end ≡ finished s → s .page .number ≡ 1 + breaks (run source places room (stretch k t (r .end) (startOf r)) .events)
+  pagenum-counts k = ends-counted (stretch k t (r .end) (startOf r)) (stretch-counts k t (r .end) (startOf r) 0 refl)

@@ -23,7 +23,7 @@ fn close(made: Report) {
 // The report of what was read, printed. "Its text buffer has 65,536 bytes"
 fn print<'a>(template: &'a [u8], section: &'a [u8], store: &'a [u8]) {
     let mut text = io::large_buffer();
-    let made = printing::printed(template, section, store, store.len(), &mut text);
+    let made = printing::sheet(template, section, store, store.len(), &mut text);
     let n = made.bytes;
     io::write_all(STDOUT_FILENO, &text[..n]);
     close(made);

@@ -3,7 +3,9 @@ use meaning::question::Question;
 use report::reporting;
 use runs::Report;
 ghost use mathlib.Core.Path.{_≡_};
-ghost use Rattle.sheet.specs.Sheet.{Printed};
+ghost use lib.ListN.{length};
+ghost use Rattle.sheet.specs.Sheet.{Sheet};
+ghost use Rattle.sheet.specs.inner.Printed.{Fits, Printed};
 
 // What the places of the read list hold at first.
 fn no_question() -> Question {
@@ -16,8 +18,8 @@ fn no_question() -> Question {
     }
 }
 
-// "Its read list has 4,096 places."
-pub fn printed<'a>(
+// "its read list 4,096 places"
+fn printed<'a>(
     template: &'a [u8],
     section: &'a [u8],
     store: &'a [u8],
@@ -28,4 +30,18 @@ pub fn printed<'a>(
 {
     let mut reads = [no_question(); 4096];
     reporting::report(template, section, store, len, text, &mut reads)
+}
+
+// "Its text buffer has 65,536 bytes"
+pub fn sheet<'a>(
+    template: &'a [u8],
+    section: &'a [u8],
+    store: &'a [u8],
+    len: usize,
+    text: &mut [u8],
+) -> Report
+    requires { ⌜ length (now text) ≡ 65536 ⌝ }
+    ensures { λ r. ⌜ (Sheet (now (template .entry)) (now (section .entry)) (now (store .entry)) len (now (text .entry)) (now (text .exit)) r) × (Fits (now (text .exit)) r) ⌝ }
+{
+    printed(template, section, store, len, text)
 }

@@ -44,7 +44,7 @@ use denote.Exit.{yes}
 use Rattle.meaning.specs.declared.question.Question.{Question}
 use Rattle.runs.specs.declared.Report.{Report}
 use Rattle.report.specs.Reported.{Reported}
-use Rattle.sheet.specs.Sheet.{Printed}
+use Rattle.sheet.specs.inner.Printed.{Printed}
 use Rattle.report.proofs.Local.{arrayTy, is-repeat}
 use Rattle.sheet.proofs.Row.{lends-row, row-back, literal}
 use Rattle.sheet.proofs.Fitting.{printed-of}
