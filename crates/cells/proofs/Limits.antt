@@ -42,29 +42,20 @@ ValueWithin (A.number (Q.Integer z)) = natAbs z ≤ integerLimit
 ValueWithin (A.number (Q.Decimal z)) = natAbs z ≤ decimalLimit
 ValueWithin (string s) = length s ≤ 16
 
--- "record 0–999, entry 0–999"
+-- P of a cell's value; "record 0–999, entry 0–999"
+abbrev pub AnswerHas : (Value → Type 0) → Answer → Type 0
+AnswerHas P missing = Unit {0}
+AnswerHas P (cell v) = P v
+AnswerHas P (highest n) = n ≤ 999
+
 abbrev pub AnswerWithin : Answer → Type 0
-AnswerWithin missing = Unit {0}
-AnswerWithin (cell v) = ValueWithin v
-AnswerWithin (highest n) = n ≤ 999
+AnswerWithin a = AnswerHas ValueWithin a
 
 value-within : (v : Value) → valueAllowed v ≡ true → ValueWithin v
 unfolding valueAllowed
 value-within (A.number (Q.Integer z)) h = within-true integerLimit z h
 value-within (A.number (Q.Decimal z)) h = within-true decimalLimit z h
 value-within (string s) h = leb-true (length s) 16 (and-true (leb (length s) 16) (printable s) h .0)
-
-lookup-within : (n : ℕ) (cs : List Cell) → allowed cs ≡ true → AnswerWithin (found (lookup n cs))
-unfolding allowed found lookup
-lookup-within n [] h = tt
-lookup-within n (c ∷ cs) h = go (eqb (keyNumber c) n) (lookup-within n cs (t .1))
-  where
-    t : (cellAllowed c ≡ true) × (allowed cs ≡ true)
-    t = and-true (cellAllowed c) (allowed cs) h
-
-    go : (b : Bool) → AnswerWithin (found (lookup n cs)) → AnswerWithin (found (cond b (some c) (lookup n cs)))
-    go true r = value-within (c .value) (value-allowed c (t .0))
-    go false r = r
 
 highest-within : (m : Cell → Bool) (f : Cell → ℕ) → ((c : Cell) → cellAllowed c ≡ true → f c ≤ 999) → (cs : List Cell) → allowed cs ≡ true → highestOf m f cs ≤ 999
 unfolding allowed highestOf
@@ -78,22 +69,53 @@ highest-within m f g (c ∷ cs) h = go (m c) (highest-within m f g cs (t .1))
     go true r = omega (arith, g c (t .0))
     go false r = omega arith
 
-query-within : (o : Option Query) (cs : List Cell) → allowed cs ≡ true → AnswerWithin (queryAnswer o cs)
-unfolding queryAnswer
-query-within none cs h = tt
-query-within (some (theCell k)) cs h = lookup-within (number k) cs h
-query-within (some (highestRecord d p)) cs h = highest-within (ofParameter d p) (λ c. c .key .recordNumber) (λ c k. limits (c .key) (key-allowed c k) .recordNumber) cs h
-query-within (some (highestEntry d p r)) cs h = highest-within (ofRecord d p r) (λ c. c .key .entryNumber) (λ c k. limits (c .key) (key-allowed c k) .entryNumber) cs h
+-- What every allowed value has, an answer's value has, whatever the store holds.
+module _ (P : Value → Type 0) (every : (v : Value) → valueAllowed v ≡ true → P v) where
+  lookup-has : (n : ℕ) (cs : List Cell) → allowed cs ≡ true → AnswerHas P (found (lookup n cs))
+  unfolding allowed found lookup
+  lookup-has n [] h = tt
+  lookup-has n (c ∷ cs) h = go (eqb (keyNumber c) n) (lookup-has n cs (t .1))
+    where
+      t : (cellAllowed c ≡ true) × (allowed cs ≡ true)
+      t = and-true (cellAllowed c) (allowed cs) h
 
--- Whatever the store holds, an answer lies within its limits.
+      go : (b : Bool) → AnswerHas P (found (lookup n cs)) → AnswerHas P (found (cond b (some c) (lookup n cs)))
+      go true r = every (c .value) (value-allowed c (t .0))
+      go false r = r
+
+  query-has : (o : Option Query) (cs : List Cell) → allowed cs ≡ true → AnswerHas P (queryAnswer o cs)
+  unfolding queryAnswer
+  query-has none cs h = tt
+  query-has (some (theCell k)) cs h = lookup-has (number k) cs h
+  query-has (some (highestRecord d p)) cs h = highest-within (ofParameter d p) (λ c. c .key .recordNumber) (λ c k. limits (c .key) (key-allowed c k) .recordNumber) cs h
+  query-has (some (highestEntry d p r)) cs h = highest-within (ofRecord d p r) (λ c. c .key .entryNumber) (λ c k. limits (c .key) (key-allowed c k) .entryNumber) cs h
+
+  pub ask-has : (b : List ℕ) (n : ℕ) (q : Question) → AnswerHas P (askOf b n q .answer)
+  unfolding askOf replied answer
+  ask-has b n q = go (held b n) refl
+    where
+      by : (t : Bool) (cs : List Cell) → allowed cs ≡ true → AnswerHas P (cond t (answeredAsk (answer q cs)) (refusedAsk BadRequest) .answer)
+      by true cs h = query-has (queryOf q) cs h
+      by false cs h = tt
+
+      go : (o : Option (List Cell)) → held b n ≡ o → AnswerHas P (replied q o .answer)
+      go none e = tt
+      go (some cs) e = by (questionAllowed q) cs (held-some b n cs e .holds .valid .allowed)
+
+-- An answer lies within its limits.
 pub ask-within : (b : List ℕ) (n : ℕ) (q : Question) → AnswerWithin (askOf b n q .answer)
-unfolding askOf replied answer
-ask-within b n q = go (held b n) refl
-  where
-    by : (t : Bool) (cs : List Cell) → allowed cs ≡ true → AnswerWithin (cond t (answeredAsk (answer q cs)) (refusedAsk BadRequest) .answer)
-    by true cs h = query-within (queryOf q) cs h
-    by false cs h = tt
+ask-within = ask-has ValueWithin value-within
 
-    go : (o : Option (List Cell)) → held b n ≡ o → AnswerWithin (replied q o .answer)
-    go none e = tt
-    go (some cs) e = by (questionAllowed q) cs (held-some b n cs e .holds .valid .allowed)
+-- A string that is answered is "of 0x20–0x7E".
+abbrev pub Lettered : Value → Type 0
+Lettered (A.number q) = Unit {0}
+Lettered (string s) = printable s ≡ true
+
+value-lettered : (v : Value) → valueAllowed v ≡ true → Lettered v
+unfolding valueAllowed
+value-lettered (A.number (Q.Integer z)) h = tt
+value-lettered (A.number (Q.Decimal z)) h = tt
+value-lettered (string s) h = and-true (leb (length s) 16) (printable s) h .1
+
+pub ask-lettered : (b : List ℕ) (n : ℕ) (q : Question) → AnswerHas Lettered (askOf b n q .answer)
+ask-lettered = ask-has Lettered value-lettered

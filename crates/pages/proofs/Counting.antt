@@ -44,7 +44,8 @@ OnPage p c = p .number ≡ suc c
 
 -- ---- a text line and what comes before it
 
-values-give : (m : Machine) (l : List ℕ) (n : ℕ) (ps : List Piece) → Gives (fieldValues m l n ps) Anything
+-- The questions of a line's fields print nothing.
+pub values-give : (m : Machine) (l : List ℕ) (n : ℕ) (ps : List Piece) → Gives (fieldValues m l n ps) Anything
 values-give m l n [] = tt
 values-give m l n (Plain b ∷ ps) = values-give m l n ps
 values-give m l n (Placed f ∷ ps) =

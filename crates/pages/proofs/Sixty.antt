@@ -12,25 +12,21 @@ use Rattle.meaning.specs.Tree.{done, bind}
 use Rattle.meaning.specs.Rule.{Keeps, pageLimit}
 use Rattle.meaning.proofs.Keeping.{keeps-bind, keeps-more}
 use Rattle.texts.specs.declared.text.Piece.{Piece}
-use Rattle.texts.specs.declared.text.Piece.the-variants.{Plain, Placed}
 use Rattle.values.specs.Machine.{Machine}
-use Rattle.values.specs.Meanings.{argumentMeaning}
-use Rattle.values.proofs.Still.{Still, still-bind, argument-still}
+use Rattle.values.proofs.Giving.{Anything}
+use Rattle.values.proofs.Still.{Still, gives-still}
 use Rattle.pages.specs.declared.page.Page.{Page}
 use Rattle.pages.specs.declared.heading.Heading.{Heading}
 use Rattle.texts.specs.Pieces.{piecesOf}
 use Rattle.rendering.specs.Text.{fieldValues, rendered, anyWrong, printed, textMeaning}
 use Rattle.pages.specs.Page.{advancedOf, on, sayMeaning, headLine, headFrom, headNumber, headMeaning, headsMeaning, highestOf, breakMeaning, turnMeaning, topMeaning, lineStep}
 use Rattle.pages.proofs.Turning.{highest-most}
+use Rattle.pages.proofs.Counting.{values-give}
 
 -- ---- questions print nothing
 
 values-still : (m : Machine) (l : List ℕ) (n : ℕ) (ps : List Piece) → Still (fieldValues m l n ps)
-values-still m l n [] c = refl
-values-still m l n (Plain b ∷ ps) c = values-still m l n ps c
-values-still m l n (Placed f ∷ ps) c =
-    still-bind (argumentMeaning m l n (f .argument)) (λ w. bind (fieldValues m l n ps) (λ ws. done (w ∷ ws))) (argument-still m l n (f .argument))
-    (λ w. still-bind (fieldValues m l n ps) (λ ws. done (w ∷ ws)) (values-still m l n ps) (λ ws k. refl)) c
+values-still m l n ps = gives-still (fieldValues m l n ps) Anything (values-give m l n ps)
 
 -- ---- a line is one line
 

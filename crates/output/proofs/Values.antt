@@ -1,0 +1,202 @@
+-- Strings of a run are printable: those of cells, of the template, of SV, R and T, where the answers are.
+use mathlib.Core.Bool.{Bool, true, false, cond}
+use mathlib.Core.List.{List, [], _∷_, map}
+use Prim.Native.Nat.{ℕ, zero, suc, _+_, _-_}
+use lib.Dec.{leb}
+use lib.IntN.{ℤ, pos, negsuc}
+use lib.ListN.{take, drop}
+use Rattle.meaning.specs.Each.{Each}
+use Rattle.meaning.specs.Answer as A
+use Rattle.meaning.specs.Answer.{Answer, cell, highest}
+use Rattle.meaning.specs.Tree.{done, stop, ask, bind}
+use Rattle.meaning.specs.Meaning.{Meaning, asksEach}
+use Rattle.meaning.specs.declared.question.Question.{Question}
+use Rattle.meaning.specs.declared.refusal.Refusal.the-variants.{BadIndex}
+use Rattle.meaning.proofs.Yielding.{Yields, yields-bind, yields-any}
+use Rattle.numbers.specs.declared.Quantity.{Quantity}
+use Rattle.numbers.specs.declared.Quantity.the-variants.{Integer, Decimal}
+use Rattle.numbers.specs.Outcome.{Outcome, success, refused}
+use Rattle.arguments.specs.declared.argument.Argument.{Argument}
+use Rattle.arguments.specs.declared.argument.Filter.{Filter}
+use Rattle.arguments.specs.declared.argument.Filter.the-variants.{Unfiltered, Absolute, Truncated, UpperCase, Length, RecordCount, EntryCount}
+use Rattle.arguments.specs.declared.index.Index.{Index}
+use Rattle.arguments.specs.declared.index.Index.the-variants.{Fixed}
+use Rattle.arguments.specs.declared.operand.Operand.{Operand}
+use Rattle.arguments.specs.declared.operand.Operand.the-variants.{Number, Text, IntegerVariable, DecimalVariable, StringVariable, PageNumber, LineNumber, LoopCounter, RecordElement, EntryElement, Parameter, Record, Entry}
+use Rattle.lines.specs.declared.command.Fetch.{Fetch}
+use Rattle.lines.specs.declared.command.Operation.{Operation}
+use Rattle.lines.specs.declared.command.Target.{Target}
+use Rattle.lines.specs.declared.command.Target.the-variants.{IntegerTarget, DecimalTarget, StringTarget}
+use Rattle.values.specs.declared.fetch.Along.{Along}
+use Rattle.values.specs.declared.fetch.Along.the-variants.{Records, Entries}
+use Rattle.values.specs.Machine.{Machine, numbered}
+use Rattle.values.specs.Worth.{Worth, missing, wrong, number, string, answered, ranged, absolute, filteredNumber, filteredString, filtered, kindOf}
+use Rattle.values.specs.Meanings.{indexNumber, indexValue, question, asks, cellMeaning, worthOf, element, operandMeaning, argumentMeaning}
+use Rattle.values.specs.Fetching.{elementQuestion, elementQuestions, countValue, firstOf, asksElements, fetchMeaning}
+use Rattle.values.proofs.Ranges.{numbered-each}
+use Rattle.coercions.specs.Settling.{Settled, settled, against, andThen, concluded, stringFrom}
+use Rattle.assignments.specs.Setting.{setNumbered, stored, stringNew, integerNew, decimalNew, withStrings, setOf, setMeaning}
+use Rattle.commands.specs.Fetching.{recordsMeaning, entriesMeaning}
+use Rattle.commands.proofs.Ranges as C
+use Rattle.output.specs.Printable.{Printable, Clean}
+use Rattle.output.proofs.Bytes.{each-take, each-drop, upper-clean}
+use Rattle.output.proofs.Fields.{WorthClean}
+
+abbrev pub AnswerClean : Answer → Type 0
+AnswerClean A.missing = Unit {0}
+AnswerClean (cell (A.number q)) = Unit {0}
+AnswerClean (cell (A.string s)) = Clean s
+AnswerClean (highest n) = Unit {0}
+
+-- the strings that a machine holds
+pub record MachineClean (m : Machine) : Type 0 where
+  pub strings : Each Clean (m .strings)
+  pub records : Each (Each AnswerClean) (m .records)
+  pub entries : Each (Each AnswerClean) (m .entries)
+
+-- ---- arguments
+
+answered-clean : (a : Answer) → AnswerClean a → WorthClean (answered a)
+unfolding answered
+answered-clean A.missing h = tt
+answered-clean (cell (A.number q)) h = tt
+answered-clean (cell (A.string s)) h = h
+answered-clean (highest n) h = tt
+
+ranged-clean : (kind : ℤ → Quantity) (o : Outcome) → WorthClean (ranged kind o)
+unfolding ranged
+ranged-clean kind (success z) = tt
+ranged-clean kind (refused n) = tt
+
+number-clean : (f : Filter) (q : Quantity) → WorthClean (filteredNumber f q)
+unfolding filteredNumber absolute
+number-clean Unfiltered q = tt
+number-clean Absolute (Integer n) = ranged-clean Integer _
+number-clean Absolute (Decimal m) = ranged-clean Decimal _
+number-clean Truncated q = tt
+number-clean UpperCase q = tt
+number-clean Length q = tt
+number-clean RecordCount q = tt
+number-clean EntryCount q = tt
+
+string-clean : (f : Filter) (s : List ℕ) → Clean s → WorthClean (filteredString f s)
+unfolding filteredString
+string-clean Unfiltered s h = h
+string-clean Absolute s h = tt
+string-clean Truncated s h = tt
+string-clean UpperCase s h = upper-clean s h
+string-clean Length s h = tt
+string-clean RecordCount s h = h
+string-clean EntryCount s h = h
+
+filtered-clean : (f : Filter) (w : Worth) → WorthClean w → WorthClean (filtered f w)
+unfolding filtered
+filtered-clean f missing h = tt
+filtered-clean f wrong h = tt
+filtered-clean f (number q) h = number-clean f q
+filtered-clean f (string s) h = string-clean f s h
+
+element-clean : (l : List Answer) (z : ℤ) → Each AnswerClean l → AnswerClean (element l z)
+unfolding element
+element-clean l (pos n) h = numbered-each AnswerClean A.missing l n tt h
+element-clean l (negsuc n) h = tt
+
+module _ (m : Machine) (line : ℕ) where
+  cell-clean : (kind p : ℕ) (i j : Index) → Yields AnswerClean (worthOf (cellMeaning m line kind p i j)) WorthClean
+  unfolding worthOf cellMeaning asks
+  cell-clean kind p i j =
+      yields-bind AnswerClean (cellMeaning m line kind p i j) (λ a. done (answered a)) AnswerClean WorthClean
+      (yields-bind AnswerClean (indexValue m line i) (λ r. bind (indexValue m line j) (λ e. ask (question (m .datasource) kind p r e) line (λ a. done a))) (λ _. Unit {0}) AnswerClean (yields-any AnswerClean (indexValue m line i)) (λ r h.
+      yields-bind AnswerClean (indexValue m line j) (λ e. ask (question (m .datasource) kind p r e) line (λ a. done a)) (λ _. Unit {0}) AnswerClean (yields-any AnswerClean (indexValue m line j)) (λ e k a w. w)))
+      (λ a h. answered-clean a h)
+
+  module _ (h : MachineClean m) (s : List ℕ) (c : Clean s) where
+    operand-clean : (kind : ℕ) (o : Operand) → Yields AnswerClean (operandMeaning m s line kind o) WorthClean
+    unfolding operandMeaning
+    operand-clean kind (Number q) = tt
+    operand-clean kind (Text a e) = each-take Printable (e - a) (drop a s) (each-drop Printable a s c)
+    operand-clean kind (IntegerVariable n) = tt
+    operand-clean kind (DecimalVariable n) = tt
+    operand-clean kind (StringVariable n) = numbered-each Clean [] (m .strings) n tt (h .strings)
+    operand-clean kind PageNumber = tt
+    operand-clean kind LineNumber = tt
+    operand-clean kind LoopCounter = tt
+    operand-clean kind (RecordElement n) = answered-clean _ (element-clean (numbered [] (m .records) n) (m .counter) (numbered-each (Each AnswerClean) [] (m .records) n tt (h .records)))
+    operand-clean kind (EntryElement n) = answered-clean _ (element-clean (numbered [] (m .entries) n) (m .counter) (numbered-each (Each AnswerClean) [] (m .entries) n tt (h .entries)))
+    operand-clean kind (Parameter p) = cell-clean kind p (Fixed 0) (Fixed 0)
+    operand-clean kind (Record p r) = cell-clean kind p r (Fixed 0)
+    operand-clean kind (Entry p r e) = cell-clean kind p r e
+
+    -- What an argument is worth, on a line of printable bytes.
+    pub argument-clean : (a : Argument) → Yields AnswerClean (argumentMeaning m s line a) WorthClean
+    unfolding argumentMeaning
+    argument-clean a =
+        yields-bind AnswerClean (operandMeaning m s line (kindOf (a .filter)) (a .operand)) (λ w. done (filtered (a .filter) w)) WorthClean WorthClean (operand-clean (kindOf (a .filter)) (a .operand)) (λ w k. filtered-clean (a .filter) w k)
+
+-- ---- commands that set
+
+-- what follows from the values, where something does
+abbrev Whenever : {A : Type 0} → Settled A → (A → Type 0) → Type 0
+Whenever (settled a) Φ = Φ a
+Whenever (against e) Φ = Unit {0}
+
+concluded-clean : {A : Type 0} (line : ℕ) (x : Settled A) (Φ : A → Type 0) → Whenever x Φ → Yields AnswerClean (concluded line x) Φ
+concluded-clean line (settled a) Φ h = h
+concluded-clean line (against e) Φ h = tt
+
+then-always : {A B : Type 0} (x : Settled A) (f : A → Settled B) (Φ : B → Type 0) → ((a : A) → Whenever (f a) Φ) → Whenever (andThen x f) Φ
+then-always (settled a) f Φ h = h a
+then-always (against e) f Φ h = tt
+
+string-new : (w : Worth) → WorthClean w → Whenever (stringNew w) Clean
+unfolding stringNew stringFrom
+string-new missing h = tt
+string-new wrong h = tt
+string-new (number q) h = tt
+string-new (string s) h = each-take Printable 16 s h
+
+stored-clean : (l : List (List ℕ)) (n : ℕ) (x : Settled (List ℕ)) → Each Clean l → Whenever x Clean → (f : List (List ℕ) → Machine) → ((k : List (List ℕ)) → Each Clean k → MachineClean (f k)) → Whenever (andThen (stored l n x) (λ k. settled (f k))) MachineClean
+unfolding stored
+stored-clean l n (settled s) h c f g = g (setNumbered l n s) (C.numbered-each Clean l n s c h)
+stored-clean l n (against e) h c f g = tt
+
+module _ (m : Machine) (h : MachineClean m) where
+  set-of : (o : Operation) (t : Target) (w : Worth) → WorthClean w → Whenever (setOf m o t w) MachineClean
+  unfolding setOf
+  set-of o (IntegerTarget n) w k = then-always (stored (m .integers) n (integerNew o (numbered (pos 0) (m .integers) n) w)) _ MachineClean (λ l. record { strings = h .strings; records = h .records; entries = h .entries })
+  set-of o (DecimalTarget n) w k = then-always (stored (m .decimals) n (decimalNew o (numbered (pos 0) (m .decimals) n) w)) _ MachineClean (λ l. record { strings = h .strings; records = h .records; entries = h .entries })
+  set-of o (StringTarget n) w k = stored-clean (m .strings) n (stringNew w) (h .strings) (string-new w k) (withStrings m) (λ l a. record { strings = a; records = h .records; entries = h .entries })
+
+  pub set-clean : (line : ℕ) (s : List ℕ) → Clean s → (o : Operation) (t : Target) (a : Argument) → Yields AnswerClean (setMeaning m s line o t a) MachineClean
+  unfolding setMeaning
+  set-clean line s c o t a =
+      yields-bind AnswerClean (argumentMeaning m s line a) (λ w. concluded line (setOf m o t w)) WorthClean MachineClean (argument-clean m line h s c a) (λ w k. concluded-clean line (setOf m o t w) MachineClean (set-of o t w k))
+
+-- ---- $REC and $TBL
+
+each-clean : (line : ℕ) (qs : List Question) → Yields AnswerClean (asksEach line qs) (Each AnswerClean)
+unfolding asksEach
+each-clean line [] = tt
+each-clean line (q ∷ qs) =
+    λ r p. yields-bind AnswerClean (asksEach line qs) (λ rest. done (r ∷ rest)) (Each AnswerClean) (Each AnswerClean) (each-clean line qs) (λ l h. (p, h))
+
+fetch-clean : (m : Machine) (line : ℕ) (along : Along) (p : ℕ) (i j c : Index) → Yields AnswerClean (fetchMeaning m line along p i j c) (Each AnswerClean)
+unfolding fetchMeaning asksElements
+fetch-clean m line along p i j c =
+    yields-bind AnswerClean (indexValue m line i) _ (λ _. Unit {0}) (Each AnswerClean) (yields-any AnswerClean (indexValue m line i)) (λ r h.
+    yields-bind AnswerClean (indexValue m line j) _ (λ _. Unit {0}) (Each AnswerClean) (yields-any AnswerClean (indexValue m line j)) (λ e k.
+    yields-bind AnswerClean (countValue line (indexNumber (m .integers) (m .counter) c)) _ (λ _. Unit {0}) (Each AnswerClean) (yields-any AnswerClean (countValue line (indexNumber (m .integers) (m .counter) c))) (λ n l.
+    by (leb (firstOf along r e + n) 1000) (asksEach line (elementQuestions (elementQuestion (m .datasource) along p r e) 0 n)) (each-clean line _))))
+  where
+    by : (b : Bool) (t : Meaning (List Answer)) → Yields AnswerClean t (Each AnswerClean) → Yields AnswerClean (cond b t (stop BadIndex line)) (Each AnswerClean)
+    by true t h = h
+    by false t h = tt
+
+module _ (m : Machine) (h : MachineClean m) (line : ℕ) (f : Fetch) where
+  pub records-clean : Yields AnswerClean (recordsMeaning m line f) MachineClean
+  unfolding recordsMeaning
+  records-clean = yields-bind AnswerClean (fetchMeaning m line Records (f .parameter) (f .first) (f .second) (f .count)) _ (Each AnswerClean) MachineClean (fetch-clean m line Records (f .parameter) (f .first) (f .second) (f .count)) (λ l k. record { strings = h .strings; records = C.numbered-each (Each AnswerClean) (m .records) (f .number) l k (h .records); entries = h .entries })
+
+  pub entries-clean : Yields AnswerClean (entriesMeaning m line f) MachineClean
+  unfolding entriesMeaning
+  entries-clean = yields-bind AnswerClean (fetchMeaning m line Entries (f .parameter) (f .first) (f .second) (f .count)) _ (Each AnswerClean) MachineClean (fetch-clean m line Entries (f .parameter) (f .first) (f .second) (f .count)) (λ l k. record { strings = h .strings; records = h .records; entries = C.numbered-each (Each AnswerClean) (m .entries) (f .number) l k (h .entries) })
