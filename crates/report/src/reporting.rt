@@ -2,8 +2,8 @@
 use meaning::question::Question;
 use runs::Report;
 use runs::reads;
-use runs::run;
 use runs::start;
+use stretches::stretch;
 ghost use Rattle.report.specs.Reported.{Reported};
 
 // The report of a template on a store: the text and the questions asked, each from its buffer's start, and how it ended.
@@ -21,7 +21,7 @@ pub fn report<'a>(
     let mut strings = [[0u8; 16]; 99];
     let mut s = start::begin(template, section, store, len, &mut index, reads.len());
     while s.more {
-        s = run::run(template, store, &mut index, text, &mut strings, s);
+        s = stretch::run(template, store, &mut index, text, &mut strings, s);
         reads::append(reads, s.log);
     }
     s.report

@@ -20,7 +20,7 @@ use Rattle.meaning.specs.declared.refusal.Refusal.the-variants as refusal
 use Rattle.runs.specs.declared.state.Stretch.{Stretch}
 use Rattle.runs.specs.Report.{refusedWith, checkedOutcome, reportOf}
 use Rattle.runs.specs.inner.Start.{startFlow, startSaved, refusedAt, startedAt}
-use Rattle.runs.specs.inner.Stretch.{Begun}
+use Rattle.runs.specs.inner.Begun.{Begun}
 use Rattle.runs.proofs.Starting.{starts-at}
 use Rattle.runs.proofs.Stored.{Serving, part-kept}
 

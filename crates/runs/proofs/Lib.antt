@@ -1,8 +1,6 @@
 pub mod Elem
 pub mod Walk
 pub mod Rows
-pub mod Splitting
-pub mod Stretching
 pub mod Starting
 pub mod Stored
 pub mod Beginning

@@ -11,7 +11,7 @@ use Rattle.pages.specs.inner.Packed.{headingIn}
 use Rattle.control.specs.inner.Held.{stateOf}
 use Rattle.runs.specs.Report.{startOf}
 use Rattle.runs.specs.inner.Start.{startFlow, startSaved}
-use Rattle.runs.specs.inner.Stretch.{heldIn}
+use Rattle.runs.specs.inner.Begun.{heldIn}
 
 pub starts-at : (run : Run) (len count places : ℕ) (rows : List (List ℕ)) (source : Question → Answer) → stateOf source (heldIn (startSaved run len count places) rows) (startFlow run) ≡ startOf run
 unfolding startSaved startFlow texts wordsFrom fetched opened headingIn

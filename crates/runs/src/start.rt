@@ -16,7 +16,7 @@ ghost use mathlib.Core.Path.{_≡_};
 ghost use Prim.Native.Nat.{_≤_};
 ghost use lib.ListN.{length};
 ghost use Rattle.runs.specs.inner.Start.{noLog, startFlow, startSaved, nothingSaved, refusedAt, startedAt};
-ghost use Rattle.runs.specs.inner.Stretch.{Begun};
+ghost use Rattle.runs.specs.inner.Begun.{Begun};
 
 // A log without questions.
 fn no_log() -> Log

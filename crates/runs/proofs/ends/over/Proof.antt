@@ -1,7 +1,7 @@
 use Rattle.runs.specs.inner.Start.{overAt}
 use borrow.Author.Needs.{needs}
-use Rattle.runs.proofs.run.over.Statement.{statement}
-use Rattle.runs.proofs.run.over.Tie as tie
+use Rattle.runs.proofs.ends.over.Statement.{statement}
+use Rattle.runs.proofs.ends.over.Tie as tie
 
 nothing-requires : tie.Need-nothing-requires
 nothing-requires c κs = search needs

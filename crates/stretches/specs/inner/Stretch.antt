@@ -1,14 +1,10 @@
--- What `begin`, `run` and `report` ask for and hand back: a run goes stretch by stretch, as many lines as the log has places for.
+-- What `run` asks for and hands back: a run goes stretch by stretch, as many lines as the log has places for.
 use mathlib.Core.Path.{_≡_}
 use mathlib.Core.Bool.{true, false, cond}
-use mathlib.Core.List.{List, []}
+use mathlib.Core.List.{List}
 use Prim.Native.Nat.{ℕ, zero, suc, _+_, _-_, _≤_, _<_}
 use lib.Dec.{ltb}
 use lib.ListN.{length, take, replicate}
-use Rattle.template.specs.declared.Run.{Run}
-use Rattle.template.specs.declared.Checked.the-variants.{Accepted}
-use Rattle.template.specs.Order.{templateChecked}
-use Rattle.meaning.specs.Answer.{Answer}
 use Rattle.meaning.specs.Tree.{done, bind, finished}
 use Rattle.meaning.specs.Place.{Place, at, Does}
 use Rattle.meaning.specs.Number.{numberOf, lineOf, endOf}
@@ -16,34 +12,22 @@ use Rattle.meaning.specs.Meaning.{Meaning}
 use Rattle.meaning.specs.declared.question.Question.{Question}
 use Rattle.meaning.specs.declared.end.Ended.{Ended}
 use Rattle.values.specs.inner.Word.{questions}
 use Rattle.runs.specs.declared.state.Saved.{Saved}
 use Rattle.runs.specs.declared.state.Log.{Log}
 use Rattle.runs.specs.declared.state.Stretch.{Stretch}
 use Rattle.runs.specs.declared.Report.{Report}
-use Rattle.control.specs.inner.Held.{Held, stateOf}
+use Rattle.control.specs.inner.Held.{stateOf}
 use Rattle.control.specs.State.{State}
 use Rattle.control.specs.Line.{lineMeaning}
 use Rattle.control.specs.inner.Sound.{Sound}
 use Rattle.control.specs.inner.Executing.{sourceOf, Kept}
-use Rattle.runs.specs.Report.{runFrom, startOf, Outcome, textIn, reportOf, reportIn}
+use Rattle.runs.specs.Report.{runFrom}
+use Rattle.runs.specs.inner.Begun.{heldIn}
 
 -- at most k lines
 unfoldable pub stretch : ℕ → List ℕ → ℕ → State → Meaning State
 stretch zero t end s = done s
 stretch (suc k) t end s = cond (ltb (s .at) end) (bind (lineMeaning t s) (stretch k t end)) (done s)
-
--- what is saved between two stretches, beside the rows of SV
-abbrev pub heldIn : Saved → List (List ℕ) → Held
-heldIn v rows =
-    record {
-      integers = v .integers;
-      decimals = v .decimals;
-      rows = rows;
-      lengths = v .lengths;
-      records = v .records;
-      entries = v .entries;
-      headings = v .headings;
-    }
 
 -- the part of the store buffer that is the store
 abbrev pub storeOf : Saved → List ℕ → List ℕ
@@ -95,28 +79,3 @@ pub record Ran (t b index T : List ℕ) (rows : List (List ℕ)) (s : Stretch) (
   pub same-places : r .more ≡ true → r .saved .places ≡ s .saved .places
   -- the run is over
   pub over : r .more ≡ false → Over t b T rows (s .saved) T′ (r .log) (r .report)
-
--- ---- the whole
-
--- o is a refusal of the whole call, and r says so: nothing is printed, nothing asked
-pub record Untouched (o : Outcome) (r : Report) : Type 0 where
-  pub result : r ≡ reportIn o
-  pub text : textIn o ≡ []
-  pub questions : o .questions ≡ []
-
--- before the first line: the checks have refused the call, or the run may start, whatever the rows of SV hold
-pub record Begun (t name b : List ℕ) (n places : ℕ) (index : List ℕ) (r : Stretch) : Type 0 where
-  pub refused : r .more ≡ false → (room : ℕ) → Untouched (reportOf t name b n places room) (r .report)
-  pub run : r .more ≡ true → Run
-  pub accepted : (m : r .more ≡ true) → templateChecked t name ≡ Accepted (run m)
-  pub start : (m : r .more ≡ true) (rows : List (List ℕ)) (source : Question → Answer) → stateOf source (heldIn (r .saved) rows) (r .saved .flow) ≡ startOf (run m)
-  pub end : (m : r .more ≡ true) → r .saved .end ≡ run m .end
-  pub left : r .more ≡ true → r .saved .left ≡ 50000
-  pub page : r .more ≡ true → r .saved .flow .page .number ≡ 1
-  pub printed : r .more ≡ true → r .saved .printed ≡ 0
-  pub asked : r .more ≡ true → r .saved .asked ≡ 0
-  pub lent : r .more ≡ true → r .saved .places ≡ places
-  pub len : r .more ≡ true → r .saved .len ≡ n
-  pub stored : r .more ≡ true → n ≤ length b
-  pub short : r .more ≡ true → n ≤ 65536
-  pub kept : r .more ≡ true → Kept (take n b) index (r .saved .count)

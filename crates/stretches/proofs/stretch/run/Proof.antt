@@ -2,10 +2,10 @@
 use mathlib.Core.Path.{refl, sym}
 use native.Mathlib.Omega.{arith}
 use Rattle.control.specs.inner.Executing.{held}
-use Rattle.runs.proofs.Stretching.{Going, going-start, asked-fit, run-ends, run-exceeds, run-full, line-ready, asked-next, text-next, run-halts, going-next}
+use Rattle.stretches.proofs.Stretching.{Going, going-start, asked-fit, run-ends, run-exceeds, run-full, line-ready, asked-next, text-next, run-halts, going-next}
 use borrow.Author.Needs.{needs}
-use Rattle.runs.proofs.run.run.Statement.{statement}
-use Rattle.runs.proofs.run.run.Tie as tie
+use Rattle.stretches.proofs.stretch.run.Statement.{statement}
+use Rattle.stretches.proofs.stretch.run.Tie as tie
 
 abbrev Inv-loop : tie.InvT-loop
 Inv-loop template store index text₀ strings₀ saved len part end count asked places integers₀ decimals₀ lengths₀ records₀ entries₀ headings₀ flow₀ left₀ printed₀ words₀ logged₀ text strings integers decimals lengths records entries headings flow left printed words logged =

@@ -1,7 +1,7 @@
 use mathlib.Core.Path.{refl}
 use Rattle.runs.specs.inner.Start.{fullAt}
-use Rattle.runs.proofs.run.full.Statement.{statement}
-use Rattle.runs.proofs.run.full.Tie as tie
+use Rattle.runs.proofs.ends.full.Statement.{statement}
+use Rattle.runs.proofs.ends.full.Tie as tie
 
 returns : tie.Need-returns
 unfolding fullAt

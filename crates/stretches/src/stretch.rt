@@ -1,73 +1,13 @@
 // A stretch of lines: as many as the log has places for.
-use crate::Report;
-use crate::start;
-use crate::state::Log;
-use crate::state::Saved;
-use crate::state::Stretch;
 use execution::line;
 use meaning::end::Ended;
 use meaning::end::Halt;
 use meaning::refusal::Refusal;
+use runs::ends;
+use runs::state::Saved;
+use runs::state::Stretch;
 ghost use mathlib.Core.Path.{_≡_};
-ghost use Prim.Native.Nat.{_+_, _<_, _^_};
-ghost use Rattle.runs.specs.inner.Stretch.{RunReady, Ran};
-ghost use Rattle.runs.specs.inner.Start.{overAt, fullAt};
-
-// The run is over: how it ended, and what it left.
-fn over(
-    end: Ended,
-    page: u32,
-    printed: usize,
-    at: usize,
-    words: &[u64; 512],
-    logged: usize,
-) -> Stretch
-    requires { ⌜ at + logged < 2 ^ 64 ⌝ }
-    ensures { λ r. ⌜ r ≡ overAt end page printed at (now (words .entry)) logged ⌝ }
-{
-    let saved = start::nothing();
-    let words = *words;
-    let questions = at + logged;
-    Stretch {
-        more: false,
-        log: Log {
-            at,
-            n: logged,
-            words,
-        },
-        report: Report {
-            number: end.number(),
-            line: end.line(),
-            pages: page,
-            bytes: printed,
-            questions,
-        },
-        saved,
-    }
-}
-
-// The log is full: its questions stand on the read list from a place on, and the run goes on as saved.
-fn full(at: usize, words: &[u64; 512], logged: usize, saved: Saved) -> Stretch
-    ensures { λ r. ⌜ r ≡ fullAt at (now (words .entry)) logged saved ⌝ }
-{
-    let words = *words;
-    Stretch {
-        more: true,
-        log: Log {
-            at,
-            n: logged,
-            words,
-        },
-        report: Report {
-            number: 0,
-            line: 0,
-            pages: 0,
-            bytes: 0,
-            questions: 0,
-        },
-        saved,
-    }
-}
+ghost use Rattle.stretches.specs.inner.Stretch.{RunReady, Ran};
 
 // From a stretch on: lines are executed while the log has places for all questions that a line may ask.
 pub fn run<'a, 'b, 'c>(
@@ -102,7 +42,7 @@ pub fn run<'a, 'b, 'c>(
     while 0 < left {
         let at = flow.at;
         if end <= at {
-            return over(
+            return ends::over(
                 Ended::Finished,
                 flow.page.number,
                 printed,
@@ -128,7 +68,7 @@ pub fn run<'a, 'b, 'c>(
                 entries,
                 headings,
             };
-            return full(asked, &words, logged, next);
+            return ends::full(asked, &words, logged, next);
         }
         let lined = line::line(
             template,
@@ -154,13 +94,13 @@ pub fn run<'a, 'b, 'c>(
         logged = lined.asked;
         let ended = lined.end;
         let Ended::Finished = ended else {
-            return over(ended, flow.page.number, printed, asked, &words, logged);
+            return ends::over(ended, flow.page.number, printed, asked, &words, logged);
         };
         left -= 1;
     }
     let due = flow.at;
     if due < end {
-        return over(
+        return ends::over(
             Ended::Halted(Halt::Refused(Refusal::TooManyLines), flow.line),
             flow.page.number,
             printed,
@@ -169,7 +109,7 @@ pub fn run<'a, 'b, 'c>(
             logged,
         );
     }
-    over(
+    ends::over(
         Ended::Finished,
         flow.page.number,
         printed,
