@@ -13,7 +13,7 @@ use Rattle.meaning.specs.Rule.{Keeps, pageLimit}
 use Rattle.meaning.proofs.Keeping.{keeps-bind, keeps-more}
 use Rattle.texts.specs.declared.text.Piece.{Piece}
 use Rattle.texts.specs.declared.text.Piece.the-variants.{Plain, Placed}
-use Rattle.values.specs.Machine.{Machine}
+use Rattle.questions.specs.Machine.{Machine}
 use Rattle.values.specs.Meanings.{argumentMeaning}
 use Rattle.values.proofs.Still.{Still, still-bind, argument-still}
 use Rattle.pages.specs.declared.page.Page.{Page}

@@ -21,7 +21,7 @@ use Rattle.meaning.specs.Meaning.{Meaning}
 use Rattle.meaning.specs.declared.refusal.Refusal.the-variants.{TooManyLines, BadStore}
 use Rattle.meaning.proofs.Keeping.{keeps-bind, keeps-pages}
 use Rattle.meaning.proofs.Events.{page-count}
-use Rattle.values.specs.Source.{answers}
+use Rattle.questions.specs.Source.{answers}
 use Rattle.control.specs.State.{State}
 use Rattle.control.specs.Line.{lineMeaning}
 use Rattle.execution.proofs.Sounds.{On, line-keeps}
