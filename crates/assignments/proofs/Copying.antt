@@ -12,12 +12,13 @@ use Rattle.meaning.specs.declared.refusal.Refusal.{Refusal}
 use Rattle.meaning.specs.declared.end.Halt.the-variants as H
 use Rattle.meaning.specs.declared.end.Ended.the-variants.{Finished, Halted}
 use Rattle.buffers.proofs.Laws.{copied-more}
-use Rattle.values.specs.declared.part.Text.{Text}
+use Rattle.strings.specs.declared.part.Text.{Text}
+use Rattle.strings.specs.Letters.{letter}
+use Rattle.strings.specs.inner.Texts.{zeros, rowFor, chosen, Strings, strings, cased}
+use Rattle.strings.proofs.Texts.{text-is, length-cased}
+use Rattle.questions.specs.inner.State.{texts}
 use Rattle.values.specs.declared.worth.Worth.{Worth}
-use Rattle.values.specs.Letters.{letter}
-use Rattle.values.specs.inner.State.{zeros, rowFor, chosen, Strings, strings, cased, texts}
 use Rattle.values.proofs.Keeping.{strings-kept}
-use Rattle.values.proofs.Texts.{text-is, length-cased}
 use Rattle.coercions.specs.declared.settle.Phrase.{Phrase}
 use Rattle.coercions.specs.declared.settle.Phrase.the-variants.{String, NoString}
 use Rattle.assignments.specs.Setting.{setNumbered, stored, stringNew}

@@ -18,14 +18,15 @@ use Rattle.arguments.specs.declared.argument.Argument.{Argument}
 use Rattle.lines.specs.declared.command.Operation.{Operation}
 use Rattle.lines.specs.declared.command.Target.{Target}
 use Rattle.lines.specs.declared.command.Target.the-variants.{IntegerTarget, DecimalTarget, StringTarget}
-use Rattle.values.specs.declared.scene.Scene.{Scene}
+use Rattle.strings.specs.inner.Texts.{Strings, strings}
+use Rattle.questions.specs.declared.scene.Scene.{Scene}
+use Rattle.questions.specs.Machine.{Machine, numbered}
+use Rattle.questions.specs.inner.State.{machine}
 use Rattle.values.specs.declared.worth.Worth.{Worth}
 use Rattle.values.specs.declared.worth.Valued.{Valued}
 use Rattle.values.specs.Worth as D
-use Rattle.values.specs.Machine.{Machine, numbered}
 use Rattle.values.specs.Meanings.{argumentMeaning}
-use Rattle.values.specs.inner.State.{Strings, strings, meant, machine}
-use Rattle.values.specs.inner.Yielding.{ArgumentValue}
+use Rattle.values.specs.inner.Yielding.{meant, ArgumentValue}
 use Rattle.coercions.specs.declared.settle.Taken.{Taken}
 use Rattle.coercions.specs.declared.settle.Taken.the-variants.{Value, Refused}
 use Rattle.coercions.specs.Settling.{Settled, resultOf}

@@ -13,7 +13,7 @@ use Rattle.lines.specs.declared.command.Operation.{Operation}
 use Rattle.lines.specs.declared.command.Operation.the-variants.{Assign, Add, Subtract, Multiply, Divide}
 use Rattle.lines.specs.declared.command.Target.{Target}
 use Rattle.lines.specs.declared.command.Target.the-variants.{IntegerTarget, DecimalTarget, StringTarget}
-use Rattle.values.specs.Machine.{Machine, numbered}
+use Rattle.questions.specs.Machine.{Machine, numbered}
 use Rattle.values.specs.Worth.{Worth}
 use Rattle.values.specs.Meanings.{argumentMeaning}
 use Rattle.coercions.specs.Settling.{Settled, settled, andThen, concluded, integerFrom, decimalFrom, stringFrom, resultOf}

@@ -3,12 +3,12 @@ use coercions::settle;
 use coercions::settle::Phrase;
 use meaning::end::Ended;
 use meaning::end::Halt;
-use values::part;
+use strings::part;
 use values::worth::Worth;
 ghost use mathlib.Core.Path.{_≡_};
 ghost use lib.ListN.{length, take};
 ghost use lib.Seq.{sets};
-ghost use Rattle.values.specs.inner.State.{zeros, cased};
+ghost use Rattle.strings.specs.inner.Texts.{zeros, cased};
 ghost use Rattle.assignments.specs.inner.Contracts.{Held, PutsString, StoresString};
 
 // The first 16 bytes, in upper case where the flag is set.

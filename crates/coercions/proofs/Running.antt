@@ -16,14 +16,15 @@ use Rattle.meaning.specs.declared.end.Ended.{Ended}
 use Rattle.meaning.specs.declared.end.Ended.the-variants.{Finished, Halted}
 use Rattle.meaning.proofs.Doing.{then-does, then-over, does-done, does-stop}
 use Rattle.arguments.specs.declared.argument.Argument.{Argument}
-use Rattle.values.specs.declared.scene.Scene.{Scene}
+use Rattle.strings.specs.inner.Texts.{Strings, strings}
+use Rattle.questions.specs.declared.scene.Scene.{Scene}
+use Rattle.questions.specs.inner.Word.{questions}
+use Rattle.questions.specs.Source.{answers}
+use Rattle.questions.specs.inner.State.{machine}
 use Rattle.values.specs.declared.worth.Valued.{Valued}
-use Rattle.values.specs.inner.Word.{questions}
 use Rattle.values.specs.Worth.{Worth}
-use Rattle.values.specs.Source.{answers}
-use Rattle.values.specs.inner.State.{Strings, strings, meant, machine}
+use Rattle.values.specs.inner.Yielding.{meant, Yields, ArgumentValue}
 use Rattle.values.specs.Meanings.{argumentMeaning}
-use Rattle.values.specs.inner.Yielding.{Yields, ArgumentValue}
 use Rattle.coercions.specs.declared.settle.Taken.{Taken}
 use Rattle.coercions.specs.declared.taking.Counted.{Counted}
 use Rattle.coercions.specs.Settling.{Settled, settled, against, andThen, concluded, integerFrom, integerMeaning}

@@ -3,7 +3,7 @@ use meaning::end::Ended;
 use meaning::refusal::Refusal;
 use numbers::Number;
 use numbers::Quantity;
-use values::part::Text;
+use strings::part::Text;
 use values::worth::Worth;
 ghost use mathlib.Core.Path.{_≡_};
 ghost use Rattle.numbers.specs.Outcome.{outcome};

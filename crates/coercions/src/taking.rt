@@ -4,11 +4,12 @@ use crate::settle::Taken;
 use arguments::argument::Argument;
 use meaning::end::Ended;
 use meaning::end::Halt;
-use values::scene::Scene;
+use questions::scene::Scene;
 use values::value;
 ghost use mathlib.Core.Path.{_≡_};
 ghost use Rattle.arguments.specs.inner.Parameter.{parameterOf};
-ghost use Rattle.values.specs.inner.Yielding.{Askable, Sized};
+ghost use Rattle.strings.specs.inner.Texts.{Sized};
+ghost use Rattle.questions.specs.inner.Hearing.{Askable};
 ghost use Rattle.coercions.specs.inner.Contracts.{takenOf, Concludes, TakesIntegerValue};
 
 // How an argument ended, its integer, and how many questions have been asked now.

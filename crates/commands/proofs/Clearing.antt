@@ -9,8 +9,8 @@ use lib.ListN.{length, drop, getD, set, replicate, length-set, length-replicate,
 use lib.Seq.{drop-cons, set-at}
 use Rattle.meaning.specs.Answer.{Answer}
 use Rattle.meaning.specs.declared.question.Question.{Question}
-use Rattle.values.specs.declared.fetch.Along.{Along}
-use Rattle.values.specs.inner.State.{texts, wordsFrom, fetched}
+use Rattle.questions.specs.declared.fetch.Along.{Along}
+use Rattle.questions.specs.inner.State.{texts, wordsFrom, fetched}
 
 -- The loop stands at j: so many elements of the row b are x.
 pub record Cleared {A : Type 0} (x : A) (b d : List A) (j : ℕ) : Type 0 where

@@ -13,15 +13,15 @@ use Rattle.meaning.specs.declared.end.Halt.{Halt}
 use Rattle.meaning.specs.declared.end.Ended.the-variants.{Finished, Halted}
 use Rattle.meaning.proofs.Doing.{then-does, then-over, does-done}
 use Rattle.lines.specs.declared.command.Fetch.{Fetch}
-use Rattle.values.specs.declared.scene.Scene.{Scene}
-use Rattle.values.specs.declared.fetch.Fetched.{Fetched}
-use Rattle.values.specs.declared.fetch.Along.{Along}
-use Rattle.values.specs.declared.fetch.Along.the-variants.{Records, Entries}
-use Rattle.values.specs.Machine.{Machine}
-use Rattle.values.specs.inner.Fetch.{Fetches, FetchValue}
-use Rattle.values.specs.Source.{answers}
-use Rattle.values.specs.inner.State.{fetched, machine}
-use Rattle.values.specs.inner.Word.{questions}
+use Rattle.questions.specs.declared.scene.Scene.{Scene}
+use Rattle.questions.specs.declared.fetch.Fetched.{Fetched}
+use Rattle.questions.specs.declared.fetch.Along.{Along}
+use Rattle.questions.specs.declared.fetch.Along.the-variants.{Records, Entries}
+use Rattle.questions.specs.Machine.{Machine}
+use Rattle.questions.specs.inner.Fetch.{Fetches, FetchValue}
+use Rattle.questions.specs.Source.{answers}
+use Rattle.questions.specs.inner.State.{fetched, machine}
+use Rattle.questions.specs.inner.Word.{questions}
 use Rattle.assignments.specs.Setting.{setNumbered}
 use Rattle.coercions.specs.inner.Contracts.{Runs}
 use Rattle.commands.specs.Fetching.{withRecords, withEntries, recordsMeaning, entriesMeaning}

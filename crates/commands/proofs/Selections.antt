@@ -11,9 +11,9 @@ use Rattle.meaning.specs.declared.refusal.Refusal.the-variants.{BadIndex}
 use Rattle.meaning.specs.declared.end.Halt.the-variants.{Refused}
 use Rattle.meaning.specs.declared.end.Ended.the-variants.{Finished, Halted}
 use Rattle.arguments.specs.declared.index.Index.{Index}
-use Rattle.values.specs.declared.scene.Scene.{Scene}
-use Rattle.values.specs.Meanings.{indexNumber}
-use Rattle.values.specs.inner.Yielding.{placeOf}
+use Rattle.questions.specs.declared.scene.Scene.{Scene}
+use Rattle.questions.specs.Indexes.{indexNumber}
+use Rattle.questions.specs.inner.Hearing.{placeOf}
 use Rattle.coercions.specs.Settling.{Settled, settled, against}
 use Rattle.commands.specs.Selecting.{datasourceFrom, datasourceMeaning}
 use Rattle.commands.specs.inner.Selects.{Selects}

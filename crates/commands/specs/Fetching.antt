@@ -5,9 +5,9 @@ use Rattle.meaning.specs.Answer.{Answer}
 use Rattle.meaning.specs.Tree.{done, bind}
 use Rattle.meaning.specs.Meaning.{Meaning}
 use Rattle.lines.specs.declared.command.Fetch.{Fetch}
-use Rattle.values.specs.declared.fetch.Along.the-variants.{Records, Entries}
-use Rattle.values.specs.Machine.{Machine}
-use Rattle.values.specs.Fetching.{fetchMeaning}
+use Rattle.questions.specs.declared.fetch.Along.the-variants.{Records, Entries}
+use Rattle.questions.specs.Machine.{Machine}
+use Rattle.questions.specs.Fetching.{fetchMeaning}
 use Rattle.assignments.specs.Setting.{setNumbered}
 
 abbrev pub withRecords : Machine → List (List Answer) → Machine

@@ -3,8 +3,8 @@ use arguments::index::Index;
 use meaning::end::Ended;
 use meaning::end::Halt;
 use meaning::refusal::Refusal;
-use values::scene;
-use values::scene::Scene;
+use questions::scene;
+use questions::scene::Scene;
 ghost use Rattle.commands.specs.inner.Selects.{Selects};
 
 // How the line ended, and the selected datasource.

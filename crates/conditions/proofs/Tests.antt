@@ -18,16 +18,18 @@ use Rattle.numbers.specs.Order.{isZero}
 use Rattle.arguments.specs.declared.argument.Argument.{Argument}
 use Rattle.lines.specs.declared.command.Comparison.{Comparison}
 use Rattle.lines.specs.declared.command.Comparison.the-variants.{SameString, SameLetters, Equal, NotEqual, Less, AtMost, Greater, AtLeast}
-use Rattle.values.specs.declared.part.Text.{Text}
-use Rattle.values.specs.declared.scene.Scene.{Scene}
+use Rattle.strings.specs.declared.part.Text.{Text}
+use Rattle.strings.specs.Letters.{equalStrings}
+use Rattle.strings.specs.inner.Texts.{Strings, strings, textOf}
+use Rattle.questions.specs.declared.scene.Scene.{Scene}
+use Rattle.questions.specs.inner.State.{machine}
+use Rattle.questions.specs.inner.Hearing.{Askable}
 use Rattle.values.specs.declared.worth.Worth.{Worth}
 use Rattle.values.specs.declared.worth.Worth.the-variants as W
 use Rattle.values.specs.declared.worth.Valued.{Valued}
-use Rattle.values.specs.Letters.{equalStrings}
 use Rattle.values.specs.Worth as D
 use Rattle.values.specs.Meanings.{argumentMeaning}
-use Rattle.values.specs.inner.State.{Strings, strings, textOf, meant, machine}
-use Rattle.values.specs.inner.Yielding.{Askable, ArgumentValue}
+use Rattle.values.specs.inner.Yielding.{meant, ArgumentValue}
 use Rattle.coercions.specs.declared.settle.Amount.{Amount}
 use Rattle.coercions.specs.declared.settle.Amount.the-variants.{Number, NoNumber}
 use Rattle.coercions.specs.declared.settle.Phrase.{Phrase}

@@ -10,9 +10,9 @@ use Rattle.numbers.specs.Order.{equalTo, lessThan, atMost, isZero}
 use Rattle.arguments.specs.declared.argument.Argument.{Argument}
 use Rattle.lines.specs.declared.command.Comparison.{Comparison}
 use Rattle.lines.specs.declared.command.Comparison.the-variants.{SameString, SameLetters, Equal, NotEqual, Less, AtMost, Greater, AtLeast}
-use Rattle.values.specs.Machine.{Machine}
+use Rattle.strings.specs.Letters.{equalStrings}
+use Rattle.questions.specs.Machine.{Machine}
 use Rattle.values.specs.Worth.{Worth, missing, wrong, number, string}
-use Rattle.values.specs.Letters.{equalStrings}
 use Rattle.values.specs.Meanings.{argumentMeaning}
 use Rattle.coercions.specs.Settling.{Settled, settled, against, andThen, concluded, quantityFrom, stringFrom}
 

@@ -14,7 +14,7 @@ use Rattle.meaning.specs.declared.refusal.Refusal.{Refusal}
 use Rattle.meaning.specs.declared.end.Ended.{Ended}
 use Rattle.meaning.specs.declared.end.Ended.the-variants.{Finished, Halted}
 use Rattle.meaning.proofs.Doing.{then-does, then-over, does-done}
-use Rattle.values.specs.inner.Word.{questions}
+use Rattle.questions.specs.inner.Word.{questions}
 use Rattle.coercions.specs.inner.Contracts.{Runs}
 use Rattle.pages.specs.declared.page.Page.{Page}
 use Rattle.control.specs.declared.state.Flow.{Flow}

@@ -18,7 +18,7 @@ use Rattle.template.proofs.Reach.{found-inside, part-skip}
 use Rattle.meaning.specs.declared.end.Halt.{Halt}
 use Rattle.meaning.specs.declared.end.Ended.{Ended}
 use Rattle.meaning.specs.declared.end.Ended.the-variants.{Finished, Halted}
-use Rattle.values.specs.declared.scene.Scene.{Scene}
+use Rattle.questions.specs.declared.scene.Scene.{Scene}
 use Rattle.tables.specs.declared.table.Looped.{Looped}
 use Rattle.coercions.specs.declared.taking.Counted.{Counted}
 use Rattle.tables.specs.Looping.{loop}

@@ -16,7 +16,7 @@ use Rattle.template.specs.declared.seek.Sought.the-variants.{Branch, TestEnd, T
 use Rattle.template.specs.Seek.{skipped}
 use Rattle.meaning.specs.Tree.{done, bind}
 use Rattle.meaning.specs.Meaning.{Meaning}
-use Rattle.values.specs.Machine.{Machine}
+use Rattle.questions.specs.Machine.{Machine}
 use Rattle.coercions.specs.Settling.{integerMeaning}
 use Rattle.assignments.specs.Setting.{setNumbered, setMeaning}
 use Rattle.conditions.specs.Testing.{zeroMeaning, testMeaning}

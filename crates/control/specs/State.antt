@@ -5,7 +5,7 @@ use Prim.Native.Nat.{ℕ}
 use lib.IntN.{ℤ, pos}
 use lib.ListN.{replicate}
 use Rattle.meaning.specs.Answer.{Answer}
-use Rattle.values.specs.Machine.{Machine}
+use Rattle.questions.specs.Machine.{Machine}
 use Rattle.tables.specs.declared.table.Table.{Table}
 use Rattle.tables.specs.Looping.{loop}
 use Rattle.pages.specs.declared.page.Page.{Page}

@@ -1,11 +1,11 @@
 // Where a run goes on, and what its lines are executed in.
 use crate::state::Flow;
 use pages::page::Page;
+use questions::scene::Scene;
 use tables::table;
 use tables::table::Tables;
 use template::seek;
 use template::seek::Sought;
-use values::scene::Scene;
 ghost use mathlib.Core.Path.{_≡_};
 ghost use Prim.Native.Nat.{_+_, _≤_};
 ghost use Rattle.control.specs.inner.Arms.{Jumpable};

@@ -14,9 +14,9 @@ use Rattle.lines.specs.declared.command.Line.the-variants.{BeginTable}
 use Rattle.lines.specs.readers.Command.{parseLine}
 use Rattle.template.specs.Form.{shapeIn, shapeOf}
 use Rattle.template.proofs.Opening.{checks-short, opens-line}
-use Rattle.values.specs.declared.scene.Scene.{Scene}
-use Rattle.values.specs.declared.fetch.Along.the-variants.{Records, Entries}
-use Rattle.values.specs.inner.State.{texts, fetched}
+use Rattle.questions.specs.declared.scene.Scene.{Scene}
+use Rattle.questions.specs.declared.fetch.Along.the-variants.{Records, Entries}
+use Rattle.questions.specs.inner.State.{texts, fetched}
 use Rattle.tables.specs.inner.Open.{openOf}
 use Rattle.tables.proofs.Tabling.{opened-length}
 use Rattle.pages.specs.inner.Packed.{headingIn}

@@ -22,7 +22,7 @@ use Rattle.meaning.proofs.Yielding.{Yields, yields-bind, yields-any}
 use Rattle.numbers.specs.Range.{integerLimit}
 use Rattle.cells.proofs.Limits.{AnswerWithin}
 use Rattle.arguments.proofs.Parsed.{Between}
-use Rattle.values.specs.Machine.{Machine}
+use Rattle.questions.specs.Machine.{Machine}
 use Rattle.values.proofs.Ranges.{IntegerWithin, DecimalWithin, Short, MachineWithin}
 use Rattle.template.specs.declared.seek.Sought.the-variants.{TableEnd}
 use Rattle.tables.specs.declared.table.Table.{Table}

@@ -24,7 +24,7 @@ use Rattle.meaning.specs.Event as E
 use Rattle.meaning.specs.Tree.{done, bind}
 use Rattle.meaning.specs.Meaning.{Meaning}
 use Rattle.meaning.proofs.Yielding.{Yields, yields-bind}
-use Rattle.values.specs.Machine.{Machine}
+use Rattle.questions.specs.Machine.{Machine}
 use Rattle.values.specs.Worth.{Worth}
 use Rattle.values.specs.Meanings.{argumentMeaning}
 use Rattle.values.proofs.Giving.{Anything}

@@ -27,12 +27,14 @@ use Rattle.lines.specs.declared.command.Fetch.{Fetch}
 use Rattle.lines.specs.declared.command.Operation.{Operation}
 use Rattle.lines.specs.declared.command.Target.{Target}
 use Rattle.lines.specs.declared.command.Target.the-variants.{IntegerTarget, DecimalTarget, StringTarget}
-use Rattle.values.specs.declared.fetch.Along.{Along}
-use Rattle.values.specs.declared.fetch.Along.the-variants.{Records, Entries}
-use Rattle.values.specs.Machine.{Machine, numbered}
+use Rattle.questions.specs.declared.fetch.Along.{Along}
+use Rattle.questions.specs.declared.fetch.Along.the-variants.{Records, Entries}
+use Rattle.questions.specs.Machine.{Machine, numbered}
 use Rattle.values.specs.Worth.{Worth, missing, wrong, number, string, answered, ranged, absolute, filteredNumber, filteredString, filtered, kindOf}
-use Rattle.values.specs.Meanings.{indexNumber, indexValue, question, asks, cellMeaning, worthOf, element, operandMeaning, argumentMeaning}
-use Rattle.values.specs.Fetching.{elementQuestion, elementQuestions, countValue, firstOf, asksElements, fetchMeaning}
+use Rattle.questions.specs.Indexes.{indexNumber, indexValue}
+use Rattle.questions.specs.Asking.{question, asks, cellMeaning}
+use Rattle.questions.specs.Fetching.{element, elementQuestion, elementQuestions, countValue, firstOf, asksElements, fetchMeaning}
+use Rattle.values.specs.Meanings.{worthOf, operandMeaning, argumentMeaning}
 use Rattle.values.proofs.Ranges.{numbered-each}
 use Rattle.coercions.specs.Settling.{Settled, settled, against, andThen, concluded, stringFrom}
 use Rattle.assignments.specs.Setting.{setNumbered, stored, stringNew, integerNew, decimalNew, withStrings, setOf, setMeaning}

@@ -12,7 +12,7 @@ use Rattle.meaning.specs.Tree.{done, bind}
 use Rattle.meaning.specs.Rule.{Keeps, pageLimit}
 use Rattle.meaning.proofs.Keeping.{keeps-bind, keeps-more}
 use Rattle.texts.specs.declared.text.Piece.{Piece}
-use Rattle.values.specs.Machine.{Machine}
+use Rattle.questions.specs.Machine.{Machine}
 use Rattle.values.proofs.Giving.{Anything}
 use Rattle.values.proofs.Still.{Still, gives-still}
 use Rattle.pages.specs.declared.page.Page.{Page}

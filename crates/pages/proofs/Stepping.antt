@@ -17,9 +17,9 @@ use Rattle.meaning.specs.declared.end.Halt.{Halt}
 use Rattle.meaning.specs.declared.end.Ended.the-variants.{Finished, Halted}
 use Rattle.meaning.proofs.Doing.{then-does, then-over, does-done}
 use Rattle.meaning.proofs.Looping.{Leads, leads-start, leads-next, leads-over}
-use Rattle.values.specs.declared.scene.Scene.{Scene}
-use Rattle.values.specs.inner.Word.{questions}
-use Rattle.values.specs.Source.{answers}
+use Rattle.questions.specs.declared.scene.Scene.{Scene}
+use Rattle.questions.specs.inner.Word.{questions}
+use Rattle.questions.specs.Source.{answers}
 use Rattle.pages.specs.declared.page.Page.{Page}
 use Rattle.pages.specs.declared.page.Turned.{Turned}
 use Rattle.pages.specs.declared.heading.Heading.{Heading}

@@ -19,9 +19,9 @@ use Rattle.meaning.specs.declared.end.Ended.the-variants.{Finished, Halted}
 use Rattle.meaning.proofs.Doing.{then-does, then-over, does-done, does-print, does-print-cut}
 use Rattle.texts.specs.Width.{totalWidth}
 use Rattle.texts.specs.readers.Text.{piecesWithin, textPieces, fitsBehind, textFits}
-use Rattle.values.specs.declared.scene.Scene.{Scene}
-use Rattle.values.specs.inner.Word.{questions}
-use Rattle.values.specs.Source.{answers}
+use Rattle.questions.specs.declared.scene.Scene.{Scene}
+use Rattle.questions.specs.inner.Word.{questions}
+use Rattle.questions.specs.Source.{answers}
 use Rattle.rendering.specs.declared.text.Told.{Told}
 use Rattle.pages.specs.declared.page.Page.{Page}
 use Rattle.pages.specs.declared.page.Turned.{Turned}

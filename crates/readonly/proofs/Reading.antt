@@ -23,11 +23,12 @@ use Rattle.meaning.specs.Number.{endOf}
 use Rattle.meaning.specs.declared.end.Ended.{Ended}
 use Rattle.meaning.specs.declared.end.Ended.the-variants.{Finished, Halted}
 use Rattle.meaning.proofs.Doing.{then-does, then-over, does-done}
-use Rattle.values.specs.declared.scene.Scene.{Scene}
-use Rattle.values.specs.inner.Word.{questions}
-use Rattle.values.specs.inner.State.{machine}
+use Rattle.questions.specs.declared.scene.Scene.{Scene}
+use Rattle.questions.specs.inner.Word.{questions}
+use Rattle.questions.specs.inner.State.{machine}
 use Rattle.arguments.specs.inner.Parameter.{parameterOf}
-use Rattle.values.specs.inner.Yielding.{Askable, Sized}
+use Rattle.strings.specs.inner.Texts.{Sized}
+use Rattle.questions.specs.inner.Hearing.{Askable}
 use Rattle.tables.specs.declared.table.Looped.{Looped}
 use Rattle.coercions.specs.declared.taking.Counted.{Counted}
 use Rattle.commands.specs.declared.datasource.Selected.{Selected}

@@ -13,7 +13,7 @@ use Rattle.meaning.specs.Tree.{done, print, bind}
 use Rattle.meaning.specs.Meaning.{Meaning}
 use Rattle.meaning.proofs.Binding.{bind-assoc}
 use Rattle.numbers.specs.Range.{integerLimit}
-use Rattle.values.specs.Machine.{Machine}
+use Rattle.questions.specs.Machine.{Machine}
 use Rattle.values.proofs.Ranges.{MachineWithin}
 use Rattle.pages.specs.declared.page.Page.{Page}
 use Rattle.pages.specs.declared.heading.Heading.{Heading}

@@ -45,10 +45,10 @@ use Rattle.template.specs.Walk.{orElse, walk}
 use Rattle.template.specs.Order.{acceptedRun, sectionChecked, unlessFault, namesChecked, nestingChecked, formsChecked, templateChecked}
 use Rattle.template.specs.Sections.{endAt, selects, sectionFrom, sectionEnd, runFrom as templateRunFrom, selected}
 use Rattle.template.specs.Rows.{lines}
+use Rattle.strings.specs.Letters.{upper, alike}
+use Rattle.questions.specs.Machine.{numbered}
 use Rattle.values.specs.Worth.{ranged, absolute, filteredNumber, filteredString, filtered, kindOf as valuesKindOf}
-use Rattle.values.specs.Letters.{upper, alike}
 use Rattle.values.specs.Meanings.{operandMeaning, argumentMeaning}
-use Rattle.values.specs.Machine.{numbered}
 use Rattle.tables.specs.Looping.{begun, beginMeaning, exceeds, counting, counted, endMeaning, loop}
 use Rattle.coercions.specs.Settling.{integerFrom, integerMeaning, resultOf, millionthsOf, quantityFrom, decimalFrom, stringFrom}
 use Rattle.assignments.specs.Setting.{setNumbered, decimalOutcome, newFrom, integerOutcome, stored, stringNew, setOf, setMeaning}

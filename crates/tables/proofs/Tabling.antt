@@ -19,10 +19,10 @@ use Rattle.meaning.specs.declared.refusal.Refusal.the-variants.{OutOfRange}
 use Rattle.arguments.specs.declared.argument.Argument.{Argument}
 use Rattle.lines.specs.declared.command.Optional.{Optional}
 use Rattle.lines.specs.declared.command.Optional.the-variants.{Given, Absent}
-use Rattle.values.specs.declared.scene.Scene.{Scene}
-use Rattle.values.specs.inner.State.{machine}
+use Rattle.questions.specs.declared.scene.Scene.{Scene}
+use Rattle.questions.specs.inner.State.{machine}
 use Rattle.arguments.specs.inner.Parameter.{parameterOf}
-use Rattle.values.specs.inner.Yielding.{Askable}
+use Rattle.questions.specs.inner.Hearing.{Askable}
 use Rattle.tables.specs.declared.table.Table.{Table}
 use Rattle.tables.specs.declared.table.Tables.{Tables}
 use Rattle.tables.specs.declared.table.Looped.{Looped}

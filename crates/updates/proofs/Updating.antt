@@ -12,12 +12,13 @@ use Rattle.lines.specs.declared.command.Target.{Target}
 use Rattle.lines.specs.declared.command.Fetch.{Fetch}
 use Rattle.lines.specs.declared.command.Line.{Line}
 use Rattle.lines.specs.declared.command.Line.the-variants as form
-use Rattle.values.specs.declared.scene.Scene.{Scene}
-use Rattle.values.specs.declared.fetch.Along.the-variants.{Records, Entries}
-use Rattle.values.specs.inner.State.{machine, texts, fetched}
-use Rattle.values.specs.inner.Fetch.{Fetchable}
+use Rattle.questions.specs.declared.scene.Scene.{Scene}
+use Rattle.questions.specs.declared.fetch.Along.the-variants.{Records, Entries}
+use Rattle.questions.specs.inner.State.{machine, texts, fetched}
+use Rattle.questions.specs.inner.Fetch.{Fetchable}
 use Rattle.arguments.specs.inner.Parameter.{parameterOf}
-use Rattle.values.specs.inner.Yielding.{Askable, Sized}
+use Rattle.strings.specs.inner.Texts.{Sized}
+use Rattle.questions.specs.inner.Hearing.{Askable}
 use Rattle.coercions.specs.declared.settle.Done.{Done}
 use Rattle.assignments.specs.Setting.{setMeaning}
 use Rattle.assignments.specs.inner.Contracts as C

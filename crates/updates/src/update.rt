@@ -6,7 +6,7 @@ use control::state::Flow;
 use control::state::Lined;
 use lines::command::Line;
 use pages::heading::Heading;
-use values::scene::Scene;
+use questions::scene::Scene;
 ghost use mathlib.Core.Path.{_≡_};
 ghost use Rattle.control.specs.inner.Executing.{held};
 ghost use Rattle.control.specs.inner.Updating.{updating};

@@ -1,13 +1,6 @@
-pub mod Words
-pub mod Lists
-pub mod Texts
 pub mod Worths
-pub mod Indexes
-pub mod Asking
-pub mod Recalling
 pub mod Operands
 pub mod Arguments
-pub mod Fetches
 pub mod Keeping
 pub mod Giving
 pub mod Still

@@ -31,13 +31,15 @@ use Rattle.arguments.specs.declared.index.Index.the-variants.{Fixed, Variable, 
 use Rattle.arguments.specs.declared.operand.Operand.{Operand}
 use Rattle.arguments.specs.declared.operand.Operand.the-variants.{Number, Text, IntegerVariable, DecimalVariable, StringVariable, PageNumber, LineNumber, LoopCounter, RecordElement, EntryElement, Parameter, Record, Entry}
 use Rattle.arguments.proofs.Parsed.{Between, QuantityWithin, IndexWithin, StringWithin, OperandWithin, ArgumentWithin}
-use Rattle.values.specs.declared.fetch.Along.{Along}
-use Rattle.values.specs.Letters.{upper}
-use Rattle.values.specs.Machine.{Machine, numbered}
+use Rattle.strings.specs.Letters.{upper}
+use Rattle.questions.specs.declared.fetch.Along.{Along}
+use Rattle.questions.specs.Machine.{Machine, numbered}
+use Rattle.questions.specs.Indexes.{indexNumber, indexValue}
+use Rattle.questions.specs.Asking.{question, asks, cellMeaning}
+use Rattle.questions.specs.Fetching.{element, elementQuestion, elementQuestions, countValue, firstOf, asksElements, fetchMeaning}
+use Rattle.questions.specs.Source.{answers}
 use Rattle.values.specs.Worth.{Worth, missing, wrong, number, string, answered, absolute, filteredNumber, filteredString, filtered, kindOf}
-use Rattle.values.specs.Meanings.{indexNumber, indexValue, question, asks, cellMeaning, worthOf, element, operandMeaning, argumentMeaning}
-use Rattle.values.specs.Fetching.{elementQuestion, elementQuestions, countValue, firstOf, asksElements, fetchMeaning}
-use Rattle.values.specs.Source.{answers}
+use Rattle.values.specs.Meanings.{worthOf, operandMeaning, argumentMeaning}
 use Rattle.values.proofs.Keeping.{absolute-integer, absolute-decimal}
 
 -- "SV1–SV99 hold up to 16 bytes each, IV integers, FV decimals"; strings of cells and of the template have "0–16 bytes"

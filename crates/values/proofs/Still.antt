@@ -8,10 +8,10 @@ use Rattle.meaning.specs.Rule.{Keeps, pageLimit}
 use Rattle.meaning.proofs.Keeping.{keeps-bind, keeps-more}
 use Rattle.arguments.specs.declared.index.Index.{Index}
 use Rattle.arguments.specs.declared.argument.Argument.{Argument}
-use Rattle.values.specs.declared.fetch.Along.{Along}
-use Rattle.values.specs.Machine.{Machine}
+use Rattle.questions.specs.declared.fetch.Along.{Along}
+use Rattle.questions.specs.Machine.{Machine}
+use Rattle.questions.specs.Fetching.{fetchMeaning}
 use Rattle.values.specs.Meanings.{argumentMeaning}
-use Rattle.values.specs.Fetching.{fetchMeaning}
 use Rattle.values.proofs.Giving.{Gives, Anything, gives-keeps, argument-gives, fetch-gives}
 
 abbrev pub Still : {A : Type 0} → Meaning A → Type 0

@@ -1,4 +1,1 @@
-pub mod Word
 pub mod Yielding
-pub mod Fetch
-pub mod State

@@ -10,9 +10,11 @@ use Rattle.meaning.specs.declared.end.Ended.{Ended}
 use Rattle.arguments.specs.declared.argument.Argument.{Argument}
 use Rattle.lines.specs.declared.command.Operation.{Operation}
 use Rattle.lines.specs.declared.command.Target.{Target}
-use Rattle.values.specs.declared.scene.Scene.{Scene}
+use Rattle.strings.specs.inner.Texts.{strings}
+use Rattle.questions.specs.declared.scene.Scene.{Scene}
+use Rattle.questions.specs.inner.State.{texts, machine}
 use Rattle.values.specs.declared.worth.Worth as W
-use Rattle.values.specs.inner.State.{strings, meant, texts, machine}
+use Rattle.values.specs.inner.Yielding.{meant}
 use Rattle.coercions.specs.declared.settle.Done.{Done}
 use Rattle.coercions.specs.inner.Contracts.{Concludes, Runs}
 use Rattle.assignments.specs.Setting.{setNumbered, stored, stringNew, setOf, setMeaning}

@@ -15,12 +15,14 @@ use Rattle.numbers.specs.declared.Quantity.{Quantity}
 use Rattle.cells.specs.Cell.{Cell}
 use Rattle.cells.specs.inner.Index.{Ready}
 use Rattle.arguments.specs.declared.argument.Argument.{Argument}
-use Rattle.values.specs.declared.scene.Scene.{Scene}
+use Rattle.strings.specs.inner.Texts.{Strings, textOf}
+use Rattle.questions.specs.declared.scene.Scene.{Scene}
+use Rattle.questions.specs.inner.Word.{questions}
+use Rattle.questions.specs.Source.{answers}
+use Rattle.questions.specs.inner.State.{machine}
 use Rattle.values.specs.declared.worth.Worth as W
 use Rattle.values.specs.Worth as D
-use Rattle.values.specs.inner.Word.{questions}
-use Rattle.values.specs.Source.{answers}
-use Rattle.values.specs.inner.State.{Strings, textOf, meant, machine}
+use Rattle.values.specs.inner.Yielding.{meant}
 use Rattle.coercions.specs.declared.settle.Taken.{Taken}
 use Rattle.coercions.specs.declared.settle.Taken.the-variants.{Value, Refused}
 use Rattle.coercions.specs.declared.settle.Amount.{Amount}

@@ -3,8 +3,8 @@ use mathlib.Core.List.{List}
 use Prim.Native.Nat.{ℕ}
 use lib.IntN.{ℤ}
 use Rattle.lines.specs.declared.command.Fetch.{Fetch}
-use Rattle.values.specs.declared.scene.Scene.{Scene}
-use Rattle.values.specs.inner.State.{machine}
+use Rattle.questions.specs.declared.scene.Scene.{Scene}
+use Rattle.questions.specs.inner.State.{machine}
 use Rattle.coercions.specs.declared.settle.Done.{Done}
 use Rattle.coercions.specs.inner.Contracts.{Runs}
 use Rattle.commands.specs.Fetching.{recordsMeaning, entriesMeaning}

@@ -6,8 +6,8 @@ use lib.IntN.{ℤ}
 use Rattle.meaning.specs.declared.end.Halt.{Halt}
 use Rattle.meaning.specs.declared.end.Ended.the-variants.{Halted}
 use Rattle.arguments.specs.declared.index.Index.{Index}
-use Rattle.values.specs.declared.scene.Scene.{Scene}
-use Rattle.values.specs.inner.State.{machine}
+use Rattle.questions.specs.declared.scene.Scene.{Scene}
+use Rattle.questions.specs.inner.State.{machine}
 use Rattle.commands.specs.declared.datasource.Selected.{Selected}
 use Rattle.coercions.specs.inner.Contracts.{Runs}
 use Rattle.commands.specs.Selecting.{datasourceMeaning}

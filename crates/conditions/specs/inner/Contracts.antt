@@ -6,9 +6,11 @@ use Prim.Native.Nat.{ℕ}
 use lib.IntN.{ℤ}
 use Rattle.arguments.specs.declared.argument.Argument.{Argument}
 use Rattle.lines.specs.declared.command.Comparison.{Comparison}
-use Rattle.values.specs.declared.scene.Scene.{Scene}
+use Rattle.strings.specs.inner.Texts.{Strings}
+use Rattle.questions.specs.declared.scene.Scene.{Scene}
+use Rattle.questions.specs.inner.State.{machine}
 use Rattle.values.specs.declared.worth.Worth as W
-use Rattle.values.specs.inner.State.{Strings, meant, machine}
+use Rattle.values.specs.inner.Yielding.{meant}
 use Rattle.coercions.specs.Settling.{Settled, settled, against}
 use Rattle.coercions.specs.inner.Contracts.{Runs}
 use Rattle.conditions.specs.declared.test.Judged.{Judged}

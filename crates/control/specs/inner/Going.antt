@@ -7,7 +7,7 @@ use lib.ListN.{drop}
 use Rattle.meaning.specs.declared.end.Ended.{Ended}
 use Rattle.template.specs.declared.seek.Sought.{Sought}
 use Rattle.template.specs.Seek.{skipped}
-use Rattle.values.specs.declared.scene.Scene.{Scene}
+use Rattle.questions.specs.declared.scene.Scene.{Scene}
 use Rattle.tables.specs.declared.table.Tables.{Tables}
 use Rattle.tables.specs.Looping.{loop, innermost}
 use Rattle.tables.specs.inner.Open.{openOf}

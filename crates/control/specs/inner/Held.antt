@@ -4,8 +4,8 @@ use Prim.Native.Nat.{ℕ}
 use lib.IntN.{ℤ}
 use Rattle.meaning.specs.Answer.{Answer}
 use Rattle.meaning.specs.declared.question.Question.{Question}
-use Rattle.values.specs.declared.fetch.Along.the-variants.{Records, Entries}
-use Rattle.values.specs.inner.State.{texts, fetched}
+use Rattle.questions.specs.declared.fetch.Along.the-variants.{Records, Entries}
+use Rattle.questions.specs.inner.State.{texts, fetched}
 use Rattle.tables.specs.inner.Open.{openOf}
 use Rattle.pages.specs.inner.Packed.{headingsOf}
 use Rattle.control.specs.declared.state.Flow.{Flow}

@@ -10,8 +10,8 @@ use Rattle.meaning.specs.Number.{endOf}
 use Rattle.meaning.specs.Place.{at, Does}
 use Rattle.meaning.specs.declared.question.Question.{Question}
 use Rattle.texts.specs.readers.Text.{textFits}
-use Rattle.values.specs.declared.scene.Scene.{Scene}
-use Rattle.values.specs.inner.Word.{questions}
+use Rattle.questions.specs.declared.scene.Scene.{Scene}
+use Rattle.questions.specs.inner.Word.{questions}
 use Rattle.pages.specs.declared.page.Page.{Page}
 use Rattle.pages.specs.declared.page.Turned.{Turned}
 use Rattle.pages.specs.declared.heading.Heading.{Heading}

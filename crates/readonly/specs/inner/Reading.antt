@@ -6,8 +6,9 @@ use lib.IntN.{ℤ}
 use lib.ListN.{length}
 use Rattle.lines.specs.declared.command.Optional.{Optional}
 use Rattle.lines.specs.declared.command.Line.{Line}
-use Rattle.values.specs.declared.scene.Scene.{Scene}
-use Rattle.values.specs.inner.Yielding.{Askable, Sized}
+use Rattle.strings.specs.inner.Texts.{Sized}
+use Rattle.questions.specs.declared.scene.Scene.{Scene}
+use Rattle.questions.specs.inner.Hearing.{Askable}
 use Rattle.tables.specs.inner.Open.{parameterIn}
 use Rattle.pages.specs.inner.Paging.{TurnReady}
 use Rattle.control.specs.declared.state.Flow.{Flow}

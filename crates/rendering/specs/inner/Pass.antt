@@ -16,15 +16,15 @@ use Rattle.cells.specs.inner.Index.{Ready}
 use Rattle.texts.specs.declared.text.Piece.{Piece}
 use Rattle.texts.specs.declared.text.Piece.the-variants.{Plain, Placed}
 use Rattle.texts.specs.readers.Text.{textFits}
-use Rattle.values.specs.declared.scene.Scene.{Scene}
+use Rattle.questions.specs.declared.scene.Scene.{Scene}
+use Rattle.questions.specs.inner.Word.{questions}
+use Rattle.questions.specs.Machine.{Machine}
+use Rattle.questions.specs.Source.{answers}
+use Rattle.questions.specs.inner.State.{machine}
 use Rattle.values.specs.declared.worth.Worth as C
 use Rattle.values.specs.declared.worth.Worth.the-variants as W
-use Rattle.values.specs.inner.Word.{questions}
 use Rattle.values.specs.Worth.{Worth}
-use Rattle.values.specs.Machine.{Machine}
 use Rattle.values.specs.Meanings.{argumentMeaning}
-use Rattle.values.specs.Source.{answers}
-use Rattle.values.specs.inner.State.{machine}
 use Rattle.rendering.specs.declared.text.Made.{Made}
 use Rattle.rendering.specs.declared.text.Told.{Told}
 use Rattle.rendering.specs.Shown.{fieldBytes}

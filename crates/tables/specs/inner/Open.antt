@@ -10,8 +10,8 @@ use Rattle.meaning.specs.declared.end.Ended.the-variants.{Finished, Halted}
 use Rattle.arguments.specs.declared.argument.Argument.{Argument}
 use Rattle.lines.specs.declared.command.Optional.{Optional}
 use Rattle.lines.specs.declared.command.Optional.the-variants.{Given, Absent}
-use Rattle.values.specs.declared.scene.Scene.{Scene}
-use Rattle.values.specs.inner.State.{machine}
+use Rattle.questions.specs.declared.scene.Scene.{Scene}
+use Rattle.questions.specs.inner.State.{machine}
 use Rattle.arguments.specs.inner.Parameter.{parameterOf}
 use Rattle.tables.specs.declared.table.Table.{Table}
 use Rattle.tables.specs.declared.table.Tables.{Tables}

@@ -6,7 +6,7 @@ use Prim.Native.Nat.{ℕ, _+_, _≤_}
 use lib.ListN.{length}
 use Rattle.lines.specs.declared.command.Line.{Line}
 use Rattle.lines.proofs.Accepted as parsed
-use Rattle.values.specs.declared.scene.Scene.{Scene}
+use Rattle.questions.specs.declared.scene.Scene.{Scene}
 use Rattle.control.specs.declared.state.Flow.{Flow}
 use Rattle.control.specs.declared.state.Lined.{Lined}
 use Rattle.control.specs.Line.{formMeaning}

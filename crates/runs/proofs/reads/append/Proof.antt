@@ -47,7 +47,7 @@ use denote.Triple.Clauses.{ensured, lasts}
 use denote.Triple.Table.{entered, cited}
 use denote.Triple.Walked.{says, needs, Stays, stay-slice, stay-none, walkOf, goes-slice, goes-none, Walks, ends-at, walked, walk-meets}
 use denote.Exit.{yes}
-use Rattle.values.specs.inner.Word.{unpacked, questions}
+use Rattle.questions.specs.inner.Word.{unpacked, questions}
 use Rattle.meaning.specs.declared.question.Question.{Question}
 use Rattle.runs.specs.declared.state.Log.{Log}
 use Rattle.runs.proofs.Rows.{Added, none, more, all, near, placed, fits-next, small-place, word-fits}
@@ -57,10 +57,10 @@ use Rattle.meaning.proofs.question.Question as Q
 use Rattle.meaning.proofs.question.Question.Laws as Q′
 use Rattle.runs.proofs.state.Log as L
 use Rattle.runs.proofs.state.Log.Laws as L′
-use Rattle.values.proofs.word.unpacked as unpack
-use Rattle.values.proofs.word.unpacked.Symbol as unpack-def
-use Rattle.values.proofs.word.unpacked.Symbol.{name as #values·word·unpacked}
-use Rattle.values.proofs.word.unpacked.Met as unpack-thm
+use Rattle.questions.proofs.word.unpacked as unpack
+use Rattle.questions.proofs.word.unpacked.Symbol as unpack-def
+use Rattle.questions.proofs.word.unpacked.Symbol.{name as #questions·word·unpacked}
+use Rattle.questions.proofs.word.unpacked.Met as unpack-thm
 use Rattle.runs.proofs.reads.append.Key.{name as #report·reads·append}
 use Rattle.runs.proofs.reads.append as f
 use Rattle.runs.proofs.reads.append.Statement as stated
@@ -153,7 +153,7 @@ module _ {M : Type 1} (𝓤 : URA M) (H : Heap 𝓤) (A : Atoms 𝓤) (W : Given
     a-word : (i : ℕ) → i < 512 → getD (lg .words) i 0 < 2 ^ 64
     a-word i l = subst (λ (w : ℕ). w < 2 ^ 64) (same-word i) (word-fits mapped i (subst (λ (m : ℕ). i < m) (sym many) l) (wtL .1 .1 .1 .0))
 
-    module _ (𝓣 : Tables 𝓤 H) (known : Triple 𝓤 (𝓣 .C #values·word·unpacked) Unpack) (l₀ l₁ l₂ l₃ l₄ l₅ l₆ l₇ l₈ l₉ l₁₀ l₁₁ l₁₂ l₁₃ l₁₄ : ℕ) where
+    module _ (𝓣 : Tables 𝓤 H) (known : Triple 𝓤 (𝓣 .C #questions·word·unpacked) Unpack) (l₀ l₁ l₂ l₃ l₄ l₅ l₆ l₇ l₈ l₉ l₁₀ l₁₁ l₁₂ l₁₃ l₁₄ : ℕ) where
       abbrev C : Calls 𝓤 H
       C = 𝓣 .C
 
@@ -231,7 +231,7 @@ module _ {M : Type 1} (𝓤 : URA M) (H : Heap 𝓤) (A : Atoms 𝓤) (W : Given
       begun = assigns ! (of-opd ! (load ! (from ! (stop !)) (look ! 27 refl))) (from ! (stop !)) (init ! 25 refl wtL) $ assigns ! (of-opd ! (lit ! tt)) (from ! (stop !)) (init ! 23 refl (tt, record { fits = lit< tt })) $
           use0 W (raw (fact 𝓤 (Added ys lg 0 ys))) (factI 𝓤 _ (emp 𝓤) (none ys lg)) $ by ! looped
 
-    enters : (𝓣 : Tables 𝓤 H) → Triple 𝓤 (𝓣 .C #values·word·unpacked) Unpack → ent 𝓤 (onEntry 𝓤 H A f.signature (κ, tt) (q, tt) a vals) (WpFn 𝓤 H (𝓣 .C) (𝓣 .Λ) code.function (s ∷ machL lg ∷ []) Post′)
+    enters : (𝓣 : Tables 𝓤 H) → Triple 𝓤 (𝓣 .C #questions·word·unpacked) Unpack → ent 𝓤 (onEntry 𝓤 H A f.signature (κ, tt) (q, tt) a vals) (WpFn 𝓤 H (𝓣 .C) (𝓣 .Λ) code.function (s ∷ machL lg ∷ []) Post′)
     enters 𝓣 known =
         qed W ((‵ (flft κ q) ⊛ ‵ ftrue) ∷ ‵ (owns (MutSlice (named 0) κ Q.the-row ∷ L.the-row ∷ []) a vals) ∷ []) ∵ enter ! (𝓣 .C) (𝓣 .Λ) code.function (s ∷ machL lg ∷ []) _ $
         alloc1 ! (λ l₀. alloc1 ! (λ l₁. alloc1 ! (λ l₂. alloc1 ! (λ l₃. alloc1 ! (λ l₄. alloc1 ! (λ l₅. alloc1 ! (λ l₆. alloc1 ! (λ l₇. alloc1 ! (λ l₈. alloc1 ! (λ l₉. alloc1 ! (λ l₁₀. alloc1 ! (λ l₁₁. alloc1 ! (λ l₁₂. alloc1 ! (λ l₁₃. alloc1 ! (λ l₁₄. alloc0 ! $ params1 ! $
@@ -239,7 +239,7 @@ module _ {M : Type 1} (𝓤 : URA M) (H : Heap 𝓤) (A : Atoms 𝓤) (W : Given
         move ! (31 ∷ []) $ fsplit ! $ fsplit ! $ move ! (1 ∷ []) $ fsplit ! $ move ! (34 ∷ []) $ split ! $
         keep ! (2 ∷ 3 ∷ 0 ∷ 6 ∷ 7 ∷ 8 ∷ 9 ∷ 10 ∷ 11 ∷ 12 ∷ 13 ∷ 14 ∷ 15 ∷ 16 ∷ 17 ∷ 18 ∷ 19 ∷ 20 ∷ 21 ∷ 22 ∷ 23 ∷ 24 ∷ 25 ∷ 26 ∷ 27 ∷ 28 ∷ 29 ∷ 30 ∷ 31 ∷ 32 ∷ 33 ∷ 34 ∷ 35 ∷ []) $ begun 𝓣 known l₀ l₁ l₂ l₃ l₄ l₅ l₆ l₇ l₈ l₉ l₁₀ l₁₁ l₁₂ l₁₃ l₁₄)))))))))))))))
 
-  module _ (𝓣 : Tables 𝓤 H) (known : Triple 𝓤 (𝓣 .C #values·word·unpacked) Unpack) where
+  module _ (𝓣 : Tables 𝓤 H) (known : Triple 𝓤 (𝓣 .C #questions·word·unpacked) Unpack) where
     append-walks : Walks 𝓤 H A f.ended stayed (WpFn 𝓤 H (𝓣 .C) (𝓣 .Λ) code.function) (f.clauses 𝓤 H A mem run)
     append-walks = walked 𝓤 H A f.ended stayed (f.clauses 𝓤 H A mem run) (WpFn 𝓤 H (𝓣 .C) (𝓣 .Λ) code.function)
         (λ κs. (slice-vals, (LL.vals L.the-type L′.the-laws, tt))) (λ κs. (mut-slice-tells (named 0) (κs .0) Q.the-row, (LL.tells L.the-type L′.the-laws, tt)))
@@ -256,4 +256,4 @@ append-spec 𝓤 H 𝓜 𝓖 𝓡 =
     entered 𝓤 H (tripleOf 𝓤 H (𝓖 .A) f.signature (f.spec 𝓤 H (𝓖 .A) (𝓜 .mem) (𝓡 .run)))
     (tables 𝓤 H 𝓜 𝓡 code.env .C) (tables 𝓤 H 𝓜 𝓡 code.env .Λ) #report·reads·append code.function (code.unfolded 𝓤 H 𝓜 𝓡)
     (append-meets 𝓤 H (𝓖 .A) (givenOf 𝓤 H 𝓜 𝓖) (𝓜 .mem) (𝓡 .run) (tablesOf 𝓤 H 𝓜 (tables 𝓤 H 𝓜 𝓡 code.env))
-    (cited 𝓤 H (Unpack 𝓤 H (𝓖 .A) (givenOf 𝓤 H 𝓜 𝓖) (𝓜 .mem) (𝓡 .run)) 𝓜 𝓡 code.env #values·word·unpacked unpack-def.routine code.calls-values·word·unpacked (unpack-thm.met 𝓤 H 𝓜 𝓖 𝓡)))
+    (cited 𝓤 H (Unpack 𝓤 H (𝓖 .A) (givenOf 𝓤 H 𝓜 𝓖) (𝓜 .mem) (𝓡 .run)) 𝓜 𝓡 code.env #questions·word·unpacked unpack-def.routine code.calls-questions·word·unpacked (unpack-thm.met 𝓤 H 𝓜 𝓖 𝓡)))

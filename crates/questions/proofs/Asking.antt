@@ -1,0 +1,88 @@
+-- One question: asked, without a place, or with an index outside its limits.
+use mathlib.Core.Path.{_≡_, refl, ap, ap₂, _∙_}
+use mathlib.Core.Bool.{Bool, true, false, cond}
+use mathlib.Core.List.{List}
+use Prim.Native.Nat.{ℕ, _+_, _≤_, _<_}
+use native.Mathlib.Omega.{arith}
+use borrow.Author.Tests.{le-leb, lt-leb}
+use lib.Dec.{leb}
+use lib.ListN.{set}
+use Rattle.buffers.proofs.Laws.{map-set}
+use Rattle.meaning.specs.Answer.{Answer}
+use Rattle.meaning.specs.Tree.{done, stop, bind}
+use Rattle.meaning.specs.Meaning.{Meaning}
+use Rattle.meaning.specs.Place.{at}
+use Rattle.meaning.specs.declared.question.Question.{Question}
+use Rattle.meaning.specs.declared.refusal.Refusal.the-variants.{BadIndex}
+use Rattle.meaning.specs.declared.refusal.Overflow.the-variants.{ReadList}
+use Rattle.meaning.specs.declared.end.Halt.the-variants.{Refused, Cut}
+use Rattle.meaning.specs.declared.end.Ended.the-variants.{Finished, Halted}
+use Rattle.meaning.proofs.Doing.{does-stop, does-ask, does-ask-full}
+use Rattle.cells.specs.declared.Answered.{Answered}
+use Rattle.cells.specs.declared.Answered.the-variants.{Missing}
+use Rattle.cells.specs.inner.Index.{Answers}
+use Rattle.cells.proofs.Limits.{same-answer}
+use Rattle.arguments.specs.declared.index.Index.{Index}
+use Rattle.questions.specs.declared.question.Heard.{Heard}
+use Rattle.questions.specs.inner.Word.{packed, unpacked, Small, questions}
+use Rattle.questions.specs.Machine.{Machine}
+use Rattle.questions.specs.Indexes.{indexNumber, indexValue}
+use Rattle.questions.specs.Asking.{question, asks, cellMeaning}
+use Rattle.questions.specs.Source.{answers}
+use Rattle.questions.specs.inner.Hearing.{Hears, cellAt, placeOf}
+use Rattle.questions.proofs.Words.{unpacked-packed}
+use Rattle.questions.proofs.Indexes.{limited-is}
+
+module _ (b index : List ℕ) (count : ℕ) (q : Question) (line : ℕ) (log : List ℕ) (a p : ℕ) where
+  pub hears : (v : Answered) (w : ℕ) → a < p → w ≡ packed q → Small q → Answers b index count q v → Hears b index count (asks line q) log a p (set log a w) (record { end = Finished; answer = v; asked = a + 1 })
+  unfolding asks
+  hears v w h e s g = record {
+    does = λ n cs r text m k.
+        let l : questions (set log a w) ≡ set (questions log) a q = map-set unpacked log a w ∙ ap (λ x. set (questions log) a x) (ap unpacked e ∙ unpacked-packed q s) in
+        rw (same-answer b n index count cs q v r g, l) (does-ask (answers b n) (at text m (questions log) a p k) q line (λ x. x) h);
+    few = omega arith;
+  }
+
+  pub hears-full : p ≤ a → Hears b index count (asks line q) log a p log (record { end = Halted (Cut ReadList) line; answer = Missing; asked = a })
+  unfolding asks
+  hears-full h = record {
+    does = λ n cs r text m k. does-ask-full (answers b n) (at text m (questions log) a p k) q line (λ x. done x) h;
+    few = omega arith;
+  }
+
+module _ (b index : List ℕ) (count line d kind p r e : ℕ) (log : List ℕ) (a places : ℕ) where
+  abbrev Outside : Type 0
+  Outside = Hears b index count (cellAt line d kind p r e) log a places log (record { end = Halted (Refused BadIndex) line; answer = Missing; asked = a })
+
+  outside : cellAt line d kind p r e ≡ stop BadIndex line → Outside
+  outside h = record {
+    does = λ n cs k text m g. rw h (does-stop (answers b n) (at text m (questions log) a places g) BadIndex line);
+    few = omega arith;
+  }
+
+  pub record-outside : 999 < r → Outside
+  unfolding cellAt
+  record-outside h = outside (rw (lt-leb r 999 h))
+
+  pub entry-outside : r ≤ 999 → 999 < e → Outside
+  unfolding cellAt
+  entry-outside l h = outside (rw (le-leb r 999 l, lt-leb e 999 h))
+
+  pub cell-inside : (log′ : List ℕ) (x : Heard) → r ≤ 999 → e ≤ 999 → Hears b index count (asks line (question d kind p r e)) log a places log′ x → Hears b index count (cellAt line d kind p r e) log a places log′ x
+  unfolding cellAt
+  cell-inside log′ x l h y = rw (le-leb r 999 l, le-leb e 999 h) y
+
+-- ---- a cell, by the places that the code works out
+
+both : (line : ℕ) (t u : Bool) (r e : ℕ) (f : ℕ → ℕ → Meaning Answer) → bind (cond t (done r) (stop BadIndex line)) (λ r. bind (cond u (done e) (stop BadIndex line)) (λ e. f r e)) ≡ cond t (cond u (f r e) (stop BadIndex line)) (stop BadIndex line)
+both line true true r e f = refl
+both line true false r e f = refl
+both line false u r e f = refl
+
+pub cell-is : (m : Machine) (line kind p : ℕ) (i j : Index) → cellMeaning m line kind p i j ≡ cellAt line (m .datasource) kind p (placeOf (indexNumber (m .integers) (m .counter) i)) (placeOf (indexNumber (m .integers) (m .counter) j))
+unfolding cellMeaning indexValue cellAt
+cell-is m line kind p i j =
+    let x = indexNumber (m .integers) (m .counter) i in
+    let y = indexNumber (m .integers) (m .counter) j in
+    ap₂ (λ (t u : Meaning ℕ). bind t (λ r. bind u (λ e. asks line (question (m .datasource) kind p r e)))) (limited-is line x) (limited-is line y)
+    ∙ both line (leb (placeOf x) 999) (leb (placeOf y) 999) (placeOf x) (placeOf y) (λ r e. asks line (question (m .datasource) kind p r e))

@@ -1,0 +1,240 @@
+-- The elements of $REC and $TBL.
+use mathlib.Core.Path.{_≡_, refl, sym, ap, ap₂, _∙_}
+use mathlib.Core.Bool.{Bool, true, false, cond, _&&_}
+use mathlib.Core.List.{List, [], _∷_, _++_, map}
+use Prim.Native.Nat.{ℕ, zero, suc, _+_, _*_, _-_, _/_, _%_, _≤_, _<_}
+use native.Mathlib.Nat.{suc-mul, le-antisymm}
+use native.Mathlib.Numerals.{add-one}
+use native.Mathlib.Omega.{arith}
+use borrow.Author.Tests.{le-leb, lt-leb, leb-true, leb-false}
+use lib.Dec.{leb}
+use lib.IntN.{ℤ, pos, negsuc}
+use lib.ListN.{length, take, set}
+use lib.Seq.{sets}
+use Rattle.buffers.proofs.Laws.{sets-append, map-sets}
+use Rattle.cells.proofs.BigEndian.{and-true}
+use Rattle.meaning.specs.Answer.{Answer}
+use Rattle.meaning.specs.Tree.{done, stop, bind}
+use Rattle.meaning.specs.Meaning.{Meaning, asksEach}
+use Rattle.meaning.specs.Place.{at, Does}
+use Rattle.meaning.specs.declared.question.Question.{Question}
+use Rattle.meaning.specs.declared.refusal.Refusal.the-variants.{BadIndex}
+use Rattle.meaning.specs.declared.refusal.Overflow.the-variants.{ReadList}
+use Rattle.meaning.specs.declared.end.Halt.the-variants.{Refused, Cut}
+use Rattle.meaning.specs.declared.end.Ended.the-variants.{Finished, Halted}
+use Rattle.meaning.proofs.Doing.{does-stop}
+use Rattle.meaning.proofs.Asking.{asks-all, asks-cut}
+use Rattle.arguments.specs.declared.index.Index.{Index}
+use Rattle.questions.specs.declared.fetch.Along.{Along}
+use Rattle.questions.specs.declared.fetch.Along.the-variants.{Records, Entries}
+use Rattle.questions.specs.declared.fetch.Fetched.{Fetched}
+use Rattle.questions.specs.declared.scene.Scene.{Scene}
+use Rattle.questions.specs.inner.Word.{packed, unpacked, Small, questions}
+use Rattle.questions.specs.Machine.{Machine}
+use Rattle.questions.specs.Indexes.{indexNumber, indexValue}
+use Rattle.questions.specs.Asking.{question}
+use Rattle.questions.specs.inner.State.{stepOf, wordsFrom, fetched, machine}
+use Rattle.questions.specs.Fetching.{elementQuestion, elementQuestions, countValue, firstOf, asksElements, fetchMeaning}
+use Rattle.questions.specs.inner.Fetch.{fetchAllowed, fetchAt, FetchAt, FetchValue, Fetchable}
+use Rattle.questions.specs.inner.Hearing.{placeOf}
+use Rattle.questions.proofs.Words.{unpacked-packed}
+use Rattle.questions.proofs.Indexes.{limited-is}
+
+-- ---- the words of elements
+
+length-questions : (q : ℕ → Question) (k n : ℕ) → length (elementQuestions q k n) ≡ n
+unfolding elementQuestions
+length-questions q k zero = refl
+length-questions q k (suc n) = ap suc (length-questions q (suc k) n)
+
+take-words : (step w n k : ℕ) → k ≤ n → take k (questions (wordsFrom step w n)) ≡ questions (wordsFrom step w k)
+unfolding wordsFrom
+take-words step w n zero h = refl
+take-words step w zero (suc k) h = absurd (omega arith)
+take-words step w (suc n) (suc k) h = ap (λ l. unpacked w ∷ l) (take-words step (w + step) n k (omega arith))
+
+-- from the k-th on, where each element that is asked has its place in a word
+module _ (q : ℕ → Question) (step most : ℕ) (small : (k : ℕ) → k < most → Small (q k)) (next : (k : ℕ) → packed (q k) + step ≡ packed (q (suc k))) where
+  words-are : (n k w : ℕ) → k + n ≤ most → w ≡ packed (q k) → questions (wordsFrom step w n) ≡ elementQuestions q k n
+  unfolding wordsFrom elementQuestions
+  words-are zero k w h e = refl
+  words-are (suc n) k w h e =
+      ap₂ (λ (x : Question) (l : List Question). x ∷ l) (ap unpacked e ∙ unpacked-packed (q k) (small k (omega arith)))
+      (words-are n (suc k) (w + step) (omega arith) (ap (λ x. x + step) e ∙ next k))
+
+module _ (d c r e n : ℕ) (hd : d ≤ 35) (hc : c ≤ 65535) (hr : r ≤ 999) (he : e ≤ 999) where
+  small-element : (along : Along) → firstOf along r e + n ≤ 1000 → (k : ℕ) → k < n → Small (elementQuestion d along c r e k)
+  unfolding elementQuestion firstOf
+  small-element Records h k l = record { kind = omega arith; datasource = omega arith; parameter = omega arith; at = omega arith; entry = omega arith }
+  small-element Entries h k l = record { kind = omega arith; datasource = omega arith; parameter = omega arith; at = omega arith; entry = omega arith }
+
+  next-element : (along : Along) (k : ℕ) → packed (elementQuestion d along c r e k) + stepOf along ≡ packed (elementQuestion d along c r e (suc k))
+  unfolding elementQuestion stepOf packed
+  next-element Records k = omega arith
+  next-element Entries k = omega arith
+
+  first-element : (along : Along) → packed (question d 1 c r e) ≡ packed (elementQuestion d along c r e 0)
+  unfolding elementQuestion packed
+  first-element Records = omega arith
+  first-element Entries = omega arith
+
+  elements-are : (along : Along) (w : ℕ) → firstOf along r e + n ≤ 1000 → w ≡ packed (question d 1 c r e) → questions (wordsFrom (stepOf along) w n) ≡ elementQuestions (elementQuestion d along c r e) 0 n
+  elements-are along w h g = words-are (elementQuestion d along c r e) (stepOf along) n (small-element along h) (next-element along) n 0 w (omega arith) (g ∙ first-element along)
+
+-- ---- the log
+
+words-end : (step w n : ℕ) → wordsFrom step w (suc n) ≡ wordsFrom step w n ++ ((w + n * step) ∷ [])
+unfolding wordsFrom
+words-end step w zero = ap (λ x. x ∷ []) (omega arith)
+words-end step w (suc n) = let e : w + step + n * step ≡ w + suc n * step = omega (arith, suc-mul n step) in
+    ap (λ l. w ∷ l) (words-end step (w + step) n ∙ ap (λ x. wordsFrom step (w + step) n ++ (x ∷ [])) e)
+
+length-words : (step w n : ℕ) → length (wordsFrom step w n) ≡ n
+unfolding wordsFrom
+length-words step w zero = refl
+length-words step w (suc n) = ap suc (length-words step (w + step) n)
+
+-- One word more.
+noted-more : (log log₀ : List ℕ) (i step w k x : ℕ) → log ≡ sets log₀ i (wordsFrom step w k) → x ≡ w + k * step → set log (i + k) x ≡ sets log₀ i (wordsFrom step w (k + 1))
+noted-more log log₀ i step w k x h e =
+    rw (h, e, add-one k, words-end step w k) (sym (sets-append (wordsFrom step w k) log₀ i ((w + k * step) ∷ []) ∙ ap (λ j. set (sets log₀ i (wordsFrom step w k)) (i + j) (w + k * step)) (length-words step w k)))
+
+-- Where the loop stands: the first k of n words are in the log.
+pub record Noted (log₀ : List ℕ) (i step w n : ℕ) (log : List ℕ) (k : ℕ) : Type 0 where
+  pub words : log ≡ sets log₀ i (wordsFrom step w k)
+  pub few : k ≤ n
+
+module _ (log₀ : List ℕ) (i step w n : ℕ) where
+  pub noted-start : Noted log₀ i step w n log₀ 0
+  unfolding wordsFrom
+  noted-start = record { words = refl; few = omega arith }
+
+  pub noted-next : (log : List ℕ) (k x : ℕ) → Noted log₀ i step w n log k → k < n → x ≡ w + k * step → Noted log₀ i step w n (set log (i + k) x) (k + 1)
+  noted-next log k x h l e = record { words = noted-more log log₀ i step w k x (h .words) e; few = omega arith }
+
+  pub noted-end : (log : List ℕ) (k : ℕ) → Noted log₀ i step w n log k → n ≤ k → log ≡ sets log₀ i (wordsFrom step w n)
+  noted-end log k h l = h .words ∙ ap (λ k. sets log₀ i (wordsFrom step w k)) (le-antisymm (h .few) l)
+
+-- ---- what is allowed
+
+-- record, entry and count within their limits, with the elements from the number `first` on
+pub record Within (first r e n : ℕ) : Type 0 where
+  pub records : r ≤ 999
+  pub entries : e ≤ 999
+  pub count : n ≤ 64
+  pub last : first + n ≤ 1000
+
+pub within : (along : Along) (r e n : ℕ) → fetchAllowed along r e n ≡ true → Within (firstOf along r e) r e n
+unfolding fetchAllowed
+within along r e n h =
+    let x = and-true (leb r 999) (leb e 999 && (leb n 64 && leb (firstOf along r e + n) 1000)) h in
+    let y = and-true (leb e 999) (leb n 64 && leb (firstOf along r e + n) 1000) (x .1) in
+    let z = and-true (leb n 64) (leb (firstOf along r e + n) 1000) (y .1) in
+    record {
+      records = leb-true r 999 (x .0);
+      entries = leb-true e 999 (y .0);
+      count = leb-true n 64 (z .0);
+      last = leb-true (firstOf along r e + n) 1000 (z .1);
+    }
+
+module _ {first r e n d c a : ℕ} (h : Within first r e n) (k : Fetchable d c a) where
+  pub first-small : Small (question d 1 c r e)
+  first-small = record { kind = omega arith; datasource = omega (arith, k .datasource); parameter = omega (arith, k .parameter); at = omega (arith, h .records); entry = omega (arith, h .entries) }
+
+  pub word-most : (w : ℕ) → w ≡ packed (question d 1 c r e) → w < 17592186044416
+  unfolding packed
+  word-most w g = omega (arith, g, k .datasource, k .parameter, h .records, h .entries)
+
+-- ---- the three ends
+
+module _ (line d : ℕ) (along : Along) (c r e n : ℕ) (log : List ℕ) (a p : ℕ) where
+  pub fetch-refused : fetchAllowed along r e n ≡ false → FetchAt line d along c r e n log a p log (record { end = Halted (Refused BadIndex) line; fetched = 0; asked = a })
+  unfolding fetchAt
+  fetch-refused h = record {
+    fetches = record { does = λ source text m g. rw h (does-stop source (at text m (questions log) a p g) BadIndex line); few = omega arith };
+  }
+
+  module _ (h : fetchAllowed along r e n ≡ true) where
+    module _ (k : Fetchable d c a) (w : ℕ) (g : w ≡ packed (question d 1 c r e)) where
+      in-limits : Within (firstOf along r e) r e n
+      in-limits = within along r e n h
+
+      abbrev Asked : List Question
+      Asked = elementQuestions (elementQuestion d along c r e) 0 n
+
+      words : questions (wordsFrom (stepOf along) w n) ≡ Asked
+      words = elements-are d c r e n (k .datasource) (k .parameter) (in-limits .records) (in-limits .entries) along w (in-limits .last) g
+
+      count : length Asked ≡ n
+      count = length-questions (elementQuestion d along c r e) 0 n
+
+      pub fetch-all : (log′ : List ℕ) (f : ℕ) → n ≤ p - a → log′ ≡ sets log a (wordsFrom (stepOf along) w n) → f ≡ w * 128 + n → FetchAt line d along c r e n log a p log′ (record { end = Finished; fetched = f; asked = a + n })
+      unfolding fetchAt fetched
+      fetch-all log′ f room l q = record {
+        fetches = record {
+          does = λ source text m z.
+              let first : f / 128 ≡ w = omega (arith, in-limits .count) in
+              let rest : f % 128 ≡ n = omega (arith, in-limits .count) in
+              let there : sets (questions log) a Asked ≡ questions log′ = ap (sets (questions log) a) (sym words) ∙ sym (map-sets unpacked log a (wordsFrom (stepOf along) w n)) ∙ ap questions (sym l) in
+              rw (h, first, rest, words, ← there) (rw count at (asks-all source line text m p z Asked (questions log) a (omega (arith, count))));
+          few = omega (arith, in-limits .count);
+        };
+      }
+
+      pub fetch-cut : (log′ : List ℕ) (left : ℕ) → left ≡ p - a → left < n → log′ ≡ sets log a (wordsFrom (stepOf along) w left) → FetchAt line d along c r e n log a p log′ (record { end = Halted (Cut ReadList) line; fetched = 0; asked = a + left })
+      unfolding fetchAt
+      fetch-cut log′ left q room l = record {
+        fetches = record {
+          does = λ source text m z.
+              let some : take left Asked ≡ questions (wordsFrom (stepOf along) w left) = ap (take left) (sym words) ∙ take-words (stepOf along) w n left (omega arith) in
+              let there : sets (questions log) a (take left Asked) ≡ questions log′ = ap (sets (questions log) a) some ∙ sym (map-sets unpacked log a (wordsFrom (stepOf along) w left)) ∙ ap questions (sym l) in
+              rw (h, ← there) (asks-cut source line text m p z Asked (questions log) a left q (omega (arith, count)));
+          few = omega (arith, in-limits .count);
+        };
+      }
+
+-- ---- the indexes before
+
+counted-is : (line : ℕ) (k : ℤ) → countValue line k ≡ cond (leb (placeOf k) 64) (done (placeOf k)) (stop BadIndex line)
+unfolding countValue placeOf
+counted-is line (negsuc k) = refl
+counted-is line (pos k) = go (leb k 999) refl
+  where
+    go : (t : Bool) → leb k 999 ≡ t → countValue line (pos k) ≡ cond (leb (placeOf (pos k)) 64) (done (placeOf (pos k))) (stop BadIndex line)
+    go true e = let z : placeOf (pos k) ≡ k = rw e in rw z
+    go false e = let z : placeOf (pos k) ≡ 1000 = rw e in rw (z, lt-leb k 64 (omega (arith, leb-false k 999 e)))
+
+all-four : (line : ℕ) (t u v : Bool) (y : ℕ → ℕ → ℕ → Bool) (r e n : ℕ) (f : ℕ → ℕ → ℕ → Meaning (List Answer)) → bind (cond t (done r) (stop BadIndex line)) (λ r. bind (cond u (done e) (stop BadIndex line)) (λ e. bind (cond v (done n) (stop BadIndex line)) (λ n. cond (y r e n) (f r e n) (stop BadIndex line)))) ≡ cond (t && (u && (v && y r e n))) (f r e n) (stop BadIndex line)
+all-four line true true true y r e n f = refl
+all-four line true true false y r e n f = refl
+all-four line true false v y r e n f = refl
+all-four line false u v y r e n f = refl
+
+fetch-is : (m : Machine) (line : ℕ) (along : Along) (c : ℕ) (i j k : Index) → fetchMeaning m line along c i j k ≡ fetchAt line (m .datasource) along c (placeOf (indexNumber (m .integers) (m .counter) i)) (placeOf (indexNumber (m .integers) (m .counter) j)) (placeOf (indexNumber (m .integers) (m .counter) k))
+unfolding fetchMeaning indexValue asksElements fetchAt fetchAllowed
+fetch-is m line along c i j k =
+    let x = indexNumber (m .integers) (m .counter) i in
+    let y = indexNumber (m .integers) (m .counter) j in
+    let z = indexNumber (m .integers) (m .counter) k in
+    rw (limited-is line x, limited-is line y, counted-is line z) (all-four line (leb (placeOf x) 999) (leb (placeOf y) 999) (leb (placeOf z) 64) (λ r e n. leb (firstOf along r e + n) 1000) (placeOf x) (placeOf y) (placeOf z) (λ r e n. asksEach line (elementQuestions (elementQuestion (m .datasource) along c r e) 0 n)))
+
+pub fetch-value : (integers : List ℤ) (sc : Scene) (along : Along) (c : ℕ) (i j k : Index) (log : List ℕ) (a p : ℕ) (log′ : List ℕ) (v : Fetched) (r e n : ℕ) (z z′ z″ : ℤ) → z ≡ sc .turn → z′ ≡ sc .turn → z″ ≡ sc .turn → r ≡ placeOf (indexNumber integers z i) → e ≡ placeOf (indexNumber integers z′ j) → n ≡ placeOf (indexNumber integers z″ k) → FetchAt (sc .number) (sc .datasource) along c r e n log a p log′ v → FetchValue integers sc along c i j k log a p log′ v
+fetch-value integers sc along c i j k log a p log′ v r e n z z′ z″ q q′ q″ hr he hn d = record {
+  fetches = λ decimals rows lengths records entries. record {
+    does = λ source text m g.
+        let x : r ≡ placeOf (indexNumber integers (sc .turn) i) = hr ∙ ap (λ t. placeOf (indexNumber integers t i)) q in
+        let y : e ≡ placeOf (indexNumber integers (sc .turn) j) = he ∙ ap (λ t. placeOf (indexNumber integers t j)) q′ in
+        let w : n ≡ placeOf (indexNumber integers (sc .turn) k) = hn ∙ ap (λ t. placeOf (indexNumber integers t k)) q″ in
+        rw (fetch-is (machine source integers decimals rows lengths records entries sc) (sc .number) along c i j k, ← x, ← y, ← w) (d .fetches .does source text m g);
+    few = d .fetches .few;
+  };
+}
+
+-- ---- what is allowed, as the code tests it
+
+pub last-allowed : (x n : ℕ) → n ≤ 64 → leb x (1000 - n) ≡ leb (x + n) 1000
+last-allowed x n h = go (leb (x + n) 1000) refl
+  where
+    go : (t : Bool) → leb (x + n) 1000 ≡ t → leb x (1000 - n) ≡ leb (x + n) 1000
+    go true e = le-leb x (1000 - n) (omega (arith, leb-true (x + n) 1000 e)) ∙ sym e
+    go false e = lt-leb x (1000 - n) (omega (arith, leb-false (x + n) 1000 e)) ∙ sym e

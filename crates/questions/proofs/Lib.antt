@@ -1,0 +1,6 @@
+pub mod Words
+pub mod Lists
+pub mod Indexes
+pub mod Asking
+pub mod Recalling
+pub mod Fetches

@@ -1,0 +1,26 @@
+-- The machine as a line sees it.
+use mathlib.Core.List.{List}
+use Prim.Native.Nat.{ℕ, zero, suc}
+use lib.IntN.{ℤ}
+use lib.ListN.{getD}
+use Rattle.meaning.specs.Answer.{Answer}
+
+-- IV1, FV1, SV1, R1 and T1 are the first of their lists
+pub record Machine : Type 0 where
+  pub integers : List ℤ
+  pub decimals : List ℤ
+  pub strings : List (List ℕ)
+  -- "LOOP is the innermost table's counter, 0 outside"
+  pub counter : ℤ
+  -- what $REC and $TBL fetched
+  pub records : List (List Answer)
+  pub entries : List (List Answer)
+  -- the selected datasource, PAGENUM, LINENUM
+  pub datasource : ℕ
+  pub page : ℕ
+  pub row : ℕ
+
+-- the n-th, counted from 1; a parsed line names one that is there (values/proofs/Ranges:operand-there, index-there)
+unfoldable pub numbered : {A : Type 0} → A → List A → ℕ → A
+numbered d l zero = d
+numbered d l (suc k) = getD l k d

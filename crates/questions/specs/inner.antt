@@ -1,0 +1,4 @@
+pub mod Word
+pub mod State
+pub mod Hearing
+pub mod Fetch

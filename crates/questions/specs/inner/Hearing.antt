@@ -1,0 +1,42 @@
+-- What the contracts of calls that ask a question say.
+use mathlib.Core.Bool.{cond}
+use mathlib.Core.List.{List}
+use Prim.Native.Nat.{ℕ, _+_, _≤_, _<_}
+use lib.Dec.{leb}
+use lib.IntN.{ℤ, pos, negsuc}
+use Rattle.meaning.specs.Answer.{Answer}
+use Rattle.meaning.specs.Tree.{stop}
+use Rattle.meaning.specs.Meaning.{Meaning}
+use Rattle.meaning.specs.Number.{endOf}
+use Rattle.meaning.specs.Place.{at, Does}
+use Rattle.meaning.specs.declared.refusal.Refusal.the-variants.{BadIndex}
+use Rattle.cells.specs.Asking as C
+use Rattle.cells.specs.Cell.{Cell}
+use Rattle.cells.specs.inner.Index.{Ready}
+use Rattle.questions.specs.declared.question.Heard.{Heard}
+use Rattle.questions.specs.inner.Word.{questions}
+use Rattle.questions.specs.Asking.{question, asks}
+use Rattle.questions.specs.Source.{answers}
+
+-- an index from 0 to 999, or 1000
+unfoldable pub placeOf : ℤ → ℕ
+placeOf (pos k) = cond (leb k 999) k 1000
+placeOf (negsuc k) = 1000
+
+-- the same as a cell's meaning, for the code: its record and entry are from 0 to 999, or 1000
+unfoldable pub cellAt : ℕ → ℕ → ℕ → ℕ → ℕ → ℕ → Meaning Answer
+cellAt line d kind p r e =
+    cond (leb r 999) (cond (leb e 999) (asks line (question d kind p r e)) (stop BadIndex line)) (stop BadIndex line)
+
+-- A call that only asks, over the store and its index: from a log filled up to a, with p places in all, t led to log′ and
+-- was answered by r, whatever the text is and however many pages there are.
+pub record Hears (b index : List ℕ) (count : ℕ) (t : Meaning Answer) (log : List ℕ) (a p : ℕ) (log′ : List ℕ) (r : Heard) : Type 0 where
+  pub does : (n : ℕ) (cs : List Cell) → Ready b n index count cs → (text : List ℕ) (m g : ℕ) → Does (answers b n) t (at text m (questions log) a p g) (at text m (questions log′) (r .asked) p g) (endOf (C.meant b (r .answer)) (r .end))
+  pub few : r .asked ≤ a + 1
+
+-- What a call that may ask one question requires: a datasource and a parameter within their limits, and a place in the log.
+pub record Askable (d kind p a : ℕ) : Type 0 where
+  pub datasource : d ≤ 35
+  pub kinds : kind ≤ 3
+  pub parameter : p ≤ 65535
+  pub place : a < 512
