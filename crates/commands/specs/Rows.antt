@@ -154,7 +154,7 @@ Rows =
     -- 2 and 2.0 are equal; a string is no number
     × (tests 0 Equal (whole (pos 2)) (millionths (pos 2000000)) .end ≡ finished true)
     × (tests 0 Less (whole (pos 2)) short .end ≡ halted (refused WrongKind) 7)
-    -- SV takes a string, of at most 16 bytes, from itself too; a number is 11
+    -- SV takes a string, from itself too; a number is 11. A literal of 17 bytes, which no accepted line has, would be cut.
     × (wordIn 2 (words (plain (Text 1 7)) 2) ≡ ascii "cs-137")
     × (wordIn 1 (words (plain (Text 10 27)) 1) ≡ ascii "0123456789abcdef")
     × (wordIn 1 (words (record { operand = StringVariable 1; filter = UpperCase }) 1) ≡ ascii "CS")

@@ -1,4 +1,4 @@
-// "Each executed $SEC sets IV and FV to 0, SV to empty, clears R, T": rows of zeros.
+// "Each executed $SEC sets IV and FV to 0, SV to empty, clears R, T and headings": rows of zeros.
 ghost use mathlib.Core.Path.{_≡_};
 ghost use lib.IntN.{pos};
 ghost use lib.ListN.{length, replicate};
@@ -14,7 +14,7 @@ pub fn numbers(row: &mut [i64])
     }
 }
 
-// R or T: a word of 0 has fetched nothing.
+// R, T or the headings: a word of 0 has fetched nothing, and is an undefined heading.
 pub fn words(row: &mut [u64])
     ensures { λ _. ⌜ now (row .exit) ≡ replicate (length (now (row .entry))) 0 ⌝ }
 {

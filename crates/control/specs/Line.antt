@@ -38,7 +38,7 @@ jumped t s q = withPlace s (s .at + skipped (drop (s .at) t) q .bytes) (s .line 
 
 -- ---- each is a line with its number l and its bytes, and s is the state behind it
 
--- "SV takes a string", "IV takes an integer", "FV takes a number"; "fills Rn", "the same for Tn"
+-- IV, FV, SV, R and T as the command leaves them
 abbrev pub setting : State → Meaning Machine → Meaning State
 setting s t = bind t (λ m. done (withMachine s m))
 
@@ -103,7 +103,7 @@ formMeaning t start l body s (form.Heading n from) =
 formMeaning t start l body s (form.NoHeading n) = done (headed s n noHeading)
 -- "unread"
 formMeaning t start l body s form.Remark = done s
--- no line of an accepted template
+-- no line of an accepted template: template/proofs/Opening:opens-line
 formMeaning t start l body s form.NoForm = done s
 
 -- the line that is due

@@ -22,12 +22,15 @@ pub record State : Type 0 where
   pub strings : List (List ℕ)
   pub records : List (List Answer)
   pub entries : List (List Answer)
+  -- "the selected datasource"
   pub datasource : ℕ
   -- the open tables, the innermost first
   pub tables : List Table
+  -- $PH1 to $PH9
   pub headings : List Heading
   -- whether a break writes a form feed: not under $NOFF
   pub feeds : Bool
+  -- PAGENUM and LINENUM
   pub page : Page
 
 -- the machine as an argument sees it

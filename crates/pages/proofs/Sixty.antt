@@ -11,10 +11,8 @@ use Rattle.meaning.specs.Event.{line}
 use Rattle.meaning.specs.Tree.{done, bind}
 use Rattle.meaning.specs.Rule.{Keeps, pageLimit}
 use Rattle.meaning.proofs.Keeping.{keeps-bind, keeps-more}
-use Rattle.texts.specs.declared.text.Piece.{Piece}
 use Rattle.questions.specs.Machine.{Machine}
-use Rattle.values.proofs.Giving.{Anything}
-use Rattle.values.proofs.Still.{Still, gives-still}
+use Rattle.values.proofs.Giving.{Anything, gives-keeps}
 use Rattle.pages.specs.declared.page.Page.{Page}
 use Rattle.pages.specs.declared.heading.Heading.{Heading}
 use Rattle.texts.specs.Pieces.{piecesOf}
@@ -23,18 +21,13 @@ use Rattle.pages.specs.Page.{advancedOf, on, sayMeaning, headLine, headF
 use Rattle.pages.proofs.Turning.{highest-most}
 use Rattle.pages.proofs.Counting.{values-give}
 
--- ---- questions print nothing
-
-values-still : (m : Machine) (l : List ℕ) (n : ℕ) (ps : List Piece) → Still (fieldValues m l n ps)
-values-still m l n ps = gives-still (fieldValues m l n ps) Anything (values-give m l n ps)
-
 -- ---- a line is one line
 
 text-keeps : (m : Machine) (l : List ℕ) (from n c : ℕ) → c < 60 → Keeps (pageLimit 60) (textMeaning m l from n) c (λ _ c′. c′ ≡ suc c)
 unfolding textMeaning
 text-keeps m l from n c h =
-    keeps-bind (pageLimit 60) (fieldValues m l n (piecesOf l from)) (λ ws. printed n (anyWrong ws) (rendered (piecesOf l from) ws)) c (λ _ c′. c′ ≡ c) (λ _ c′. c′ ≡ suc c) (values-still m l n (piecesOf l from) c)
-    (λ ws c₁ e. go (anyWrong ws) (rendered (piecesOf l from) ws) c₁ e)
+    keeps-bind (pageLimit 60) (fieldValues m l n (piecesOf l from)) (λ ws. printed n (anyWrong ws) (rendered (piecesOf l from) ws)) c (λ ws c′. Anything ws × (c′ ≡ c)) (λ _ c′. c′ ≡ suc c) (gives-keeps (pageLimit 60) (fieldValues m l n (piecesOf l from)) c Anything (values-give m l n (piecesOf l from)))
+    (λ ws c₁ e. go (anyWrong ws) (rendered (piecesOf l from) ws) c₁ (e .1))
   where
     go : (w : Bool) (b : List ℕ) (c₁ : ℕ) → c₁ ≡ c → Keeps (pageLimit 60) (printed n w b) c₁ (λ _ c′. c′ ≡ suc c)
     go true b c₁ e = tt

@@ -21,6 +21,7 @@ newPage = record { number = 1; line = 1 }
 abbrev pub brokenOf : Page → Page
 brokenOf p = record { number = p .number + 1; line = 1 }
 
+-- "LINENUM is the next line, 1–61"
 abbrev pub advancedOf : Page → Page
 advancedOf p = record { number = p .number; line = p .line + 1 }
 
@@ -86,15 +87,3 @@ topMeaning m t due hs p =
 unfoldable pub lineStep : Machine → List ℕ → ℕ → Bool → List Heading → List ℕ → Page → Meaning Page
 lineStep m t due feeds hs l p =
     bind (turnMeaning due feeds p) (λ p₁. bind (topMeaning m t due hs p₁) (λ p₂. sayMeaning m l 0 due p₂))
-
--- text lines one after another, with what headings and what machine there are at each
-pub record Due : Type 0 where
-  pub machine : Machine
-  pub number : ℕ
-  pub feeds : Bool
-  pub headings : List Heading
-  pub bytes : List ℕ
-
-abbrev pub linesMeaning : List ℕ → List Due → Page → Meaning Page
-linesMeaning t [] p = done p
-linesMeaning t (d ∷ ds) p = bind (lineStep (d .machine) t (d .number) (d .feeds) (d .headings) (d .bytes) p) (linesMeaning t ds)

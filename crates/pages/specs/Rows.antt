@@ -1,6 +1,6 @@
 -- Rows of document 01 and cases at the limits, each computed from the definitions.
 use mathlib.Core.Path.{_≡_, refl}
-use mathlib.Core.Bool.{true}
+use mathlib.Core.Bool.{Bool, true}
 use mathlib.Core.List.{List, [], _∷_}
 use Prim.Native.Nat.{ℕ}
 use lib.IntN.{pos}
@@ -8,7 +8,8 @@ use lib.ListN.{length, replicate}
 use Rattle.meaning.specs.Answer as A
 use Rattle.meaning.specs.Answer.{Answer}
 use Rattle.meaning.specs.Event.{pageFrom, laterPages, pages}
-use Rattle.meaning.specs.Tree.{Run, run, halted, cut}
+use Rattle.meaning.specs.Tree.{done, bind, Run, run, halted, cut}
+use Rattle.meaning.specs.Meaning.{Meaning}
 use Rattle.meaning.specs.declared.question.Question.{Question}
 use Rattle.meaning.specs.declared.refusal.Refusal.{Refusal}
 use Rattle.meaning.specs.declared.refusal.Overflow.the-variants.{Output}
@@ -20,7 +21,7 @@ use Rattle.pages.specs.declared.heading.Heading.{Heading}
 use Rattle.pages.specs.Heading.{noHeading}
 use Rattle.texts.specs.Pieces.{read, piecesOf}
 use Rattle.rendering.specs.Text.{textMeaning}
-use Rattle.pages.specs.Page.{newPage, sayMeaning, headLine, headFrom, headNumber, headMeaning, highestOf, breakMeaning, turnMeaning, topMeaning, lineStep, linesMeaning}
+use Rattle.pages.specs.Page.{newPage, sayMeaning, headLine, headFrom, headNumber, headMeaning, highestOf, breakMeaning, turnMeaning, topMeaning, lineStep}
 
 abbrev sample : Machine
 sample = record { integers = []; decimals = []; strings = []; counter = pos 0; records = []; entries = []; datasource = 1; page = 1; row = 1 }
@@ -34,6 +35,18 @@ second = noHeading ∷ record { start = 0; length = 5; from = 5; number = 4 } �
 
 abbrev source : Question → Answer
 source q = A.missing
+
+-- text lines one after another, with what headings and what machine there are at each
+record Due : Type 0 where
+  machine : Machine
+  number : ℕ
+  feeds : Bool
+  headings : List Heading
+  bytes : List ℕ
+
+abbrev linesMeaning : List ℕ → List Due → Page → Meaning Page
+linesMeaning t [] p = done p
+linesMeaning t (d ∷ ds) p = bind (lineStep (d .machine) t (d .number) (d .feeds) (d .headings) (d .bytes) p) (linesMeaning t ds)
 
 -- so many blank text lines, on line 7, in so many bytes of room
 abbrev ran : List Heading → ℕ → ℕ → Run Question Refusal ℕ Page

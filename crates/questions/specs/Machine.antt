@@ -15,9 +15,11 @@ pub record Machine : Type 0 where
   -- what $REC and $TBL fetched
   pub records : List (List Answer)
   pub entries : List (List Answer)
-  -- the selected datasource, PAGENUM, LINENUM
+  -- "the selected datasource"
   pub datasource : ℕ
+  -- PAGENUM
   pub page : ℕ
+  -- LINENUM
   pub row : ℕ
 
 -- the n-th, counted from 1; a parsed line names one that is there (values/proofs/Ranges:operand-there, index-there)

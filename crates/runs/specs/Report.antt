@@ -33,8 +33,7 @@ unfoldable pub runFrom : ℕ → List ℕ → ℕ → State → Meaning State
 runFrom zero t end s = cond (ltb (s .at) end) (stop TooManyLines (s .line)) (done s)
 runFrom (suc n) t end s = cond (ltb (s .at) end) (bind (lineMeaning t s) (runFrom n t end)) (done s)
 
--- "A run goes from the selected (or first) $SEC line to the line before the next $SEC (or to the end)"; "Cells ask in the
--- selected datasource, 1 at the start."; "PAGENUM starts at 1"
+-- where a run starts: "Cells ask in the selected datasource, 1 at the start."; "PAGENUM starts at 1"
 abbrev pub startOf : Run → State
 startOf r =
     record {
@@ -52,10 +51,11 @@ startOf r =
       page = newPage;
     }
 
+-- "A run goes from the selected (or first) $SEC line to the line before the next $SEC (or to the end)"
 abbrev pub runMeaning : List ℕ → Run → Meaning State
 runMeaning t r = runFrom 50000 t (r .end) (startOf r)
 
--- "pages (PAGENUM at the end)": PAGENUM starts at 1, and a break adds 1
+-- what a report is: its number, the line that is named, its pages, what it printed and asked
 pub record Outcome : Type 0 where
   pub number : ℕ
   pub line : ℕ
@@ -63,6 +63,7 @@ pub record Outcome : Type 0 where
   pub events : List Event
   pub questions : List Question
 
+-- "text printed"
 abbrev pub textIn : Outcome → List ℕ
 textIn o = joined (o .events)
 
@@ -70,6 +71,8 @@ textIn o = joined (o .events)
 abbrev pub refusedWith : Refusal → ℕ → Outcome
 refusedWith e l = record { number = refusalNumber e; line = l; pages = 0; events = []; questions = [] }
 
+-- "Otherwise text printed, questions asked and pages (PAGENUM at the end) stand": PAGENUM starts at 1, and a break adds 1
+-- (report/proofs/Pages:pages-are-pagenum)
 abbrev pub ranTo : {A : Type 0} → tree.Run Question Refusal ℕ A → Outcome
 ranTo x = record { number = numberOf (x .end); line = lineOf (x .end); pages = 1 + breaks (x .events); events = x .events; questions = x .asked }
 

@@ -1,6 +1,6 @@
 // Tables: the loops of a template, from $BT to $ET.
 //
 // table::begin_table, end_table              $BT, $ET
-// table::none_open, innermost, turn_of       the open tables, LOOP
+// table::innermost, turn_of                  the open tables, LOOP
 
 pub mod table; // table.rt: $BT and $ET

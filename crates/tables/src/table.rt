@@ -58,15 +58,6 @@ fn no_table() -> Table
     }
 }
 
-// No table is open.
-pub fn none_open() -> Tables
-    ensures { λ r. ⌜ openOf r ≡ [] ⌝ }
-{
-    let table = no_table();
-    let rows = [table; 5];
-    Tables { rows, depth: 0 }
-}
-
 // The innermost table; one without passes where none is open.
 pub fn innermost(tables: Tables) -> Table
     ensures { λ r. ⌜ r ≡ L.innermost (openOf tables) ⌝ }

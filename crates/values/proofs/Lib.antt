@@ -3,6 +3,5 @@ pub mod Operands
 pub mod Arguments
 pub mod Keeping
 pub mod Giving
-pub mod Still
 pub mod Ranges
 pub mod Allowed
