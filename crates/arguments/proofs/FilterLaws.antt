@@ -3,7 +3,8 @@ use mathlib.Core.Path.{_≡_, refl}
 use mathlib.Core.List.{List}
 use Prim.Native.Nat.{ℕ}
 use Rattle.scan.specs.Run.{belongs, span}
-use Rattle.scan.specs.Words.{wordIn, wordAt, firstOf, wordOr}
+use Rattle.scan.specs.Words.{firstOf}
+use Rattle.scan.specs.inner.Tables.{wordIn, wordAt, wordOr}
 use Rattle.scan.proofs.WordLaws.{tabled, by-number}
 use Rattle.arguments.specs.declared.operand.Operand.{Operand}
 use Rattle.arguments.specs.declared.operand.Operand.the-variants.{Number, Text, IntegerVariable, DecimalVariable, StringVariable, PageNumber, LineNumber, LoopCounter, RecordElement, EntryElement, Parameter, Record, Entry}

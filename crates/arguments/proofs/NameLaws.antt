@@ -3,7 +3,7 @@ use mathlib.Core.Path.{_≡_, refl}
 use mathlib.Core.List.{List}
 use Prim.Native.Nat.{ℕ}
 use Rattle.scan.specs.Run.{belongs, span}
-use Rattle.scan.specs.Words.{wordIn, wordAt, wordOr}
+use Rattle.scan.specs.inner.Tables.{wordIn, wordAt, wordOr}
 use Rattle.scan.proofs.WordLaws.{tabled, by-number}
 use Rattle.arguments.specs.declared.operand.OperandRead.the-variants.{NoOperand}
 use Rattle.arguments.specs.readers.Operand.{wholeAt, names, namedAt}

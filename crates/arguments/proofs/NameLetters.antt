@@ -9,7 +9,7 @@ use Rattle.scan.specs.declared.words.WordRead.the-variants.{NoWord}
 use Rattle.scan.specs.Ascii.{ascii}
 use Rattle.scan.specs.Run.{belongs, span}
 use Rattle.scan.specs.Line.{byteAt}
-use Rattle.scan.specs.Words.{wordIn, wordAt, wordElse}
+use Rattle.scan.specs.inner.Tables.{wordIn, wordAt, wordElse}
 use Rattle.scan.proofs.LetterLaws.{letter, Known, lettersFit, fitsAll, none, _and_, tried, wordAmong, by-letters}
 use Rattle.arguments.specs.inner.Named.{nameWords}
 use Rattle.arguments.specs.inner.Filtered.{filterNames}

@@ -6,7 +6,7 @@ use native.Mathlib.Omega.{arith}
 use borrow.Author.Tests.{le-leb}
 use mir.Syntax.{w64}
 use mir.Val.{Fits}
-use Rattle.numbers.specs.Places.{scaleOf}
+use Rattle.numbers.specs.inner.Places.{scaleOf}
 
 pub scale-power : (k s : ℕ) → s ≡ scaleOf (6 - k) → s ≡ 10 ^ (6 - k)
 unfolding scaleOf

@@ -7,7 +7,7 @@ use Rattle.scan.specs.Run.{belongs, span}
 use Rattle.scan.specs.Line.{byteAt}
 use Rattle.scan.specs.Value.{valueFrom}
 use Rattle.scan.specs.readers.Digits.{digitsAt, numberAt}
-use Rattle.scan.specs.Words.{begins, standsAt, wordIn, wordFrom, wordAt, firstOf}
+use Rattle.scan.specs.Words.{begins, standsAt, firstOf}
 use Rattle.arguments.specs.declared.literal.LiteralRead.the-variants.{LiteralTo, NoLiteral}
 use Rattle.arguments.specs.declared.index.Index.the-variants.{Fixed, Loop}
 use Rattle.arguments.specs.declared.operand.Operand.the-variants.{Text, IntegerVariable, RecordElement, Parameter, Entry}
@@ -44,5 +44,5 @@ Rows =
 
 -- The rows hold.
 pub rows : Rows
-unfolding belongs span byteAt valueFrom digitsAt numberAt begins standsAt wordIn wordFrom wordAt firstOf inMillionths fractionAt unsignedAt literalAt variableIndex indexAt stringAt entryOf recordOf cellOf cellAt wholeAt numberedOf numberedAt names namedAt numberOr operandAt
+unfolding belongs span byteAt valueFrom digitsAt numberAt begins standsAt firstOf inMillionths fractionAt unsignedAt literalAt variableIndex indexAt stringAt entryOf recordOf cellOf cellAt wholeAt numberedOf numberedAt names namedAt numberOr operandAt
 rows = (refl, refl, refl, refl, refl, refl, refl, refl, refl, refl, refl, refl, refl, refl, refl, refl, refl, refl)

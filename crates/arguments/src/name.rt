@@ -3,7 +3,7 @@ use scan::bytes;
 use scan::words;
 use scan::words::WordRead;
 ghost use mathlib.Core.Path.{_≡_};
-ghost use Rattle.scan.specs.Words.{wordAt};
+ghost use Rattle.scan.specs.inner.Tables.{wordAt};
 ghost use Rattle.arguments.specs.inner.Named.{nameWords};
 ghost use Rattle.arguments.specs.inner.Filtered.{filterNames};
 

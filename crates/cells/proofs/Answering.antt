@@ -16,10 +16,10 @@ use Rattle.cells.specs.declared.Answered.{Answered}
 use Rattle.cells.specs.declared.Answered.the-variants.{Missing, Integer, Decimal, Text, Highest}
 use Rattle.cells.specs.Bytes.{pair, pairAt}
 use Rattle.cells.specs.Cell.{Cell, keyBytes, number, keyNumber, keyAt, cellAllowed, cellBytes}
-use Rattle.cells.specs.Store.{allowed}
-use Rattle.cells.specs.Asking.{lookup, found, highestOf, meant, InStore}
+use Rattle.cells.specs.Store.{encode, allowed}
+use Rattle.cells.specs.Asking.{lookup, found, highestOf, cellStart, meant}
 use Rattle.cells.specs.inner.Index as I
-use Rattle.cells.specs.inner.Index.{Ready, Position, ValueAt, CellAnswer, LastOf, nothing, last}
+use Rattle.cells.specs.inner.Index.{Ready, InStore, Position, ValueAt, CellAnswer, LastOf, nothing, last}
 use Rattle.cells.proofs.BigEndian.{pair-at}
 use Rattle.cells.proofs.Locating.{held-some, keys, key-here, keys-rise, allowed-in, Located, locate, cell-inside, sorted, lower-keys, higher-keys}
 
@@ -59,14 +59,25 @@ pub lookup-here : (k : ℕ) (cs xs : List Cell) (c : Cell) (ys : List Cell) → 
 lookup-here k cs xs c ys s h e =
     ap (lookup k) s ∙ lookup-at k xs c ys (λ i l q. h i l (ap (λ (z : List Cell). getD (keys z) i 0) s ∙ q)) e
 
+-- it begins behind the bytes of those before it
+start-at : (k : ℕ) (xs : List Cell) (c : Cell) (ys : List Cell) → ((i : ℕ) → i < length xs → getD (keys (xs ++ (c ∷ ys))) i 0 ≡ k → ⊥) → keyNumber c ≡ k → cellStart k (xs ++ (c ∷ ys)) ≡ length (encode xs)
+unfolding cellStart encode
+start-at k [] c ys h e = rw (eq-eqb _ _ e)
+start-at k (x ∷ xs) c ys h e =
+    rw (ne-eqb (keyNumber x) k (h 0 (omega arith)), start-at k xs c ys (λ i l. h (suc i) (omega arith)) e) (sym (length-append (cellBytes x) (encode xs)))
+
+start-here : (k : ℕ) (cs xs : List Cell) (c : Cell) (ys : List Cell) → cs ≡ xs ++ (c ∷ ys) → ((i : ℕ) → i < length xs → getD (keys cs) i 0 ≡ k → ⊥) → keyNumber c ≡ k → cellStart k cs ≡ length (encode xs)
+start-here k cs xs c ys s h e =
+    ap (cellStart k) s ∙ start-at k xs c ys (λ i l q. h i l (ap (λ (z : List Cell). getD (keys z) i 0) s ∙ q)) e
+
 -- what lies in fewer bytes lies in more
-in-more : (b : List ℕ) (v : Answered) {m n : ℕ} → m ≤ n → n ≤ length b → InStore b m v → InStore b n v
+in-more : (b : List ℕ) (v : Answered) {m n i j : ℕ} → m ≤ n → n ≤ length b → i ≡ j → InStore b m i v → InStore b n j v
 unfolding InStore
-in-more b Missing h l i = tt
-in-more b (Integer z) h l i = tt
-in-more b (Decimal z) h l i = tt
-in-more b (Text a k) h l i = (omega (arith, i .0), l)
-in-more b (Highest x) h l i = tt
+in-more b Missing h l e i = tt
+in-more b (Integer z) h l e i = tt
+in-more b (Decimal z) h l e i = tt
+in-more b (Text a k) h l e i = (i .0 ∙ e, omega (arith, i .1), l)
+in-more b (Highest x) h l e i = tt
 
 -- the answers of `cell_answer`
 module _ (b index : List ℕ) (count k p : ℕ) (q : Position b index count k p) where
@@ -86,25 +97,34 @@ module _ (b index : List ℕ) (count k p : ℕ) (q : Position b index count k p)
         let l = locate b n index count cs r p h in
         ke (omega (arith, l .room)) ∙ ap (λ (x : ℕ). eqb (number (keyAt b (x + 1))) k) pl ∙ ap (λ (x : ℕ). eqb x k) (l .key)
 
-    pub cell-found : t ≡ true → (r : Answered) → ValueAt b at r → CellAnswer b index count k r
-    unfolding found
-    cell-found e v w = record { found = go; inside = held-in }
-      where
-        held-in : (n : ℕ) (cs : List Cell) → Ready b n index count cs → InStore b n v
-        held-in n cs r =
-            let l = locate b n index count cs r p h in
-            in-more b v (omega (arith, cell-inside b n index count cs r p h, pl)) (held-some b n cs (r .holds) .inside) (w .inside (l .picked .cell) (l .rest) (l .allowed) (ap (λ (y : ℕ). drop y b) pl ∙ l .bytes))
+    module _ (e : t ≡ true) (v : Answered) (w : ValueAt b at v) where
+      module _ (n : ℕ) (cs : List Cell) (r : Ready b n index count cs) where
+        abbrev here : Located b index cs p
+        here = locate b n index count cs r p h
 
-        go : (n : ℕ) (cs : List Cell) → Ready b n index count cs → meant b v ≡ found (lookup k cs)
-        go n cs r =
-            let f = q .first (sorted b n index count cs r) in
-            let l = locate b n index count cs r p h in
-            let c = l .picked .cell in
-            let x : lookup k cs ≡ some c =
-            lookup-here k cs (l .picked .left) c (l .picked .right) (l .picked .split)
-            (λ i u z. omega (arith, lower-keys b n index count cs r k p f i (omega (arith, l .picked .place))))
-            (sym (l .number) ∙ eqb-true _ _ (sym (key-is n cs r) ∙ e)) in
-            w .value c (l .rest) (l .allowed) (ap (λ (y : ℕ). drop y b) pl ∙ l .bytes) ∙ ap found (sym x)
+        begins-here : drop at b ≡ cellBytes (here .picked .cell) ++ here .rest
+        begins-here = ap (λ (y : ℕ). drop y b) pl ∙ here .bytes
+
+        -- it has the key, and none of the cells before it has
+        has-key : keyNumber (here .picked .cell) ≡ k
+        has-key = sym (here .number) ∙ eqb-true _ _ (sym (key-is n cs r) ∙ e)
+
+        lower : (i : ℕ) → i < length (here .picked .left) → getD (keys cs) i 0 ≡ k → ⊥
+        lower i u z = omega (arith, lower-keys b n index count cs r k p (q .first (sorted b n index count cs r)) i (omega (arith, here .picked .place)))
+
+        found-in : meant b v ≡ found (lookup k cs)
+        unfolding found
+        found-in =
+            let x : lookup k cs ≡ some (here .picked .cell) = lookup-here k cs (here .picked .left) (here .picked .cell) (here .picked .right) (here .picked .split) lower has-key in
+            w .value (here .picked .cell) (here .rest) (here .allowed) begins-here ∙ ap found (sym x)
+
+        held-in : InStore b n (cellStart k cs + 9) v
+        held-in =
+            let s : cellStart k cs ≡ length (encode (here .picked .left)) = start-here k cs (here .picked .left) (here .picked .cell) (here .picked .right) (here .picked .split) lower has-key in
+            in-more b v (omega (arith, cell-inside b n index count cs r p h, pl)) (held-some b n cs (r .holds) .inside) (omega (arith, s, pl, here .place)) (w .inside (here .picked .cell) (here .rest) (here .allowed) begins-here)
+
+      pub cell-found : CellAnswer b index count k v
+      cell-found = record { found = found-in; inside = held-in }
 
     pub cell-other : t ≡ false → CellAnswer b index count k Missing
     unfolding meant found InStore

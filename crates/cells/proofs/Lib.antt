@@ -11,3 +11,4 @@ pub mod Values
 pub mod Replies
 pub mod Requests
 pub mod Limits
+pub mod Places

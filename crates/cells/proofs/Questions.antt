@@ -13,10 +13,10 @@ use Rattle.cells.specs.declared.Answered.{Answered}
 use Rattle.cells.specs.declared.Answered.the-variants.{Missing, Highest}
 use Rattle.cells.specs.Bytes.{pair, pairAt}
 use Rattle.cells.specs.Cell.{Key, keyOf, Cell, between, keyAllowed, keyBytes, number, cellBytes}
-use Rattle.cells.specs.Asking.{asked, Query, theCell, highestRecord, highestEntry, unused, queryOf, queryAllowed, questionAllowed, lookup, found, highestOf, ofParameter, ofRecord, queryAnswer, answer, meant, InStore}
+use Rattle.cells.specs.Asking.{asked, Query, theCell, highestRecord, highestEntry, unused, queryOf, queryAllowed, questionAllowed, lookup, found, highestOf, ofParameter, ofRecord, queryAnswer, answer, stringStart, meant}
 use Rattle.cells.specs.inner.Tests.{unusedZero}
 use Rattle.cells.specs.inner.Index as I
-use Rattle.cells.specs.inner.Index.{Ready, CellAnswer, Answers, reachOf, offsetOf}
+use Rattle.cells.specs.inner.Index.{Ready, InStore, CellAnswer, Answers, reachOf, offsetOf}
 use Rattle.cells.proofs.BigEndian.{and-true, both, pair-reads}
 use Rattle.cells.proofs.CellForm.{key-allowed, Limits, limits}
 use Rattle.cells.proofs.Locating.{held-some}
@@ -182,7 +182,8 @@ module _ (b index : List ℕ) (count : ℕ) (q : Question) (t : Bool) (k : t ≡
 
     module _ (key : ℕ) (e : key ≡ number (asked q)) where
       pub answers-cell : q .kind ≡ 1 → (r : Answered) → CellAnswer b index count key r → Answers b index count q r
-      answers-cell o r c = record { answer = λ m cs d. rw (whole, answer-one q cs o, ← e) (c .found m cs d); inside = c .inside }
+      unfolding stringStart
+      answers-cell o r c = record { answer = λ m cs d. rw (whole, answer-one q cs o, ← e) (c .found m cs d); inside = λ m cs d. rw (← e) (c .inside m cs d) }
 
       module _ (o : q .kind ≡ 1 → ⊥) (r : ℕ) where
         answers-records : q .kind ≡ 2 → I.Highest b index count key (key + 4294967296) 4 r → Answers b index count q (Highest r)

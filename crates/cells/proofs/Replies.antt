@@ -1,6 +1,6 @@
 -- What `ask` hands back, from the index that was built.
-use mathlib.Core.Path.{_≡_, refl, sym, ap, _∙_}
-use mathlib.Core.Bool.{Bool, true, false, not}
+use mathlib.Core.Path.{_≡_, refl, sym, ap, ap₂, _∙_}
+use mathlib.Core.Bool.{Bool, true, false, cond, not}
 use mathlib.Core.List.{List, [], _∷_, _++_}
 use mathlib.Core.Option.{Option, none, some}
 use Prim.Native.Nat.{ℕ, _+_, _*_, _-_, _≤_, _<_}
@@ -9,20 +9,35 @@ use borrow.Author.Tests.{not-true, not-false}
 use lib.ListN.{length, getD, take, drop, length-append, drop-of-length-le, List·getD-append}
 use lib.Seq.{sets, sets-eq, take-all, take-nil, length-take-le}
 use lib.ListN.{length-drop}
+use Rattle.meaning.specs.Answer.{missing}
 use Rattle.meaning.specs.declared.question.Question.{Question}
 use Rattle.meaning.specs.declared.refusal.Refusal.the-variants as R
 use Rattle.meaning.specs.declared.end.Ended.the-variants.{Finished}
 use Rattle.cells.specs.declared.Answered.{Answered}
-use Rattle.cells.specs.declared.Answered.the-variants.{Missing}
+use Rattle.cells.specs.declared.Answered.the-variants.{Missing, Integer, Decimal, Text, Highest}
 use Rattle.cells.specs.declared.index.Indexed.{Indexed}
 use Rattle.cells.specs.declared.index.Indexed.the-variants.{Count, BadStore}
 use Rattle.cells.specs.Cell.{Cell, cellAllowed, cellBytes}
 use Rattle.cells.specs.Store.{encode, allowed, held}
-use Rattle.cells.specs.inner.Index.{offsets, counted, Filled, Indexes, Ready, Answers}
-use Rattle.cells.specs.Asking.{questionAllowed, refusedWith, replied, askOf, meant, InStore, reply}
+use Rattle.cells.specs.inner.Index.{offsets, counted, Filled, Indexes, Ready, InStore, Answers}
+use Rattle.cells.specs.Asking.{questionAllowed, answer, refusedWith, replied, askOf, stringStart, handed, askedOf, meant}
 use Rattle.cells.proofs.BigEndian.{and-true}
 use Rattle.cells.proofs.Locating.{held-some, cell-least}
 use Rattle.cells.proofs.Walking.{length-offsets}
+
+-- ---- an answer is handed back as what it means, from its place
+
+pub as-handed : (b : List ℕ) (n i : ℕ) (x : Answered) → InStore b n i x → x ≡ handed i (meant b x)
+unfolding InStore handed meant
+as-handed b n i Missing s = refl
+as-handed b n i (Integer z) s = refl
+as-handed b n i (Decimal z) s = refl
+as-handed b n i (Text j k) s = ap₂ Text (s .0) (sym (length-take-le k (drop j b) (omega (arith, s .1, s .2, length-drop j b))))
+as-handed b n i (Highest m) s = refl
+
+pub answer-handed : {b p : List ℕ} {n count : ℕ} {cs : List Cell} (q : Question) (x : Answered) → Answers b p count q x → Ready b n p count cs → x ≡ handed (stringStart q (some cs)) (cond (questionAllowed q) (answer q cs) missing)
+answer-handed {b = b} {n = n} {cs = cs} q x w r =
+    as-handed b n (stringStart q (some cs)) x (w .inside n cs r) ∙ ap (handed (stringStart q (some cs))) (w .answer n cs r)
 
 -- ---- what the index tells
 
@@ -80,30 +95,19 @@ module _ (b : List ℕ) (n : ℕ) (p p′ : List ℕ) (r : Indexed) (i : Indexes
 
   -- ---- the answers of `ask`
 
-  pub ask-bad-store : (q : Question) → r ≡ BadStore → (reply b (record { end = refusedWith R.BadStore; answer = Missing }) ≡ askOf b n q) × InStore b n Missing
-  unfolding reply meant askOf replied InStore
-  ask-bad-store q e = (rw (not-held e), tt)
+  pub ask-bad-store : (q : Question) → r ≡ BadStore → record { end = refusedWith R.BadStore; answer = Missing } ≡ askedOf b n q
+  unfolding askedOf askOf replied handed
+  ask-bad-store q e = rw (not-held e)
 
   module _ (q : Question) (count : ℕ) (e : r ≡ Count count) (t : Bool) (a : t ≡ questionAllowed q) where
-    pub ask-bad-request : not t ≡ true → (reply b (record { end = refusedWith R.BadRequest; answer = Missing }) ≡ askOf b n q) × InStore b n Missing
-    unfolding reply meant askOf replied InStore
-    ask-bad-request u = (rw (built count e .held, sym a ∙ not-true t u), tt)
+    pub ask-bad-request : not t ≡ true → record { end = refusedWith R.BadRequest; answer = Missing } ≡ askedOf b n q
+    unfolding askedOf askOf replied handed
+    ask-bad-request u = rw (built count e .held, sym a ∙ not-true t u)
 
-    pub ask-answered : not t ≡ false → 5461 ≤ length p → (x : Answered) → Answers b p′ count q x → (reply b (record { end = Finished; answer = x }) ≡ askOf b n q) × InStore b n x
-    unfolding reply askOf replied
+    pub ask-answered : not t ≡ false → 5461 ≤ length p → (x : Answered) → Answers b p′ count q x → record { end = Finished; answer = x } ≡ askedOf b n q
+    unfolding askedOf askOf replied
     ask-answered u l x w =
         let g = index-ready count e l in
         let v : questionAllowed q ≡ true = sym a ∙ not-false t u in
-        (rw (g .1 .holds, w .answer n (g .0) (g .1), v), w .inside n (g .0) (g .1))
-
--- ---- the answers of `text`
-
-module _ (s : List ℕ) (at count : ℕ) where
-  pub text-past : length s ≤ at → take (length s - length s) (drop (length s) s) ≡ take count (drop at s)
-  text-past h = rw (drop-of-length-le s {i = length s} (omega arith), drop-of-length-le s {i = at} h, take-nil {A = ℕ} (length s - length s), take-nil {A = ℕ} count)
-
-  pub text-cut : length s - at < count → take (length s - at) (drop at s) ≡ take count (drop at s)
-  text-cut h = take-all (length s - at) (drop at s) (omega (arith, length-drop at s)) ∙ sym (take-all count (drop at s) (omega (arith, length-drop at s)))
-
-  pub text-in : take (at + count - at) (drop at s) ≡ take count (drop at s)
-  text-in = let e : at + count - at ≡ count = omega arith in rw e
+        let h : x ≡ handed (stringStart q (some (g .0))) (cond (questionAllowed q) (answer q (g .0)) missing) = answer-handed q x w (g .1) in
+        rw (g .1 .holds, v) (ap (λ (y : Answered). record { end = Finished; answer = y }) (rw v at h))

@@ -19,8 +19,8 @@ use Rattle.cells.specs.declared.Answered.the-variants.{Missing, Integer,
 use Rattle.cells.specs.Bytes.{quadAt, octetAt, fromComplement, word, long}
 use Rattle.cells.specs.Cell.{Kind, integers, decimals, strings, kinds, rowIn, kindOf, integerKind, decimalKind, Cell, cellAllowed, cellBytes, cellBy, cellOf}
 use Rattle.cells.specs.inner.Tests.{sizeOf}
-use Rattle.cells.specs.Asking.{meant, InStore}
-use Rattle.cells.specs.inner.Index.{ValueAt, SizeAt}
+use Rattle.cells.specs.Asking.{meant}
+use Rattle.cells.specs.inner.Index.{InStore, ValueAt, SizeAt}
 use Rattle.cells.proofs.CellForm.{first-byte, cell-reads, value-allowed, cell-size, known-kind, string-row, size-string, string-short}
 use Rattle.cells.proofs.Runs.{some-inj}
 use Rattle.cells.proofs.Locating.{cell-least}
@@ -137,7 +137,7 @@ module _ (b : List ℕ) (at : ℕ) where
           inside = λ c r a e.
               let s : getD (cellBytes c ++ r) 8 0 ≤ 16 = string-short (c .key) (c .value) r (value-allowed c a) (λ z. j (kind-is c r a e ∙ z)) (λ z. k (kind-is c r a e ∙ z)) in
               let z : length (cellBytes c) ≡ 25 = cell-size (c .key) (c .value) (value-allowed c a) ∙ ap sizeOf (sym (kind-is c r a e)) ∙ size-string _ j k (known c r a e) in
-              (omega (arith, s, q, getD-drop at b 8 0, ap (λ (l : List ℕ). getD l 8 0) e, z), omega (arith, has-room c r a e, z, size-string _ j k (known c r a e)));
+              (refl, omega (arith, s, q, getD-drop at b 8 0, ap (λ (l : List ℕ). getD l 8 0) e, z), omega (arith, has-room c r a e, z, size-string _ j k (known c r a e)));
         }
 
   -- ---- the answers of `size_at`

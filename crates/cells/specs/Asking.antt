@@ -2,9 +2,11 @@
 use mathlib.Core.Bool.{Bool, true, false, cond, _&&_}
 use mathlib.Core.List.{List, [], _∷_}
 use mathlib.Core.Option.{Option, none, some}
-use Prim.Native.Nat.{ℕ, _+_, _≤_, max}
+use Prim.Native.Nat.{ℕ, _+_, max}
 use lib.Dec.{eqb}
 use lib.ListN.{length, take, drop}
+use Rattle.numbers.specs.declared.Quantity.the-variants as Q
+use Rattle.meaning.specs.Answer as A
 use Rattle.meaning.specs.Answer.{integer, decimal, string, Answer, missing, cell, highest}
 use Rattle.meaning.specs.declared.question.Question.{Question}
 use Rattle.meaning.specs.declared.refusal.Refusal.{Refusal}
@@ -15,7 +17,7 @@ use Rattle.meaning.specs.declared.end.Ended.the-variants.{Finished, Halted}
 use Rattle.cells.specs.declared.Answered.{Answered}
 use Rattle.cells.specs.declared.Answered.the-variants.{Missing, Integer, Decimal, Text, Highest}
 use Rattle.cells.specs.declared.Asked.{Asked}
-use Rattle.cells.specs.Cell.{Key, keyOf, Cell, number, keyNumber, keyAllowed}
+use Rattle.cells.specs.Cell.{Key, keyOf, Cell, number, keyNumber, keyAllowed, cellBytes}
 use Rattle.cells.specs.Store.{held}
 
 -- the key that the four numbers are
@@ -113,21 +115,33 @@ replied q (some cs) = cond (questionAllowed q) (answeredAsk (answer q cs)) (refu
 unfoldable pub askOf : List ℕ → ℕ → Question → Reply
 askOf b n q = replied q (held b n)
 
--- what the code's answer means: a string is a part of the store
+-- where the cell of a key begins in the store: behind the cells before it
+unfoldable pub cellStart : ℕ → List Cell → ℕ
+cellStart n [] = 0
+cellStart n (c ∷ cs) = cond (eqb (keyNumber c) n) 0 (length (cellBytes c) + cellStart n cs)
+
+-- "A cell is one byte of kind, a 7-byte key, a value"; a string is "a length 0–16, then 16 bytes": where the bytes of the
+-- string that is answered begin in the store
+unfoldable pub stringStart : Question → Option (List Cell) → ℕ
+stringStart q none = 0
+stringStart q (some cs) = cellStart (number (asked q)) cs + (1 + 7 + 1)
+
+-- an answer as it is handed back: a string as a part of the store, by its place and its length
+unfoldable pub handed : ℕ → Answer → Answered
+handed i missing = Missing
+handed i (cell (A.number (Q.Integer z))) = Integer z
+handed i (cell (A.number (Q.Decimal z))) = Decimal z
+handed i (cell (string s)) = Text i (length s)
+handed i (highest n) = Highest n
+
+-- "Ask answers one question."
+unfoldable pub askedOf : List ℕ → ℕ → Question → Asked
+askedOf b n q = record { end = askOf b n q .end; answer = handed (stringStart q (held b n)) (askOf b n q .answer) }
+
+-- what an answer of the code means: a string is a part of the store
 unfoldable pub meant : List ℕ → Answered → Answer
 meant b Missing = missing
 meant b (Integer z) = cell (integer z)
 meant b (Decimal z) = cell (decimal z)
 meant b (Text i n) = cell (string (take n (drop i b)))
 meant b (Highest n) = highest n
-
--- a string that is answered lies in the store, the first n bytes of b
-unfoldable pub InStore : List ℕ → ℕ → Answered → Type 0
-InStore b n Missing = Unit {0}
-InStore b n (Integer z) = Unit {0}
-InStore b n (Decimal z) = Unit {0}
-InStore b n (Text i k) = (i + k ≤ n) × (n ≤ length b)
-InStore b n (Highest m) = Unit {0}
-
-unfoldable pub reply : List ℕ → Asked → Reply
-reply b r = record { end = r .end; answer = meant b (r .answer) }

@@ -12,6 +12,7 @@ use Rattle.numbers.specs.declared.Quantity.the-variants as Q
 use Rattle.numbers.specs.Range.{integerLimit, decimalLimit, within}
 use Rattle.cells.specs.Bytes.{pair, quad, octet, pairAt, quadAt, octetAt, inComplement, fromComplement, word, long, begins, equalBytes}
 
+-- "Key: datasource 1–35 (1 byte), parameter 1–65,535, record 0–999, entry 0–999 (2 bytes each)."
 pub record Key : Type 0 where
   pub datasource : ℕ
   pub parameter : ℕ
@@ -38,11 +39,12 @@ keyBytes k = k .datasource ∷ (pair (k .parameter) ++ (pair (k .recordNumber) +
 unfoldable pub number : Key → ℕ
 number k = ((k .datasource * 65536 + k .parameter) * 65536 + k .recordNumber) * 65536 + k .entryNumber
 
--- "of 0x20–0x7E"
+-- every byte passes a test
 unfoldable pub each : (ℕ → Bool) → List ℕ → Bool
 each p [] = true
 each p (b ∷ s) = p b && each p s
 
+-- "of 0x20–0x7E"
 abbrev pub printable : List ℕ → Bool
 printable s = each (between 32 126) s
 
@@ -141,6 +143,7 @@ stringKind = strings .byte
 
 -- ---- cells
 
+-- "A cell is one byte of kind, a 7-byte key, a value": the kind is the value's
 pub record Cell : Type 0 where
   pub key : Key
   pub value : Value

@@ -12,7 +12,7 @@ use Rattle.numbers.specs.Range.{within}
 use Rattle.cells.specs.Bytes.{pair, quad, octet, pairAt, quadAt, octetAt, inComplement, fromComplement, begins}
 use Rattle.cells.specs.Cell.{Key, Cell, between, keyAllowed, keyBytes, number, each, valueAllowed, cellAllowed, kindOf, valueBytes, cellBytes, keyAt, cellBy, cellOf, passing, front}
 use Rattle.cells.specs.Store.{encode, above, rising, before, cellRun, ordered, cells}
-use Rattle.cells.specs.Asking.{lookup, found, unused, queryOf, queryAllowed, questionAllowed, highestOf, ofParameter, ofRecord, queryAnswer, answer}
+use Rattle.cells.specs.Asking.{lookup, found, unused, queryOf, queryAllowed, questionAllowed, highestOf, ofParameter, ofRecord, queryAnswer, answer, cellStart, stringStart}
 
 abbrev key : ℕ → ℕ → ℕ → ℕ → Key
 key d p r e = record { datasource = d; parameter = p; recordNumber = r; entryNumber = e }
@@ -57,6 +57,8 @@ Rows =
     × (answer (question 2 2 258 0 0) sample ≡ highest 0)
     × (answer (question 3 1 258 3 0) sample ≡ highest 4)
     × (questionAllowed (question 2 1 258 0 0) ≡ true)
+    -- "Cs" stands behind the 12 bytes of the integer's cell and 9 bytes of its own
+    × (stringStart (question 1 1 258 7 0) (some sample) ≡ 21)
 
 -- The rows hold.
 pub rows : Rows
@@ -103,5 +105,7 @@ unfolding
     ofRecord
     queryAnswer
     answer
+    cellStart
+    stringStart
     within
-rows = (refl, refl, refl, refl, refl, refl, refl, refl, refl, refl, refl, refl, refl, refl, refl)
+rows = (refl, refl, refl, refl, refl, refl, refl, refl, refl, refl, refl, refl, refl, refl, refl, refl)

@@ -53,7 +53,7 @@ pub fn key_allowed(s: &[u8], at: usize) -> bool
 }
 
 // Whether a number in two's complement, `top` being the highest of its width, lies within ±limit.
-pub fn number_allowed(n: u64, top: u64, limit: u64) -> bool
+fn number_allowed(n: u64, top: u64, limit: u64) -> bool
     requires { ⌜ n ≤ top ⌝ }
     ensures { λ r. ⌜ r ≡ within limit (fromComplement (top + 1) n) ⌝ }
 {
@@ -64,7 +64,7 @@ pub fn number_allowed(n: u64, top: u64, limit: u64) -> bool
 }
 
 // Whether every byte lies within low–high.
-pub fn all_between(s: &[u8], low: u8, high: u8) -> bool
+fn all_between(s: &[u8], low: u8, high: u8) -> bool
     ensures { λ r. ⌜ r ≡ each (between low high) (now (s .entry)) ⌝ }
 {
     let mut i = 0;
@@ -82,7 +82,7 @@ pub fn all_between(s: &[u8], low: u8, high: u8) -> bool
 }
 
 // "a length 0–16, then 16 bytes: that many of 0x20–0x7E, the rest zero"
-pub fn string_allowed(s: &[u8]) -> bool
+fn string_allowed(s: &[u8]) -> bool
     requires { ⌜ 25 ≤ length (now s) ⌝ }
     ensures { λ r. ⌜ r ≡ stringFormed (now (s .entry)) ⌝ }
 {
@@ -114,7 +114,7 @@ pub fn size_of(kind: u8) -> usize
 }
 
 // Whether the value of a cell is within the limits of its kind.
-pub fn value_allowed(s: &[u8]) -> bool
+fn value_allowed(s: &[u8]) -> bool
     requires { ⌜ (0 < sizeOf (getD (now s) 0 0)) × (sizeOf (getD (now s) 0 0) ≤ length (now s)) ⌝ }
     ensures { λ r. ⌜ r ≡ valueFormed (now (s .entry)) ⌝ }
 {

@@ -1,7 +1,6 @@
 // The store's cells: their form, the index of their places, and questions about them.
 //
 // ask                 one question to a store
-// text                the part of the store that an answer names
 // index::build        checks the form of a store and writes down where each cell begins
 // question::allowed   whether a question is within its limits
 // question::answer    a question over the index of a store
@@ -20,8 +19,7 @@ use meaning::end::Halt;
 use meaning::question::Question;
 use meaning::refusal::Refusal;
 ghost use mathlib.Core.Path.{_≡_};
-ghost use lib.ListN.{take, drop};
-ghost use Rattle.cells.specs.Asking.{askOf, reply, InStore};
+ghost use Rattle.cells.specs.Asking.{askedOf};
 
 // The answer to a question. A text is a part of the store: its place and its length.
 pub enum Answered {
@@ -37,9 +35,9 @@ pub struct Asked {
     pub answer: Answered,
 }
 
-// "Ask answers one question." 1 and 15 are refused, and answer missing. A text that is answered lies in the store.
+// "Ask answers one question." 1 and 15 are refused, and answer missing.
 pub fn ask(store: &[u8], len: usize, question: Question) -> Asked
-    ensures { λ r. ⌜ (reply (now (store .entry)) r ≡ askOf (now (store .entry)) len question) × InStore (now (store .entry)) len (r .answer) ⌝ }
+    ensures { λ r. ⌜ r ≡ askedOf (now (store .entry)) len question ⌝ }
 {
     let mut places = [0u16; 5461];
     let Indexed::Count(count) = index::build(store, len, &mut places) else {
@@ -59,19 +57,4 @@ pub fn ask(store: &[u8], len: usize, question: Question) -> Asked
         end: Ended::Finished,
         answer: answer,
     }
-}
-
-// The bytes of a text that was answered, as a part of the store: as many of them as the store has.
-pub fn text(store: &[u8], at: usize, count: usize) -> &[u8]
-    ensures { λ r. ⌜ now r ≡ take count (drop at (now (store .entry))) ⌝ }
-{
-    let n = store.len();
-    if n <= at {
-        return &store[n..n];
-    }
-    if n - at < count {
-        return &store[at..n];
-    }
-    let end = at + count;
-    &store[at..end]
 }

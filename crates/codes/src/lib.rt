@@ -1,4 +1,4 @@
-// The parsed form of a line, and of a piece of its text, as a row of 16 numbers for the calls for C.
+// The parsed form of a line, and of a piece of its text, as a row of 16 numbers for the calls for tests.
 //
 // line::write_line     a line's command with its arguments
 // piece::write_piece   a byte of a text, or a field

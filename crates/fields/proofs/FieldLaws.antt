@@ -18,7 +18,8 @@ use Rattle.numbers.specs.declared.Rounded.the-variants.{Units, OutOfRange}
 use Rattle.numbers.specs.Places.{roundedTo}
 use Rattle.fields.specs.declared.Places.{Places}
 use Rattle.fields.specs.Digits.{digits, digitCount}
-use Rattle.fields.specs.Field.{space, asterisk, hyphen, point, questionMark, placesOf, negative, minus, fraction, unsigned, rightIn, leftIn, widthAllowed, roundedField, shown, fieldOf, fieldFits, bufferWith, Put}
+use Rattle.fields.specs.Field.{space, asterisk, hyphen, point, questionMark, placesOf, negative, minus, fraction, unsigned, rightIn, leftIn, widthAllowed, roundedField, shown, fieldOf}
+use Rattle.fields.specs.inner.Putting.{fieldFits, bufferWith, Put}
 use Rattle.fields.proofs.DigitLaws.{length-digits}
 
 -- ---- the sign and the fraction

@@ -1,6 +1,5 @@
 -- What a field of width w shows, as document 01 says it under "Fields".
-use mathlib.Core.Path.{_≡_}
-use mathlib.Core.Bool.{Bool, false, not, cond, _&&_}
+use mathlib.Core.Bool.{Bool, not, cond, _&&_}
 use mathlib.Core.List.{List, [], _∷_, _++_}
 use mathlib.Core.Option.{Option, none, some}
 use Prim.Native.Nat.{ℕ, zero, suc, _-_, _/_, _^_}
@@ -9,7 +8,6 @@ use lib.IntN.{pos}
 use lib.Signed.{ltZ}
 use lib.ListN.{length, take, replicate}
 use Rattle.meaning.specs.Answer.{Value, number, string}
-use Rattle.buffers.specs.Buffer.{room, stored}
 use Rattle.numbers.specs.declared.Quantity.{Quantity}
 use Rattle.numbers.specs.declared.Quantity.the-variants.{Integer, Decimal}
 use Rattle.numbers.specs.declared.Rounded.{Rounded}
@@ -83,17 +81,3 @@ shown w p none = some (leftIn w (questionMark ∷ questionMark ∷ questionMark 
 -- the w bytes of the field, or none where w, d or a number is out of its limits
 unfoldable pub fieldOf : ℕ → Places → Option Value → Option (List ℕ)
 fieldOf w p v = cond (widthAllowed w) (shown w p v) none
-
--- whether a field lies in the buffer, and the buffer with it there
-unfoldable pub fieldFits : List ℕ → ℕ → Option (List ℕ) → Bool
-fieldFits b n none = false
-fieldFits b n (some s) = room b n (length s)
-
-unfoldable pub bufferWith : List ℕ → ℕ → Option (List ℕ) → List ℕ
-bufferWith b n none = b
-bufferWith b n (some s) = stored b n s
-
--- b′ is the buffer after the field f was to be put at n, and r the answer
-pub record Put (b : List ℕ) (n : ℕ) (f : Option (List ℕ)) (b′ : List ℕ) (r : Bool) : Type 0 where
-  pub told : r ≡ fieldFits b n f
-  pub buffer : b′ ≡ bufferWith b n f

@@ -10,7 +10,8 @@ mod text; // text.rt: a number's characters
 use numbers::Quantity;
 use numbers::Rounded;
 ghost use mathlib.Core.Path.{_≡_};
-ghost use Rattle.fields.specs.Field.{placesOf, negative, widthAllowed, fieldOf, Put};
+ghost use Rattle.fields.specs.Field.{placesOf, negative, widthAllowed, fieldOf};
+ghost use Rattle.fields.specs.inner.Putting.{Put};
 ghost use mathlib.Core.Option.{none, some};
 ghost use Rattle.meaning.specs.Answer as G;
 

@@ -1,21 +1,25 @@
--- The places in a form are those of the bytes that they stand for.
-use mathlib.Core.Path.{_≡_, refl, ap, ap₂, _∙_}
+-- The places in a form are those of the bytes that they stand for, and the pieces of a text those that it spells.
+use mathlib.Core.Path.{_≡_, refl, sym, ap, ap₂, _∙_, subst}
 use mathlib.Core.List.{List, [], _∷_, _++_, append-assoc}
 use Prim.Native.Nat.{ℕ, _+_, _-_, _≤_}
 use native.Mathlib.Omega.{arith}
-use lib.ListN.{length, take, drop}
+use lib.ListN.{length, take, drop, length-drop}
 use lib.Seq.{take-append-seam, take-all, drop-append-add}
 use Rattle.scan.specs.declared.run.Class.the-variants.{InName, InString}
 use Rattle.scan.specs.Ascii.{ascii}
 use Rattle.arguments.specs.declared.operand.Operand.the-variants.{Text}
 use Rattle.texts.specs.declared.text.Piece.{Piece}
 use Rattle.texts.specs.Width.{totalWidth}
+use Rattle.texts.specs.readers.Text.{textPieces}
+use Rattle.texts.specs.Pieces.{read, piecesOf}
+use Rattle.lines.specs.declared.command.Line.the-variants as L
 use Rattle.lines.specs.declared.command.Line.the-variants.{Section, Heading}
 use Rattle.grammar.specs.Number.{Row}
 use Rattle.grammar.specs.Argument.{quote, OperandSpelled, string}
 use Rattle.grammar.specs.Text.{TextSpelled}
-use Rattle.grammar.specs.Line.{space, Spells, section, heading}
+use Rattle.grammar.specs.Line.{space, Spells, text, section, heading}
 use Rattle.grammar.proofs.Standing.{past}
+use Rattle.grammar.proofs.Texts.{text-read}
 
 -- A string's places: between them stand its bytes, in quotes.
 pub record StringThere (l : List ℕ) (start end : ℕ) : Type 0 where
@@ -50,3 +54,17 @@ pub record HeadingThere (l : List ℕ) (from : ℕ) : Type 0 where
 pub heading-there : (l : List ℕ) (n from : ℕ) → Spells (Heading n from) l → HeadingThere l from
 heading-there l n from (heading n′ w ps s u t h) =
     record { pieces = ps; spelled = rw (drop-append-add w (space ∷ s) 1) t; fits = h }
+
+-- The pieces that a run prints of a text are those that it spells.
+pub pieces-are : (l : List ℕ) (from : ℕ) (ps : List Piece) → TextSpelled from ps (drop from l) → piecesOf l from ≡ ps
+unfolding piecesOf read textPieces
+pieces-are l from ps t = rw (text-read (length l) l from ps (drop from l) t refl (omega (arith, length-drop from l)))
+
+-- So the pieces of an accepted text line, and of an accepted heading, spell its text.
+pub text-pieces : (l : List ℕ) → Spells L.Text l → TextSpelled 0 (piecesOf l 0) l
+text-pieces l (text ps l′ h t w) = subst (λ (x : List Piece). TextSpelled 0 x l) (sym (pieces-are l 0 ps t)) t
+
+pub heading-pieces : (l : List ℕ) (n from : ℕ) → Spells (Heading n from) l → TextSpelled from (piecesOf l from) (drop from l)
+heading-pieces l n from s =
+    let h = heading-there l n from s in
+    subst (λ (x : List Piece). TextSpelled from x (drop from l)) (sym (pieces-are l from (h .pieces) (h .spelled))) (h .spelled)

@@ -6,7 +6,8 @@ use Prim.Native.Nat.{ℕ}
 use borrow.Author.Tests.{ne-eqb}
 use lib.Dec.{eqb}
 use Rattle.scan.specs.Run.{belongs, span}
-use Rattle.scan.specs.Words.{wordIn, firstOf, wordOr}
+use Rattle.scan.specs.Words.{firstOf}
+use Rattle.scan.specs.inner.Tables.{wordIn, wordOr}
 use Rattle.scan.proofs.WordLaws.{tabled, by-number}
 use Rattle.lines.specs.declared.set.TargetRead.the-variants.{NoTarget}
 use Rattle.lines.specs.declared.command.Line.the-variants.{NoForm}

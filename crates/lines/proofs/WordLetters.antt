@@ -8,7 +8,7 @@ use Rattle.scan.specs.declared.words.WordRead.the-variants.{NoWord}
 use Rattle.scan.specs.Ascii.{ascii}
 use Rattle.scan.specs.Run.{belongs, span}
 use Rattle.scan.specs.Line.{byteAt}
-use Rattle.scan.specs.Words.{wordIn, wordElse}
+use Rattle.scan.specs.inner.Tables.{wordIn, wordElse}
 use Rattle.scan.proofs.LetterLaws.{Letter, letter, Known, lettersFit, fitsAll, none, _and_, tried, wordAmong, by-letters}
 use Rattle.lines.specs.inner.Dispatch.{commandWords, commandWord}
 

@@ -10,7 +10,7 @@ use Rattle.scan.specs.Run.{belongs, span}
 use Rattle.scan.specs.Line.{byteAt}
 use Rattle.scan.specs.Value.{valueFrom}
 use Rattle.scan.specs.readers.Digits.{digitsAt, numberAt}
-use Rattle.scan.specs.Words.{begins, standsAt, wordIn, wordFrom, wordAt, firstOf}
+use Rattle.scan.specs.Words.{begins, standsAt, firstOf}
 use Rattle.arguments.specs.declared.index.Index.the-variants.{Fixed, Variable, Loop}
 use Rattle.arguments.specs.declared.operand.Operand.{Operand}
 use Rattle.arguments.specs.declared.operand.Operand.the-variants.{Number, IntegerVariable, DecimalVariable, StringVariable, PageNumber, LineNumber, LoopCounter, RecordElement, EntryElement, Parameter, Record, Entry}
@@ -151,5 +151,5 @@ rows =
     ∷ []
 
 pub rows-hold : map (λ (r : Row). r .computed) rows ≡ map (λ (r : Row). r .expected) rows
-unfolding rows belongs span byteAt valueFrom digitsAt numberAt begins standsAt wordIn wordFrom wordAt firstOf inMillionths fractionAt unsignedAt literalAt variableIndex indexAt stringAt entryOf recordOf cellOf cellAt wholeAt numberedOf numberedAt names namedAt numberOr operandAt countOf admits filteredAt filters argumentOf argumentAt placesAt placesOf widthNext fieldOf fieldAt placed pieceAt widthOf totalWidth before piecesWithin textPieces fitsBehind textFits behindSpace stringTarget targetOf setAt datasourceAt compareAt singleAt bareAt optionalAt parameterAt fetchedAt fetchAt nameAt sectionAt headingOf headingAt remarkAt commands parseLine
+unfolding rows belongs span byteAt valueFrom digitsAt numberAt begins standsAt firstOf inMillionths fractionAt unsignedAt literalAt variableIndex indexAt stringAt entryOf recordOf cellOf cellAt wholeAt numberedOf numberedAt names namedAt numberOr operandAt countOf admits filteredAt filters argumentOf argumentAt placesAt placesOf widthNext fieldOf fieldAt placed pieceAt widthOf totalWidth before piecesWithin textPieces fitsBehind textFits behindSpace stringTarget targetOf setAt datasourceAt compareAt singleAt bareAt optionalAt parameterAt fetchedAt fetchAt nameAt sectionAt headingOf headingAt remarkAt commands parseLine
 rows-hold = refl

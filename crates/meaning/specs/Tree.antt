@@ -53,7 +53,8 @@ abbrev pub printing : {Q E L A : Type 0} → Event → Run Q E L A → Run Q E L
 printing v x = record { end = x .end; asked = x .asked; events = v ∷ x .events }
 
 -- The run of a tree, with a source of answers, places left on the read list and bytes of room left in the output.
--- An event is printed whole, or the run is cut off before it.
+-- 9 "The read list has no place for the next question": `cut ReadList`. 14 "The next line, or a form feed alone, doesn't fit the
+-- output": `cut Output`; an event is printed whole, or the run is cut off before it.
 unfoldable pub run : {Q R E L A : Type 0} → (Q → R) → ℕ → ℕ → Tree Q R E L A → Run Q E L A
 run source places room (done a) = ended (finished a)
 run source places room (stop e l) = ended (halted (refused e) l)

@@ -1,3 +1,4 @@
+// How a call that asks or prints ended.
 use crate::refusal::Overflow;
 use crate::refusal::Refusal;
 ghost use mathlib.Core.Path.{_≡_};

@@ -1,3 +1,5 @@
+// Questions.
+
 // "A question has a kind and four numbers", wide enough that a caller can hand in anything. Laid out as C's struct, since C
 // lends the read list.
 #[repr(C)]

@@ -1,3 +1,4 @@
+// What a run can be refused for, or cut off at.
 ghost use mathlib.Core.Path.{_≡_};
 ghost use Rattle.meaning.specs.Number.{refusalNumber, overflowNumber};
 

@@ -11,7 +11,8 @@ use lib.ListN.{length, drop, drop-of-length-le}
 use lib.Seq.{drop-cons}
 use Rattle.scan.specs.Line.{byteAt, window}
 use Rattle.scan.specs.Words.{begins}
-use Rattle.names.specs.Name.{sectionWord, nameOf, sameBytes, hashFrom, hashOf}
+use Rattle.names.specs.Name.{sectionWord, nameOf, sameBytes}
+use Rattle.names.specs.inner.Hash.{hashFrom, hashOf}
 
 -- a section's name, and the empty name of other lines
 module _ (l : List ℕ) (b : Bool) (q : b ≡ begins sectionWord l) where

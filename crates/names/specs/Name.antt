@@ -1,7 +1,7 @@
 -- The names of sections.
 use mathlib.Core.Bool.{Bool, cond, _&&_}
 use mathlib.Core.List.{List, [], _∷_}
-use Prim.Native.Nat.{ℕ, _+_, _*_, _%_}
+use Prim.Native.Nat.{ℕ}
 use lib.Dec.{eqb}
 use lib.ListN.{length}
 use Rattle.scan.specs.Ascii.{ascii}
@@ -20,11 +20,3 @@ nameOf l = cond (begins sectionWord l) (window l 5 8) []
 
 abbrev pub sameBytes : List ℕ → List ℕ → Bool
 sameBytes a b = eqb (length a) (length b) && begins a b
-
--- The hash of some bytes behind others that had a hash. What check 5 says doesn't depend on the numbers chosen.
-unfoldable pub hashFrom : ℕ → List ℕ → ℕ
-hashFrom k [] = k
-hashFrom k (b ∷ s) = hashFrom ((k * 927 + b) % 4155694) s
-
-unfoldable pub hashOf : List ℕ → ℕ
-hashOf name = hashFrom 0 name

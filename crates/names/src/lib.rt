@@ -4,7 +4,8 @@
 // same_bytes   whether two names are the same
 // hash_of      a number for a name, by which most names that differ are told apart
 ghost use mathlib.Core.Path.{_≡_};
-ghost use Rattle.names.specs.Name.{nameOf, sameBytes, hashOf};
+ghost use Rattle.names.specs.Name.{nameOf, sameBytes};
+ghost use Rattle.names.specs.inner.Hash.{hashOf};
 
 // How many hashes there are: 254 for each of 16,361 slots, a prime.
 const HASHES: usize = 4_155_694;

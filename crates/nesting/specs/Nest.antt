@@ -78,6 +78,7 @@ behind EndTest s = testEnded s
 behind Table s = inSection s (cond (ltb (tables s) 5) (some (table ∷ s)) none)
 behind EndTable s = tableEnded s
 behind Plain s = inSection s (some s)
+-- no line of the templates that check 4 sees: check 3 comes first (template/specs/Order)
 behind NoForm s = inSection s (some s)
 
 -- "open at .. the last line": nothing but a section is open

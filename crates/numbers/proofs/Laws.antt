@@ -18,7 +18,8 @@ use Rattle.numbers.specs.Outcome.{Outcome, success, refused, outcome}
 use Rattle.numbers.specs.Rounding.{rounded}
 use Rattle.numbers.specs.Arithmetic.{checked, operands, dividedBy, sumOf, differenceOf, integerProduct, integerQuotient, decimalProduct, decimalQuotient, absoluteOf, inMillionths}
 use Rattle.numbers.specs.Parts.{wholeOf}
-use Rattle.numbers.specs.Places.{roundedTo, scaleOf}
+use Rattle.numbers.specs.Places.{roundedTo}
+use Rattle.numbers.specs.inner.Places.{scaleOf}
 use Rattle.numbers.proofs.Tests.{first-case, second-case, other-case, and-true}
 use Rattle.numbers.proofs.Machine.{back, read, read₂, abs-mul, abs-quot, abs-fits}
 use Rattle.numbers.proofs.Rounding.{rounded-le, rounded-exact, power-above, power-split}

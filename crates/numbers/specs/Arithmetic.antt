@@ -29,10 +29,11 @@ sumOf limit a b = operands limit a b (checked limit (a +ℤ b))
 unfoldable pub differenceOf : ℕ → ℤ → ℤ → Outcome
 differenceOf limit a b = operands limit a b (checked limit (a -ℤ b))
 
--- "IV takes an integer and divides toward zero"
+-- "set, add, subtract, multiply, divide": a product of integers
 unfoldable pub integerProduct : ℤ → ℤ → Outcome
 integerProduct a b = operands integerLimit a b (checked integerLimit (a *ℤ b))
 
+-- "IV takes an integer and divides toward zero"
 unfoldable pub integerQuotient : ℤ → ℤ → Outcome
 integerQuotient a b = operands integerLimit a b (dividedBy b (checked integerLimit (quotZ a b)))
 

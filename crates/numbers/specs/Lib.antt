@@ -6,4 +6,5 @@ pub mod Arithmetic
 pub mod Parts
 pub mod Order
 pub mod Places
+pub mod inner
 pub mod Rows

@@ -13,7 +13,3 @@ use Rattle.numbers.specs.Rounding.{rounded}
 unfoldable pub roundedTo : Quantity → ℕ → Rounded
 roundedTo q d =
     cond (leb d 6 && within decimalLimit (millionths q)) (Units (rounded (natAbs (millionths q)) (10 ^ (6 - d)))) OutOfRange
-
--- units of the last of d places in one whole, with d 0–6
-unfoldable pub scaleOf : ℕ → ℕ
-scaleOf d = cond (leb d 6) (10 ^ d) 1000000

@@ -1,3 +1,4 @@
+-- Rounding to the nearest whole number.
 use Prim.Native.Nat.{ℕ, _+_, _*_, _/_}
 
 -- the whole number nearest to a / b, halves up: "halves away from zero" of magnitudes

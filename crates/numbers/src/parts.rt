@@ -1,7 +1,8 @@
 // A quantity's whole part and what it leaves.
 use crate::Quantity;
 ghost use mathlib.Core.Path.{_≡_};
-ghost use Rattle.numbers.specs.Parts.{wholeOf, restOf};
+ghost use Rattle.numbers.specs.Parts.{wholeOf};
+ghost use Rattle.numbers.specs.inner.Parts.{restOf};
 
 // The integer next to a quantity, toward zero.
 pub fn whole(q: Quantity) -> i64

@@ -6,7 +6,8 @@ use crate::range::INTEGER_LIMIT;
 use crate::sign;
 ghost use mathlib.Core.Path.{_≡_};
 ghost use Prim.Native.Nat.{_<_, _^_};
-ghost use Rattle.numbers.specs.Places.{roundedTo, scaleOf};
+ghost use Rattle.numbers.specs.Places.{roundedTo};
+ghost use Rattle.numbers.specs.inner.Places.{scaleOf};
 
 const POWERS: [u64; 7] = [1, 10, 100, 1_000, 10_000, 100_000, 1_000_000];
 

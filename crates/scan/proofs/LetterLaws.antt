@@ -9,7 +9,8 @@ use lib.Seq.{getD-drop}
 use Rattle.scan.specs.declared.words.WordRead.{WordRead}
 use Rattle.scan.specs.declared.words.WordRead.the-variants.{Word, NoWord}
 use Rattle.scan.specs.Line.{byteAt}
-use Rattle.scan.specs.Words.{begins, standsAt, wordIn, wordFrom, wordAt, wordElse}
+use Rattle.scan.specs.Words.{begins, standsAt}
+use Rattle.scan.specs.inner.Tables.{wordIn, wordFrom, wordAt, wordElse}
 
 -- whether a word may stand where the j-th byte is b
 unfoldable pub lettersFit : List ℕ → ℕ → ℕ → Bool

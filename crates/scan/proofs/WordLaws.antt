@@ -13,7 +13,8 @@ use Rattle.scan.specs.declared.words.WordRead.the-variants.{Word, NoWord
 use Rattle.scan.specs.declared.run.Class.the-variants.{InName}
 use Rattle.scan.specs.Run.{belongs, span}
 use Rattle.scan.specs.Line.{window}
-use Rattle.scan.specs.Words.{begins, standsAt, wordIn, wordFrom, wordAt, Spelled, firstOf, wordOr}
+use Rattle.scan.specs.Words.{begins, standsAt, Spelled, firstOf}
+use Rattle.scan.specs.inner.Tables.{wordIn, wordFrom, wordAt, wordOr}
 use Rattle.scan.proofs.RunLaws.{span-end, span-stop, span-more}
 use Rattle.scan.proofs.TestLaws.{picked}
 

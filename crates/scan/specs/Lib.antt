@@ -4,3 +4,4 @@ pub mod Run
 pub mod Line
 pub mod readers
 pub mod Words
+pub mod inner

@@ -8,10 +8,6 @@ use lib.ListN.{length, getD, take, drop}
 use Rattle.scan.specs.declared.run.Class.the-variants.{Allowed, InLine}
 use Rattle.scan.specs.Run.{belongs, span}
 
--- where the first byte is that isn't "0x20–0x7E or 0x0A", or the template's length
-abbrev pub firstRefused : List ℕ → ℕ
-firstRefused t = length (span Allowed t)
-
 -- "each 0x20–0x7E or 0x0A"
 unfoldable pub allAllowed : List ℕ → Bool
 allAllowed [] = true

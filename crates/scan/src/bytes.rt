@@ -3,7 +3,8 @@ use crate::run;
 use crate::run::Class;
 ghost use mathlib.Core.Path.{_≡_};
 ghost use lib.ListN.{length};
-ghost use Rattle.scan.specs.Line.{firstRefused, lineOf, byteAt, window};
+ghost use Rattle.scan.specs.Line.{lineOf, byteAt, window};
+ghost use Rattle.scan.specs.inner.Bytes.{firstRefused};
 
 // Where the first byte is that a template may not have, or the template's length.
 pub fn first_refused(template: &[u8]) -> usize

@@ -7,7 +7,8 @@ ghost use Prim.Native.Nat.{_*_, _≤_};
 ghost use lib.ListN.{length};
 ghost use Rattle.scan.specs.declared.run.Class.the-variants.{InName};
 ghost use Rattle.scan.specs.Run.{span};
-ghost use Rattle.scan.specs.Words.{standsAt, wordIn, wordAt, wordElse};
+ghost use Rattle.scan.specs.Words.{standsAt};
+ghost use Rattle.scan.specs.inner.Tables.{wordIn, wordAt, wordElse};
 
 // Whether the word stands in the line at a place.
 pub fn begins_with(line: &[u8], at: usize, word: &[u8]) -> bool

@@ -1,4 +1,3 @@
 pub mod Answers
 pub mod Checks
 pub mod Reports
-pub mod inner

@@ -2,11 +2,11 @@
 use crate::edit;
 use cells::Answered;
 use meaning::question::Question;
-ghost use Rattle.cells.specs.Asking.{askOf};
-ghost use Rattle.station.specs.Answers.{questionOf, ToldAnswer};
-ghost use Rattle.station.specs.inner.Handing.{Hands};
+ghost use Rattle.cells.specs.Asking.{askedOf};
+ghost use Rattle.station.specs.Answers.{questionOf, ToldParts, ToldAnswer};
 
-// An answer as a kind, with what that kind needs: a value, or the place and the length of a string. The rest is 0.
+// An answer as a kind, with what that kind needs: a value, the place and the length of a string, or a highest number as the
+// count. The rest is 0.
 pub fn hand_answer(
     answer: Answered,
     kind: &mut u8,
@@ -14,7 +14,7 @@ pub fn hand_answer(
     place: &mut usize,
     count: &mut usize,
 )
-    ensures { λ _. ⌜ Hands answer (now (kind .exit)) (now (value .exit)) (now (place .exit)) (now (count .exit)) ⌝ }
+    ensures { λ _. ⌜ ToldParts answer (now (kind .exit)) (now (value .exit)) (now (place .exit)) (now (count .exit)) ⌝ }
 {
     *value = 0;
     *place = 0;
@@ -57,7 +57,7 @@ pub extern "C" fn station_ask(
     place: &mut usize,
     count: &mut usize,
 ) -> u32
-    ensures { λ r. ⌜ ToldAnswer (now (buffer .entry)) length (askOf (now (buffer .entry)) length (questionOf kind datasource parameter item entry)) (now (answered .exit)) (now (value .exit)) (now (place .exit)) (now (count .exit)) r ⌝ }
+    ensures { λ r. ⌜ ToldAnswer (askedOf (now (buffer .entry)) length (questionOf kind datasource parameter item entry)) (now (answered .exit)) (now (value .exit)) (now (place .exit)) (now (count .exit)) r ⌝ }
 {
     let question = Question {
         kind: kind,

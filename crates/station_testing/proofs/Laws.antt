@@ -1,5 +1,5 @@
--- What a call for C hands back, from what the call below it hands back.
-use mathlib.Core.Path.{_≡_, refl, ap, ap₂, _∙_}
+-- What a call for tests hands back, from what the call below it hands back.
+use mathlib.Core.Path.{_≡_, refl, ap, ap₂, _∙_, subst}
 use mathlib.Core.Bool.{Bool, true, false, cond}
 use mathlib.Core.List.{List, _++_}
 use mathlib.Core.Option.{Option, none, some}
@@ -22,11 +22,10 @@ use Rattle.cells.specs.declared.index.Indexed.the-variants.{Count, BadStore}
 use Rattle.cells.specs.Cell.{Cell}
 use Rattle.cells.specs.Store.{held}
 use Rattle.cells.specs.inner.Index.{Indexes, Answers, Ready, offsets}
-use Rattle.cells.proofs.Replies.{built, not-held, index-ready}
+use Rattle.cells.proofs.Replies.{answer-handed, built, not-held, index-ready}
 use Rattle.cells.proofs.Walking.{length-offsets}
 use Rattle.template.specs.declared.seek.Skip.{Skip}
-use Rattle.station.specs.inner.Handing.{Hands}
-use Rattle.station.proofs.Laws.{told-parts}
+use Rattle.station.specs.Answers.{ToldParts}
 use Rattle.station_testing.specs.Codes.{Told, ToldUnits}
 use Rattle.station_testing.specs.Index.{Listing, listing, listed, ToldLookUp}
 use Rattle.station_testing.specs.Jumps.{ToldSkip}
@@ -78,8 +77,8 @@ module _ (b : List ℕ) (len : ℕ) (p p′ : List ℕ) (r : Indexed) (x : Index
 
 -- ---- a question over an index
 
-pub told-look-up : {b places : List ℕ} {count : ℕ} {q : Question} (a : Answered) {k : ℕ} {v : ℤ} {i n : ℕ} → Answers b places count q a → Hands a k v i n → ToldLookUp b places count q k v i n
-told-look-up {b = b} a s h = record { answer = λ len cs ready. told-parts b len a (s .answer len cs ready) (s .inside len cs ready) h }
+pub told-look-up : {b places : List ℕ} {count : ℕ} {q : Question} (a : Answered) {k : ℕ} {v : ℤ} {i n : ℕ} → Answers b places count q a → ToldParts a k v i n → ToldLookUp b places count q k v i n
+told-look-up {q = q} a {k = k} {v = v} {i = i} {n = n} s h = record { answer = λ len cs ready. subst (λ (x : Answered). ToldParts x k v i n) (answer-handed q a s ready) h }
 
 -- where station_index ends with 0, the places are such an index
 pub listed-ready : (b : List ℕ) (len n n′ : ℕ) (i j : List ℕ) → listing 0 n′ j ≡ listed i n (held b len) → (cs : List Cell) × Ready b len j n′ cs

@@ -1,4 +1,4 @@
--- What the calls for C are handed as codes, and what they hand back.
+-- What the calls for tests are handed as codes, and what they hand back.
 use mathlib.Core.Path.{_≡_}
 use mathlib.Core.Bool.{Bool, true, false, cond}
 use Prim.Native.Nat.{ℕ}

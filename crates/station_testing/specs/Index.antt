@@ -1,4 +1,4 @@
--- What the calls for C hand back of the index of a store, and of a question over it.
+-- What the calls for tests hand back of the index of a store, and of a question over it.
 use mathlib.Core.Bool.{cond}
 use mathlib.Core.List.{List}
 use mathlib.Core.Option.{Option, none, some}
@@ -10,7 +10,7 @@ use lib.Seq.{sets}
 use Rattle.meaning.specs.Answer.{missing}
 use Rattle.meaning.specs.declared.question.Question.{Question}
 use Rattle.cells.specs.Cell.{Cell}
-use Rattle.cells.specs.Asking.{questionAllowed, answer}
+use Rattle.cells.specs.Asking.{questionAllowed, answer, stringStart, handed}
 use Rattle.cells.specs.inner.Index.{Ready, offsets}
 use Rattle.station.specs.Answers.{ToldParts}
 
@@ -31,4 +31,4 @@ listed i n (some cs) = cond (ltb (length i) (length cs)) (listing 16 n i) (listi
 
 -- over the index of a store in form, the answer of its cells
 pub record ToldLookUp (b places : List ℕ) (count : ℕ) (q : Question) (k : ℕ) (v : ℤ) (i n : ℕ) : Type 0 where
-  pub answer : (len : ℕ) (cs : List Cell) → Ready b len places count cs → ToldParts b len (cond (questionAllowed q) (answer q cs) missing) k v i n
+  pub answer : (len : ℕ) (cs : List Cell) → Ready b len places count cs → ToldParts (handed (stringStart q (some cs)) (cond (questionAllowed q) (answer q cs) missing)) k v i n

@@ -1,4 +1,4 @@
--- What the call for C hands back of a jump in a template.
+-- What the call for tests hands back of a jump in a template.
 use mathlib.Core.Path.{_≡_}
 use mathlib.Core.Bool.{cond}
 use Prim.Native.Nat.{ℕ}

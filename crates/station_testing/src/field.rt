@@ -4,7 +4,8 @@ use fields::Places;
 ghost use mathlib.Core.Path.{_≡_};
 ghost use mathlib.Core.Bool.{false};
 ghost use mathlib.Core.Option.{none, some};
-ghost use Rattle.fields.specs.Field.{fieldOf, Put};
+ghost use Rattle.fields.specs.Field.{fieldOf};
+ghost use Rattle.fields.specs.inner.Putting.{Put};
 ghost use Rattle.meaning.specs.Answer as G;
 ghost use Rattle.station_testing.specs.Codes.{quantityOf, placesSaid};
 

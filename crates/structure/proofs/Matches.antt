@@ -1,10 +1,13 @@
 -- The search by depth finds the match: where checks 2 to 4 accept, behind a test, an $ELSE or a $BT.
 use mathlib.Core.Path.{_≡_, refl, sym, ap, _∙_, subst}
+use mathlib.Core.Bool.{Bool, true, false, cond}
 use mathlib.Core.List.{List, _∷_}
 use mathlib.Core.Option.{some, Option·some-injective}
-use Prim.Native.Nat.{ℕ, zero, suc, _+_, _≤_, _<_}
+use Prim.Native.Nat.{ℕ, zero, suc, _+_, _≤_, _<_, min}
 use native.Mathlib.Omega.{arith}
-use lib.ListN.{length, drop}
+use borrow.Author.Tests.{le-ltb, ltb-true, ltb-false}
+use lib.Dec.{ltb}
+use lib.ListN.{length, drop, length-drop}
 use Rattle.scan.specs.Line.{lineAt, nextLine}
 use Rattle.nesting.specs.Nest.{Mark, test, other}
 use Rattle.template.specs.declared.seek.Sought.{Sought}
@@ -13,10 +16,10 @@ use Rattle.template.specs.declared.seek.Way.{Way}
 use Rattle.template.specs.declared.seek.Skip.{Skip}
 use Rattle.template.specs.Lines.{linesOf}
 use Rattle.template.specs.Checks.{nestStep}
-use Rattle.template.specs.Seek.{orSkip, skipFrom}
+use Rattle.template.specs.Seek.{orSkip, skipFrom, atMost, skipped}
 use Rattle.template.specs.Opening.{Opens, Checks}
 use Rattle.template.proofs.LineLaws.{lines-more}
-use Rattle.template.proofs.Opening.{opens-line, opens-next, open-inside, line-turn}
+use Rattle.template.proofs.Opening.{checks-short, opens-line, opens-next, open-inside, line-turn}
 use Rattle.template.proofs.WordForm.{shape-by-word}
 use Rattle.template.proofs.Matching.{Over, here, a-test, an-other, a-table, topOf, depthOf, Lands, behind-end, behind-else, Went, on, landed, over-open, search-step}
 use Rattle.structure.specs.Matching.{Around, closed, turned, MatchedBy, this, later}
@@ -92,6 +95,26 @@ search-is-match {t} {M} {at} c q o =
     let m : i .lines ≡ k .lines = omega (arith, i .lines-are) in
     subst (λ (x : ℕ). MatchedBy q M (topOf q ∷ M) (linesOf (drop at t)) x (k .lines)) b
     (subst (λ (x : ℕ). MatchedBy q M (topOf q ∷ M) (linesOf (drop at t)) (i .bytes) x) m (i .matched))
+
+-- what is passed of a part s: the lines up to the match, and their bytes, or the part's where its last line lacks its line end
+pub record Passes (q : Sought) (M W : List Mark) (s : List ℕ) (k : Skip) : Type 0 where
+  pub bytes : ℕ
+  pub matched : MatchedBy q M W (linesOf s) bytes (k .lines)
+  pub passed : k .bytes ≡ min bytes (length s)
+
+-- The same of the search as a run makes it, in the part of the template that starts there.
+pub skipped-is-match : {t : List ℕ} {M : List Mark} {at n : ℕ} → Checks t → (q : Sought) → Opens t at n (topOf q ∷ M) → Passes q M (topOf q ∷ M) (drop at t) (skipped (drop at t) q)
+unfolding skipped atMost
+skipped-is-match {t} {M} {at} c q o =
+    rw (le-ltb 32768 (length (drop at t)) (omega (arith, checks-short c, length-drop at t)))
+    (cut (skipFrom q 0 0 0 (linesOf (drop at t))) (search-is-match c q o))
+  where
+    cut : (k : Skip) → MatchedBy q M (topOf q ∷ M) (linesOf (drop at t)) (k .bytes) (k .lines) → Passes q M (topOf q ∷ M) (drop at t) (cond (ltb (length (drop at t)) (k .bytes)) (record { bytes = length (drop at t); lines = k .lines }) k)
+    cut k m = by (ltb (length (drop at t)) (k .bytes)) refl
+      where
+        by : (b : Bool) → ltb (length (drop at t)) (k .bytes) ≡ b → Passes q M (topOf q ∷ M) (drop at t) (cond b (record { bytes = length (drop at t); lines = k .lines }) k)
+        by true e = record { bytes = k .bytes; matched = m; passed = omega (arith, ltb-true (length (drop at t)) (k .bytes) e) }
+        by false e = record { bytes = k .bytes; matched = m; passed = omega (arith, ltb-false (length (drop at t)) (k .bytes) e) }
 
 -- There is one match at most.
 pub matched-one : {q : Sought} {M W : List Mark} {ls : List (List ℕ)} {b k b′ k′ : ℕ} → MatchedBy q M W ls b k → MatchedBy q M W ls b′ k′ → (b ≡ b′) × (k ≡ k′)

@@ -3,14 +3,14 @@ use mathlib.Core.Path.{_≡_, refl, sym, ap, _∙_, subst}
 use mathlib.Core.Bool.{Bool, true, false, not, cond, true≢false}
 use mathlib.Core.List.{List, [], _∷_, _++_, append-assoc}
 use mathlib.Core.Option.{Option, none, some}
-use Prim.Native.Nat.{ℕ, suc, _+_, _-_, _<_}
+use Prim.Native.Nat.{ℕ, zero, suc, _+_, _-_, _≤_, _<_}
 use native.Mathlib.Omega.{arith}
-use borrow.Author.Tests.{eqb-false, ne-eqb, eq-eqb}
-use lib.Dec.{eqb}
+use borrow.Author.Tests.{eqb-false, ne-eqb, eq-eqb, leb-true, leb-false}
+use lib.Dec.{eqb, leb}
 use lib.ListN.{length, take, drop, length-append, length-drop, length-take}
 use lib.Seq.{take-all, take-append-seam}
 use Rattle.meaning.specs.Each.{Each}
-use Rattle.scan.specs.Line.{window}
+use Rattle.scan.specs.Line.{lineAt, nextLine, window}
 use Rattle.scan.specs.Words.{begins}
 use Rattle.lines.specs.declared.command.Line.{Line}
 use Rattle.lines.specs.declared.command.Line.the-variants.{NoForm, Text, Section, Set, IfZero, IfNonZero, Compare, Else, EndIf, BeginTable, EndTable, Records, Entries, Datasource, NoFormFeed, NewPage, Heading, NoHeading, Remark}
@@ -19,16 +19,19 @@ use Rattle.lines.proofs.SectionLaws.{section-begins, begins-section}
 use Rattle.names.specs.Name as name
 use Rattle.names.specs.Name.{sectionWord, sameBytes}
 use Rattle.template.specs.declared.Verdict.the-variants.{Fine, Fault}
+use Rattle.template.specs.declared.sections.Found.{Found}
+use Rattle.template.specs.declared.sections.Found.the-variants.{At, Nowhere}
 use Rattle.template.specs.Lines.{linesOf}
 use Rattle.template.specs.Form.{isFormed}
 use Rattle.template.specs.Verdicts.{firstFault}
 use Rattle.template.specs.Walk.{orElse, walk}
 use Rattle.template.specs.Checks.{formCheck, hasName, cameBefore, nameStep, nameEnd, nameCheck}
-use Rattle.template.specs.Sections.{selects, sectionFrom}
+use Rattle.template.specs.Sections.{selects, sectionFrom, sectionEnd, runFrom, selected}
+use Rattle.template.proofs.LineLaws.{lines-none, lines-more}
 use Rattle.template.proofs.NameForm.{formed}
 use Rattle.grammar.specs.Line.{Spells, section}
 use Rattle.grammar.proofs.Lines.{reads-what-is-spelled}
-use Rattle.structure.specs.Sections.{nameIn, nameOf, isIn, repeatedFrom, isSection, isNamed, chooses, chosenFrom}
+use Rattle.structure.specs.Sections.{nameIn, nameOf, isIn, repeatedFrom, isSection, isNamed, chooses, chosenFrom, chosenEnd, runOf, chosenRun}
 
 -- ---- one line
 
@@ -122,6 +125,43 @@ fine-each n (l ∷ ls) e = go (isFormed l) refl e (fine-each (suc n) ls)
 pub section-by-form : (caller t : List ℕ) → formCheck t ≡ Fine → sectionFrom caller 0 0 (linesOf t) ≡ chosenFrom caller 0 0 (linesOf t)
 unfolding formCheck
 section-by-form caller t e = sym (chosen-by-form caller 0 0 (linesOf t) (fine-each 1 (linesOf t) e))
+
+-- ---- where a run ends
+
+-- the lines behind the one that is found have forms too
+abbrev FormedBehind : List ℕ → Found → Type 0
+FormedBehind t (At at n) = Each (λ l. isFormed l ≡ true) (linesOf (drop (nextLine t at) t))
+FormedBehind t Nowhere = Unit {0}
+
+formed-behind : (t caller : List ℕ) (f at n : ℕ) → length t ≤ at + f → Each (λ l. isFormed l ≡ true) (linesOf (drop at t)) → FormedBehind t (sectionFrom caller at n (linesOf (drop at t)))
+unfolding sectionFrom
+formed-behind t caller zero at n h e = rw (lines-none t at (omega arith)) tt
+formed-behind t caller (suc f) at n h e = go (leb (length t) at) refl (formed-behind t caller f (nextLine t at) (suc n) (omega arith))
+  where
+    by : (b : Bool) (g : Found) → Each (λ l. isFormed l ≡ true) (linesOf (drop (nextLine t at) t)) → FormedBehind t g → FormedBehind t (cond b (At at (suc n)) g)
+    by true g x y = x
+    by false g x y = y
+
+    go : (b : Bool) → leb (length t) at ≡ b → (Each (λ l. isFormed l ≡ true) (linesOf (drop (nextLine t at) t)) → FormedBehind t (sectionFrom caller (nextLine t at) (suc n) (linesOf (drop (nextLine t at) t)))) → FormedBehind t (sectionFrom caller at n (linesOf (drop at t)))
+    go true b more = rw (lines-none t at (leb-true (length t) at b)) tt
+    go false b more =
+        let k : at < length t = leb-false (length t) at b in
+        let x : Each (λ l. isFormed l ≡ true) (lineAt t at ∷ linesOf (drop (nextLine t at) t)) = rw (lines-more t at k) at e in
+        let l : at + (length (lineAt t at) + 1) ≡ nextLine t at = omega arith in
+        rw (lines-more t at k, l) (by (selects caller (lineAt t at)) (sectionFrom caller (nextLine t at) (suc n) (linesOf (drop (nextLine t at) t))) (x .1) (more (x .1)))
+
+end-by-form : (caller t : List ℕ) (g : Found) → FormedBehind t g → runFrom t caller g ≡ runOf t caller g
+unfolding runFrom runOf sectionEnd chosenEnd
+end-by-form caller t (At at n) h = rw (chosen-by-form [] (nextLine t at) n (linesOf (drop (nextLine t at) t)) h)
+end-by-form caller t Nowhere h = refl
+
+-- Where check 3 accepts, a run goes from the line chosen by its form to the line before the next whose form is a section's.
+pub run-by-form : (caller t : List ℕ) → formCheck t ≡ Fine → selected t caller ≡ chosenRun t caller
+unfolding formCheck selected chosenRun
+run-by-form caller t e =
+    let h = fine-each 1 (linesOf t) e in
+    end-by-form caller t (sectionFrom caller 0 0 (linesOf t)) (formed-behind t caller (length t) 0 0 (omega arith) h)
+    ∙ ap (runOf t caller) (sym (chosen-by-form caller 0 0 (linesOf t) h))
 
 -- ---- 5: the names seen so far
 

@@ -8,11 +8,16 @@ use lib.ListN.{length, take, drop}
 use Rattle.lines.specs.declared.command.Line.{Line}
 use Rattle.lines.specs.declared.command.Line.the-variants.{NoForm, Text, Section, Set, IfZero, IfNonZero, Compare, Else, EndIf, BeginTable, EndTable, Records, Entries, Datasource, NoFormFeed, NewPage, Heading, NoHeading, Remark}
 use Rattle.lines.specs.readers.Command.{parseLine}
+use Rattle.scan.specs.Line.{nextLine}
 use Rattle.names.specs.Name.{sameBytes}
 use Rattle.template.specs.declared.Verdict.{Verdict}
 use Rattle.template.specs.declared.Verdict.the-variants.{Fine, Fault}
 use Rattle.template.specs.declared.sections.Found.{Found}
 use Rattle.template.specs.declared.sections.Found.the-variants.{At, Nowhere}
+use Rattle.template.specs.declared.sections.Selection.{Selection}
+use Rattle.template.specs.declared.sections.Selection.the-variants.{Lines, NotThere}
+use Rattle.template.specs.Lines.{linesOf}
+use Rattle.template.specs.Sections.{endAt}
 
 -- the name that a form of the line l has, by its first eight characters: "Names are compared by their first eight characters"
 unfoldable pub nameIn : List ℕ → Line → Option (List ℕ)
@@ -68,3 +73,16 @@ chooses caller l = cond (eqb (length caller) 0) (isSection (nameOf l)) (isNamed 
 unfoldable pub chosenFrom : List ℕ → ℕ → ℕ → List (List ℕ) → Found
 chosenFrom caller at n [] = Nowhere
 chosenFrom caller at n (l ∷ ls) = cond (chooses caller l) (At at (suc n)) (chosenFrom caller (at + (length l + 1)) (suc n) ls)
+
+-- "to the line before the next $SEC (or to the end)": where the run ends whose $SEC line starts at `at`; "an empty name selects all"
+unfoldable pub chosenEnd : List ℕ → List ℕ → ℕ → ℕ → ℕ
+chosenEnd t caller at n =
+    cond (eqb (length caller) 0) (length t) (endAt t (chosenFrom [] (nextLine t at) n (linesOf (drop (nextLine t at) t))))
+
+-- "A run goes from the selected (or first) $SEC line to the line before the next $SEC (or to the end)"
+unfoldable pub runOf : List ℕ → List ℕ → Found → Selection
+runOf t caller (At at n) = Lines (record { start = at; line = n; end = chosenEnd t caller at n })
+runOf t caller Nowhere = NotThere
+
+unfoldable pub chosenRun : List ℕ → List ℕ → Selection
+chosenRun t caller = runOf t caller (chosenFrom caller 0 0 (linesOf t))

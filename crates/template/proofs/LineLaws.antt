@@ -13,7 +13,8 @@ use Rattle.scan.specs.declared.run.Class.{Class}
 use Rattle.scan.specs.declared.run.Class.the-variants.{Allowed, InLine}
 use Rattle.scan.specs.Run.{belongs, span}
 use Rattle.scan.proofs.RunLaws.{length-span, take-span}
-use Rattle.scan.specs.Line.{allAllowed, lineOf, lineAt, nextLine, firstRefused}
+use Rattle.scan.specs.Line.{allAllowed, lineOf, lineAt, nextLine}
+use Rattle.scan.specs.inner.Bytes.{firstRefused}
 use Rattle.template.specs.declared.Verdict.{Verdict}
 use Rattle.template.specs.declared.Verdict.the-variants.{Fine, Fault}
 use Rattle.template.specs.Lines.{linesWithin, linesOf}

@@ -10,7 +10,8 @@ use lib.Dec.{eqb}
 use lib.ListN.{length, getD, set, take, drop, length-set}
 use lib.Seq.{drop-drop, getD-set-same, getD-set-other}
 use Rattle.scan.specs.Line.{lineAt, nextLine}
-use Rattle.names.specs.Name.{nameOf, sameBytes, hashOf}
+use Rattle.names.specs.Name.{nameOf, sameBytes}
+use Rattle.names.specs.inner.Hash.{hashOf}
 use Rattle.names.proofs.NameLaws.{hash-bound, other-hash}
 use Rattle.template.specs.Lines.{linesOf}
 use Rattle.template.specs.Checks.{hasName}

@@ -7,7 +7,8 @@ use lib.ListN.{length, drop}
 use Rattle.scan.specs.Line.{byteAt, byteIs}
 use Rattle.scan.specs.Ascii.{ascii}
 use Rattle.scan.specs.Run.{belongs, span}
-use Rattle.scan.specs.Words.{begins, standsAt, wordIn, wordAt, Spelled, firstOf, wordOr}
+use Rattle.scan.specs.Words.{begins, standsAt, Spelled, firstOf}
+use Rattle.scan.specs.inner.Tables.{wordIn, wordAt, wordOr}
 use Rattle.scan.proofs.WordLaws.{tabled, by-number}
 use Rattle.texts.specs.readers.Text.{textFits}
 use Rattle.lines.specs.declared.command.Line.{Line}

@@ -9,7 +9,7 @@ use Rattle.scan.specs.Run.{belongs, span}
 use Rattle.scan.specs.Line.{allAllowed, byteAt}
 use Rattle.scan.specs.Value.{valueFrom}
 use Rattle.scan.specs.readers.Digits.{digitsAt, numberAt}
-use Rattle.scan.specs.Words.{begins, standsAt, wordIn, wordFrom, wordAt, firstOf}
+use Rattle.scan.specs.Words.{begins, standsAt, firstOf}
 use Rattle.arguments.specs.readers.Literal.{inMillionths, fractionAt, unsignedAt, literalAt}
 use Rattle.arguments.specs.readers.Index.{variableIndex, indexAt}
 use Rattle.arguments.specs.readers.Operand.{stringAt, entryOf, recordOf, cellOf, cellAt, wholeAt, numberedOf, numberedAt, names, namedAt, numberOr, operandAt}
@@ -113,5 +113,5 @@ rows =
     ∷ []
 
 pub rows-hold : map (λ (r : Row). r .computed) rows ≡ map (λ (r : Row). r .expected) rows
-unfolding rows belongs span byteAt valueFrom digitsAt numberAt begins standsAt wordIn wordFrom wordAt firstOf inMillionths fractionAt unsignedAt literalAt variableIndex indexAt stringAt entryOf recordOf cellOf cellAt wholeAt numberedOf numberedAt names namedAt numberOr operandAt countOf admits filteredAt filters argumentOf argumentAt placesAt placesOf widthNext fieldOf fieldAt placed pieceAt widthOf totalWidth before piecesWithin textPieces fitsBehind textFits behindSpace stringTarget targetOf setAt datasourceAt compareAt singleAt bareAt optionalAt parameterAt fetchedAt fetchAt nameAt sectionAt headingOf headingAt remarkAt commands parseLine lines bytesCheck firstFault lineAllowed allAllowed linesWithin linesOf shapeIn shapeOf hasForm isFormed shapeWords wordShape walk orElse nestStep nestEnd nestCheck formCheck nameOf hasName cameBefore nameStep nameEnd nameCheck selects sectionFrom endAt sectionEnd runFrom selected unlessFault acceptedRun sectionChecked namesChecked nestingChecked formsChecked templateChecked amongTests amongTables atElse roleOf past orSkip skipFrom atMost skipped tests tables sectionBegun testTurned testEnded tableEnded inSection behind allClosed
+unfolding rows belongs span byteAt valueFrom digitsAt numberAt begins standsAt firstOf inMillionths fractionAt unsignedAt literalAt variableIndex indexAt stringAt entryOf recordOf cellOf cellAt wholeAt numberedOf numberedAt names namedAt numberOr operandAt countOf admits filteredAt filters argumentOf argumentAt placesAt placesOf widthNext fieldOf fieldAt placed pieceAt widthOf totalWidth before piecesWithin textPieces fitsBehind textFits behindSpace stringTarget targetOf setAt datasourceAt compareAt singleAt bareAt optionalAt parameterAt fetchedAt fetchAt nameAt sectionAt headingOf headingAt remarkAt commands parseLine lines bytesCheck firstFault lineAllowed allAllowed linesWithin linesOf shapeIn shapeOf hasForm isFormed shapeWords wordShape walk orElse nestStep nestEnd nestCheck formCheck nameOf hasName cameBefore nameStep nameEnd nameCheck selects sectionFrom endAt sectionEnd runFrom selected unlessFault acceptedRun sectionChecked namesChecked nestingChecked formsChecked templateChecked amongTests amongTables atElse roleOf past orSkip skipFrom atMost skipped tests tables sectionBegun testTurned testEnded tableEnded inSection behind allClosed
 rows-hold = refl

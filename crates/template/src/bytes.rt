@@ -3,7 +3,7 @@ use crate::Verdict;
 ghost use mathlib.Core.Path.{_≡_};
 ghost use Prim.Native.Nat.{_≤_};
 ghost use lib.ListN.{length};
-ghost use Rattle.scan.specs.Line.{firstRefused};
+ghost use Rattle.scan.specs.inner.Bytes.{firstRefused};
 ghost use Rattle.template.specs.Lines.{linesOf};
 ghost use Rattle.template.specs.Verdicts.{firstFault, lineAllowed, bytesCheck};
 

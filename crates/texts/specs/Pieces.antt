@@ -11,7 +11,7 @@ unfoldable pub read : Option (List Piece) → List Piece
 read (some ps) = ps
 read none = []
 
--- of the line l, whose text starts at `from`
+-- of the line l, whose text starts at `from`: those that it spells (grammar/proofs/There:pieces-are, text-pieces, heading-pieces)
 unfoldable pub piecesOf : List ℕ → ℕ → List Piece
 piecesOf l from = read (textPieces l from)
 

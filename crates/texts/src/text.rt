@@ -124,7 +124,7 @@ pub fn plain_run<'a>(line: &'a [u8], at: usize) -> &'a [u8]
     &rest[..length]
 }
 
-pub fn width_of(piece: Piece) -> usize
+fn width_of(piece: Piece) -> usize
     ensures { λ r. ⌜ r ≡ widthOf piece ⌝ }
 {
     match piece {

@@ -10,12 +10,14 @@ use lib.Seq.{sets}
 use Rattle.meaning.specs.Answer.{missing, cell}
 use Rattle.meaning.specs.declared.question.Question.{Question}
 use Rattle.cells.specs.declared.Answered.{Answered}
+use Rattle.cells.specs.declared.Answered.the-variants as A
+use Rattle.cells.specs.declared.Answered.the-variants.{Missing, Integer, Decimal, Text}
 use Rattle.cells.specs.declared.index.Indexed.{Indexed}
 use Rattle.cells.specs.declared.index.Indexed.the-variants.{Count, BadStore}
 use Rattle.cells.specs.Bytes.{pairAt}
 use Rattle.cells.specs.Cell.{Cell, number, keyNumber, keyAt, cellAllowed, cellBytes}
 use Rattle.cells.specs.Store.{held}
-use Rattle.cells.specs.Asking.{questionAllowed, lookup, found, answer, meant, InStore}
+use Rattle.cells.specs.Asking.{questionAllowed, lookup, found, answer, cellStart, stringStart, meant}
 
 -- the places of the cells of a run that begins at a place
 unfoldable pub offsets : ℕ → List Cell → List ℕ
@@ -43,6 +45,14 @@ pub record Ready (b : List ℕ) (n : ℕ) (index : List ℕ) (count : ℕ) (cs :
   pub room : count ≤ length index
   pub places : (i : ℕ) → i < count → getD index i 0 ≡ getD (offsets 0 cs) i 0
 
+-- a string that is answered begins at i and lies in the store, the first n bytes of b
+unfoldable pub InStore : List ℕ → ℕ → ℕ → Answered → Type 0
+InStore b n i Missing = Unit {0}
+InStore b n i (Integer z) = Unit {0}
+InStore b n i (Decimal z) = Unit {0}
+InStore b n i (Text j k) = (j ≡ i) × (j + k ≤ n) × (n ≤ length b)
+InStore b n i (A.Highest m) = Unit {0}
+
 -- the number of the key of the i-th cell
 abbrev pub keyIn : List ℕ → List ℕ → ℕ → ℕ
 keyIn b places i = number (keyAt b (getD places i 0 + 1))
@@ -66,12 +76,12 @@ pub record Position (b places : List ℕ) (count k r : ℕ) : Type 0 where
 -- r is the value of the cell at a place of b
 pub record ValueAt (b : List ℕ) (at : ℕ) (r : Answered) : Type 0 where
   pub value : (c : Cell) (rest : List ℕ) → cellAllowed c ≡ true → drop at b ≡ cellBytes c ++ rest → meant b r ≡ cell (c .value)
-  pub inside : (c : Cell) (rest : List ℕ) → cellAllowed c ≡ true → drop at b ≡ cellBytes c ++ rest → InStore b (at + length (cellBytes c)) r
+  pub inside : (c : Cell) (rest : List ℕ) → cellAllowed c ≡ true → drop at b ≡ cellBytes c ++ rest → InStore b (at + length (cellBytes c)) (at + 9) r
 
 -- r answers kind 1 for the key k
 pub record CellAnswer (b places : List ℕ) (count k : ℕ) (r : Answered) : Type 0 where
   pub found : (n : ℕ) (cs : List Cell) → Ready b n places count cs → meant b r ≡ found (lookup k cs)
-  pub inside : (n : ℕ) (cs : List Cell) → Ready b n places count cs → InStore b n r
+  pub inside : (n : ℕ) (cs : List Cell) → Ready b n places count cs → InStore b n (cellStart k cs + 9) r
 
 -- r is the number that a cell has at an offset: the last of cs whose key lies from low up to end, or 0 if none does
 pub data LastOf (cs : List Cell) (low end offset : ℕ) : ℕ → Type 0 where
@@ -92,7 +102,7 @@ offsetOf kind = cond (eqb kind 2) 4 6
 -- r answers a question
 pub record Answers (b places : List ℕ) (count : ℕ) (q : Question) (r : Answered) : Type 0 where
   pub answer : (n : ℕ) (cs : List Cell) → Ready b n places count cs → meant b r ≡ cond (questionAllowed q) (answer q cs) missing
-  pub inside : (n : ℕ) (cs : List Cell) → Ready b n places count cs → InStore b n r
+  pub inside : (n : ℕ) (cs : List Cell) → Ready b n places count cs → InStore b n (stringStart q (some cs)) r
 
 -- r is the size of the cell at a place of b
 pub record SizeAt (b : List ℕ) (at r : ℕ) : Type 0 where

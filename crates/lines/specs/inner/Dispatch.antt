@@ -5,7 +5,7 @@ use Prim.Native.Nat.{ℕ}
 use lib.Dec.{ltb, eqb}
 use Rattle.scan.specs.declared.words.WordRead.{WordRead}
 use Rattle.scan.specs.Ascii.{ascii}
-use Rattle.scan.specs.Words.{wordAt}
+use Rattle.scan.specs.inner.Tables.{wordAt}
 use Rattle.arguments.specs.declared.argument.Argument.{Argument}
 use Rattle.lines.specs.declared.command.Operation.{Operation}
 use Rattle.lines.specs.declared.command.Operation.the-variants.{Assign, Add, Subtract, Multiply, Divide}

@@ -3,7 +3,7 @@ use mathlib.Core.Path.{_≡_, refl}
 use Prim.Native.Nat.{_-_, _<_}
 use native.Mathlib.Omega.{arith}
 use lib.ListN.{length, drop}
-use Rattle.names.specs.Name.{hashFrom, hashOf}
+use Rattle.names.specs.inner.Hash.{hashFrom, hashOf}
 use Rattle.names.proofs.NameLaws.{hash-end, hash-more}
 use borrow.Author.Needs.{needs}
 use Rattle.names.proofs.hash_of.Statement.{statement}

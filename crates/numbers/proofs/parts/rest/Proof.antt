@@ -8,7 +8,7 @@ use lib.Dec.{lit<}
 use mir.Syntax.{w64}
 use mir.Val.{SFits}
 use mir.ValLaws.{toZ-ofZ, sfits-le}
-use Rattle.numbers.specs.Parts.{restOf}
+use Rattle.numbers.specs.inner.Parts.{restOf}
 use Rattle.numbers.proofs.Machine.{quot-fits}
 use Rattle.numbers.proofs.Comparison.{rest-integer}
 use Rattle.numbers.proofs.parts.rest.Statement.{statement}

@@ -1,6 +1,6 @@
 -- `places::scale` meets its contract.
 use borrow.Author.Tests.{le-leb, lt-leb}
-use Rattle.numbers.specs.Places.{scaleOf}
+use Rattle.numbers.specs.inner.Places.{scaleOf}
 use borrow.Author.Needs.{needs}
 use Rattle.numbers.proofs.places.scale.Statement.{statement}
 use Rattle.numbers.proofs.places.scale.Tie as tie

@@ -3,7 +3,7 @@ use mathlib.Core.Path.{_≡_, sym, ap, _∙_}
 use native.Mathlib.Omega.{arith}
 use Prim.Native.Nat.{_-_}
 use lib.ListN.{length}
-use Rattle.scan.specs.Words.{wordFrom, wordAt}
+use Rattle.scan.specs.inner.Tables.{wordFrom, wordAt}
 use Rattle.scan.proofs.WordLaws.{word-within, row-word, word-none, word-found, word-next, word-start}
 use borrow.Author.Needs.{needs}
 use Rattle.scan.proofs.words.word_at.Statement.{statement}

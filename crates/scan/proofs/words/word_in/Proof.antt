@@ -2,7 +2,7 @@
 use mathlib.Core.Path.{sym}
 use lib.Seq.{length-take-le}
 use Rattle.scan.specs.declared.run.Class.the-variants.{InName}
-use Rattle.scan.specs.Words.{wordIn}
+use Rattle.scan.specs.inner.Tables.{wordIn}
 use Rattle.scan.proofs.RunLaws.{length-span, take-span}
 use borrow.Author.Needs.{needs}
 use Rattle.scan.proofs.words.word_in.Statement.{statement}

@@ -3,7 +3,8 @@ use Prim.Native.Nat.{_+_, _-_, _<_, _≤_}
 use native.Mathlib.Omega.{arith}
 use denote.Ref.{now}
 use lib.ListN.{length, drop}
-use Rattle.scan.specs.Line.{firstRefused, lineAt}
+use Rattle.scan.specs.Line.{lineAt}
+use Rattle.scan.specs.inner.Bytes.{firstRefused}
 use Rattle.template.specs.Lines.{linesOf}
 use Rattle.template.specs.Verdicts.{firstFault, lineAllowed}
 use Rattle.template.proofs.LineLaws.{part-line, none-left, found-long, found-refused, next-line, next-fine}
