@@ -4,14 +4,13 @@ use mathlib.Core.Bool.{Bool, true, false, cond, not, _&&_, _||_, false≢true}
 use mathlib.Core.List.{List, [], _∷_, _++_, map}
 use Prim.Native.Nat.{ℕ, zero, suc, _+_, _-_, _≤_, _<_}
 use native.Mathlib.Omega.{arith}
-use borrow.Author.Tests.{leb-true, ltb-true, ltb-false}
+use borrow.Author.Tests.{leb-true, ltb-false}
 use lib.Dec.{ltb, leb, eqb}
 use lib.ListN.{length, take, drop, replicate, getD, length-drop}
 use Rattle.meaning.specs.Each.{Each}
 use Rattle.scan.specs.declared.run.Class.the-variants.{Allowed, InLine}
 use Rattle.scan.specs.Run.{belongs, span, inRange}
 use Rattle.scan.specs.Line.{allAllowed, lineOf, lineAt}
-use Rattle.template.specs.declared.Verdict.{Verdict}
 use Rattle.template.specs.declared.Verdict.the-variants.{Fine, Fault}
 use Rattle.template.specs.Lines.{linesWithin, linesOf}
 use Rattle.template.specs.Verdicts.{firstFault, lineAllowed, bytesCheck}

@@ -1,16 +1,14 @@
 -- Every line of a run prints only what is proper, and keeps the strings of the state clean.
-use mathlib.Core.Path.{_≡_, refl, subst}
+use mathlib.Core.Path.{_≡_, refl}
 use mathlib.Core.Bool.{Bool, true, false, cond}
-use mathlib.Core.List.{List, [], _∷_, _++_}
+use mathlib.Core.List.{List, [], _∷_}
 use mathlib.Core.Option.{Option, none, some}
-use Prim.Native.Nat.{ℕ, zero, suc, _+_, _-_, _≤_, _<_}
+use Prim.Native.Nat.{ℕ, zero, suc, _+_, _-_}
 use native.Mathlib.Omega.{arith}
 use borrow.Author.Tests.{leb-false}
 use lib.Dec.{leb, ltb, eqb}
-use lib.IntN.{ℤ, pos}
-use lib.Signed.{ltZ}
-use lib.ListN.{length, take, drop}
-use Rattle.scan.specs.Line.{byteAt, lineAt}
+use lib.ListN.{length, take}
+use Rattle.scan.specs.Line.{byteAt}
 use Rattle.texts.specs.declared.text.Piece.{Piece}
 use Rattle.texts.specs.declared.text.Piece.the-variants.{Plain, Placed}
 use Rattle.texts.specs.declared.text.PieceRead.{PieceRead}
@@ -22,7 +20,6 @@ use Rattle.texts.specs.Pieces.{read, piecesOf}
 use Rattle.meaning.specs.Each.{Each}
 use Rattle.meaning.specs.Event as E
 use Rattle.meaning.specs.Tree.{done, bind}
-use Rattle.meaning.specs.Meaning.{Meaning}
 use Rattle.meaning.proofs.Yielding.{Yields, yields-bind}
 use Rattle.questions.specs.Machine.{Machine}
 use Rattle.values.specs.Worth.{Worth}
@@ -34,7 +31,7 @@ use Rattle.pages.specs.declared.page.Page.{Page}
 use Rattle.pages.specs.declared.heading.Heading.{Heading}
 use Rattle.pages.specs.Page.{advancedOf, on, sayMeaning, headLine, headFrom, headNumber, headMeaning, headsMeaning, highestOf, breakMeaning, turnMeaning, topMeaning, lineStep}
 use Rattle.pages.proofs.Counting.{values-give}
-use Rattle.output.specs.Printable.{Printable, Clean, OneLine, FormFeed, fed, silent, Proper}
+use Rattle.output.specs.Printable.{Printable, Clean, fed, silent}
 use Rattle.output.proofs.Bytes.{each-take, each-append, each-at}
 use Rattle.output.proofs.Fields.{WorthClean, field-clean}
 use Rattle.output.proofs.Values.{AnswerClean, MachineClean, argument-clean}

@@ -1,13 +1,12 @@
 -- The text of every report: lines of 0x20–0x7E, each with its line end, and form feeds. So a line that a page counts is one line of
 -- its text.
-use mathlib.Core.Path.{_≡_, refl, sym, ap, subst, _∙_}
-use mathlib.Core.Bool.{Bool, true, false, cond, _&&_}
+use mathlib.Core.Path.{_≡_, refl, sym, subst}
+use mathlib.Core.Bool.{Bool, true, false, cond}
 use mathlib.Core.List.{List, [], _∷_}
-use mathlib.Core.Option.{Option, none, some}
-use Prim.Native.Nat.{ℕ, zero, suc, _+_, _-_}
+use Prim.Native.Nat.{ℕ, zero, suc, _-_}
 use borrow.Author.Tests.{leb-true}
 use lib.Dec.{leb, ltb, eqb}
-use lib.IntN.{ℤ, pos}
+use lib.IntN.{pos}
 use lib.Signed.{ltZ}
 use lib.ListN.{length, drop, take}
 use Rattle.scan.specs.declared.run.Class.the-variants.{InLine}
@@ -52,7 +51,7 @@ use Rattle.pages.specs.declared.page.Page.{Page}
 use Rattle.pages.specs.declared.heading.Heading.{Heading}
 use Rattle.pages.specs.Heading.{noHeading}
 use Rattle.pages.specs.Page.{headLine, breakMeaning, lineStep}
-use Rattle.control.specs.State.{State, seen, withPlace, withMachine, withDatasource, withTables, withFeeds, withPage, cleared}
+use Rattle.control.specs.State.{State, seen, withPlace, withMachine, withDatasource, withTables, withPage}
 use Rattle.control.specs.Line.{past, jumped, setting, branched, testing, tableBegun, tableEnded, breaking, breakingFor, newPageMeaning, headed, formMeaning, lineMeaning}
 use Rattle.execution.proofs.Sounds.{each-same}
 use Rattle.runs.specs.Report.{runFrom, startOf, runMeaning, Outcome, refusedWith, checkedOutcome, reportOf}

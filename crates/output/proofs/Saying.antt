@@ -1,5 +1,4 @@
 -- Trees that print only what is proper, where the answers are clean.
-use mathlib.Core.List.{List, []}
 use Prim.Native.Nat.{ℕ}
 use Rattle.meaning.specs.Each.{Each}
 use Rattle.meaning.specs.Answer.{Answer}

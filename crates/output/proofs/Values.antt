@@ -1,18 +1,13 @@
 -- Strings of a run are printable: those of cells, of the template, of SV, R and T, where the answers are.
-use mathlib.Core.Bool.{Bool, true, false, cond}
-use mathlib.Core.List.{List, [], _∷_, map}
-use Prim.Native.Nat.{ℕ, zero, suc, _+_, _-_}
-use lib.Dec.{leb}
+use mathlib.Core.List.{List, []}
+use Prim.Native.Nat.{ℕ, _-_}
 use lib.IntN.{ℤ, pos, negsuc}
-use lib.ListN.{take, drop}
+use lib.ListN.{drop}
 use Rattle.meaning.specs.Each.{Each}
 use Rattle.meaning.specs.Answer as A
 use Rattle.meaning.specs.Answer.{Answer, cell, highest}
-use Rattle.meaning.specs.Tree.{done, stop, ask, bind}
-use Rattle.meaning.specs.Meaning.{Meaning, asksEach}
-use Rattle.meaning.specs.declared.question.Question.{Question}
-use Rattle.meaning.specs.declared.refusal.Refusal.the-variants.{BadIndex}
-use Rattle.meaning.proofs.Yielding.{Yields, yields-bind, yields-any}
+use Rattle.meaning.specs.Tree.{done}
+use Rattle.meaning.proofs.Yielding.{Yields, yields-bind}
 use Rattle.numbers.specs.declared.Quantity.{Quantity}
 use Rattle.numbers.specs.declared.Quantity.the-variants.{Integer, Decimal}
 use Rattle.numbers.specs.Outcome.{Outcome, success, refused}
@@ -27,14 +22,13 @@ use Rattle.lines.specs.declared.command.Fetch.{Fetch}
 use Rattle.lines.specs.declared.command.Operation.{Operation}
 use Rattle.lines.specs.declared.command.Target.{Target}
 use Rattle.lines.specs.declared.command.Target.the-variants.{IntegerTarget, DecimalTarget, StringTarget}
-use Rattle.questions.specs.declared.fetch.Along.{Along}
 use Rattle.questions.specs.declared.fetch.Along.the-variants.{Records, Entries}
 use Rattle.questions.specs.Machine.{Machine, numbered}
 use Rattle.values.specs.Worth.{Worth, missing, wrong, number, string, answered, ranged, absolute, filteredNumber, filteredString, filtered, kindOf}
-use Rattle.questions.specs.Indexes.{indexNumber, indexValue}
-use Rattle.questions.specs.Asking.{question, asks, cellMeaning}
-use Rattle.questions.specs.Fetching.{element, elementQuestion, elementQuestions, countValue, firstOf, asksElements, fetchMeaning}
+use Rattle.questions.specs.Asking.{cellMeaning}
+use Rattle.questions.specs.Fetching.{element, fetchMeaning}
 use Rattle.values.specs.Meanings.{worthOf, operandMeaning, argumentMeaning}
+use Rattle.values.proofs.Answering.{cell-has, fetch-has}
 use Rattle.values.proofs.Ranges.{numbered-each}
 use Rattle.coercions.specs.Settling.{Settled, settled, against, andThen, concluded, stringFrom}
 use Rattle.assignments.specs.Setting.{setNumbered, stored, stringNew, integerNew, decimalNew, withStrings, setOf, setMeaning}
@@ -105,12 +99,7 @@ element-clean l (negsuc n) h = tt
 
 module _ (m : Machine) (line : ℕ) where
   cell-clean : (kind p : ℕ) (i j : Index) → Yields AnswerClean (worthOf (cellMeaning m line kind p i j)) WorthClean
-  unfolding worthOf cellMeaning asks
-  cell-clean kind p i j =
-      yields-bind AnswerClean (cellMeaning m line kind p i j) (λ a. done (answered a)) AnswerClean WorthClean
-      (yields-bind AnswerClean (indexValue m line i) (λ r. bind (indexValue m line j) (λ e. ask (question (m .datasource) kind p r e) line (λ a. done a))) (λ _. Unit {0}) AnswerClean (yields-any AnswerClean (indexValue m line i)) (λ r h.
-      yields-bind AnswerClean (indexValue m line j) (λ e. ask (question (m .datasource) kind p r e) line (λ a. done a)) (λ _. Unit {0}) AnswerClean (yields-any AnswerClean (indexValue m line j)) (λ e k a w. w)))
-      (λ a h. answered-clean a h)
+  cell-clean = cell-has AnswerClean WorthClean answered-clean m line
 
   module _ (h : MachineClean m) (s : List ℕ) (c : Clean s) where
     operand-clean : (kind : ℕ) (o : Operand) → Yields AnswerClean (operandMeaning m s line kind o) WorthClean
@@ -176,29 +165,11 @@ module _ (m : Machine) (h : MachineClean m) where
 
 -- ---- $REC and $TBL
 
-each-clean : (line : ℕ) (qs : List Question) → Yields AnswerClean (asksEach line qs) (Each AnswerClean)
-unfolding asksEach
-each-clean line [] = tt
-each-clean line (q ∷ qs) =
-    λ r p. yields-bind AnswerClean (asksEach line qs) (λ rest. done (r ∷ rest)) (Each AnswerClean) (Each AnswerClean) (each-clean line qs) (λ l h. (p, h))
-
-fetch-clean : (m : Machine) (line : ℕ) (along : Along) (p : ℕ) (i j c : Index) → Yields AnswerClean (fetchMeaning m line along p i j c) (Each AnswerClean)
-unfolding fetchMeaning asksElements
-fetch-clean m line along p i j c =
-    yields-bind AnswerClean (indexValue m line i) _ (λ _. Unit {0}) (Each AnswerClean) (yields-any AnswerClean (indexValue m line i)) (λ r h.
-    yields-bind AnswerClean (indexValue m line j) _ (λ _. Unit {0}) (Each AnswerClean) (yields-any AnswerClean (indexValue m line j)) (λ e k.
-    yields-bind AnswerClean (countValue line (indexNumber (m .integers) (m .counter) c)) _ (λ _. Unit {0}) (Each AnswerClean) (yields-any AnswerClean (countValue line (indexNumber (m .integers) (m .counter) c))) (λ n l.
-    by (leb (firstOf along r e + n) 1000) (asksEach line (elementQuestions (elementQuestion (m .datasource) along p r e) 0 n)) (each-clean line _))))
-  where
-    by : (b : Bool) (t : Meaning (List Answer)) → Yields AnswerClean t (Each AnswerClean) → Yields AnswerClean (cond b t (stop BadIndex line)) (Each AnswerClean)
-    by true t h = h
-    by false t h = tt
-
 module _ (m : Machine) (h : MachineClean m) (line : ℕ) (f : Fetch) where
   pub records-clean : Yields AnswerClean (recordsMeaning m line f) MachineClean
   unfolding recordsMeaning
-  records-clean = yields-bind AnswerClean (fetchMeaning m line Records (f .parameter) (f .first) (f .second) (f .count)) _ (Each AnswerClean) MachineClean (fetch-clean m line Records (f .parameter) (f .first) (f .second) (f .count)) (λ l k. record { strings = h .strings; records = C.numbered-each (Each AnswerClean) (m .records) (f .number) l k (h .records); entries = h .entries })
+  records-clean = yields-bind AnswerClean (fetchMeaning m line Records (f .parameter) (f .first) (f .second) (f .count)) _ (Each AnswerClean) MachineClean (fetch-has AnswerClean m line Records (f .parameter) (f .first) (f .second) (f .count)) (λ l k. record { strings = h .strings; records = C.numbered-each (Each AnswerClean) (m .records) (f .number) l k (h .records); entries = h .entries })
 
   pub entries-clean : Yields AnswerClean (entriesMeaning m line f) MachineClean
   unfolding entriesMeaning
-  entries-clean = yields-bind AnswerClean (fetchMeaning m line Entries (f .parameter) (f .first) (f .second) (f .count)) _ (Each AnswerClean) MachineClean (fetch-clean m line Entries (f .parameter) (f .first) (f .second) (f .count)) (λ l k. record { strings = h .strings; records = h .records; entries = C.numbered-each (Each AnswerClean) (m .entries) (f .number) l k (h .entries) })
+  entries-clean = yields-bind AnswerClean (fetchMeaning m line Entries (f .parameter) (f .first) (f .second) (f .count)) _ (Each AnswerClean) MachineClean (fetch-has AnswerClean m line Entries (f .parameter) (f .first) (f .second) (f .count)) (λ l k. record { strings = h .strings; records = h .records; entries = C.numbered-each (Each AnswerClean) (m .entries) (f .number) l k (h .entries) })

@@ -1,6 +1,6 @@
 -- PAGENUM is one more than the breaks printed so far: kept by a break, and by a text line with what comes before it, whatever
 -- the store answers.
-use mathlib.Core.Path.{_≡_, refl, sym, ap, _∙_}
+use mathlib.Core.Path.{_≡_, sym, ap, _∙_}
 use mathlib.Core.Bool.{Bool, true, false, cond}
 use mathlib.Core.List.{List, [], _∷_}
 use Prim.Native.Nat.{ℕ, suc, _+_}

@@ -3,5 +3,6 @@ pub mod Operands
 pub mod Arguments
 pub mod Keeping
 pub mod Giving
+pub mod Answering
 pub mod Ranges
 pub mod Allowed

@@ -1,26 +1,20 @@
 -- Numbers stay in range, strings short: what an argument within its limits is worth in a machine in range, where answers lie
 -- within theirs. So a variable that is read is one of the machine's, and |ABS is the magnitude.
-use mathlib.Core.Path.{_≡_, refl, sym}
-use mathlib.Core.Bool.{Bool, true, false, cond}
-use mathlib.Core.List.{List, [], _∷_, map}
-use Prim.Native.Nat.{ℕ, zero, suc, _+_, _-_, _≤_, _<_}
+use mathlib.Core.Path.{_≡_, refl}
+use mathlib.Core.List.{List, [], _∷_}
+use Prim.Native.Nat.{ℕ, zero, suc, _-_, _≤_, _<_}
 use native.Mathlib.Omega.{arith}
-use lib.Dec.{leb}
 use lib.IntN.{ℤ, pos, negsuc, natAbs}
-use lib.ListN.{length, getD, take, drop, length-take, length-map}
+use lib.ListN.{length, getD, drop, length-take, length-map}
 use Rattle.meaning.specs.Each.{Each}
 use Rattle.meaning.specs.Answer as A
 use Rattle.meaning.specs.Answer.{Answer, cell, highest}
-use Rattle.meaning.specs.Tree.{done, stop, ask, bind}
-use Rattle.meaning.specs.Meaning.{Meaning, asksEach}
+use Rattle.meaning.specs.Tree.{done}
 use Rattle.meaning.specs.declared.question.Question.{Question}
-use Rattle.meaning.specs.declared.refusal.Refusal.{Refusal}
-use Rattle.meaning.specs.declared.refusal.Refusal.the-variants.{BadIndex}
-use Rattle.meaning.proofs.Yielding.{Yields, yields-bind, yields-more, yields-any}
+use Rattle.meaning.proofs.Yielding.{Yields, yields-bind, yields-more}
 use Rattle.numbers.specs.declared.Quantity.{Quantity}
 use Rattle.numbers.specs.declared.Quantity.the-variants.{Integer, Decimal}
 use Rattle.numbers.specs.Range.{integerLimit, decimalLimit, millionths}
-use Rattle.numbers.specs.Parts.{wholeOf}
 use Rattle.numbers.proofs.Laws.{within-in, whole-bound, integer-inside}
 use Rattle.cells.proofs.Limits.{AnswerWithin, ask-within}
 use Rattle.arguments.specs.declared.argument.Argument.{Argument}
@@ -30,17 +24,17 @@ use Rattle.arguments.specs.declared.index.Index.{Index}
 use Rattle.arguments.specs.declared.index.Index.the-variants.{Fixed, Variable, Loop}
 use Rattle.arguments.specs.declared.operand.Operand.{Operand}
 use Rattle.arguments.specs.declared.operand.Operand.the-variants.{Number, Text, IntegerVariable, DecimalVariable, StringVariable, PageNumber, LineNumber, LoopCounter, RecordElement, EntryElement, Parameter, Record, Entry}
-use Rattle.arguments.proofs.Parsed.{Between, QuantityWithin, IndexWithin, StringWithin, OperandWithin, ArgumentWithin}
+use Rattle.arguments.proofs.Parsed.{Between, QuantityWithin, IndexWithin, OperandWithin, ArgumentWithin}
 use Rattle.strings.specs.Letters.{upper}
 use Rattle.questions.specs.declared.fetch.Along.{Along}
 use Rattle.questions.specs.Machine.{Machine, numbered}
-use Rattle.questions.specs.Indexes.{indexNumber, indexValue}
-use Rattle.questions.specs.Asking.{question, asks, cellMeaning}
-use Rattle.questions.specs.Fetching.{element, elementQuestion, elementQuestions, countValue, firstOf, asksElements, fetchMeaning}
+use Rattle.questions.specs.Asking.{cellMeaning}
+use Rattle.questions.specs.Fetching.{element, fetchMeaning}
 use Rattle.questions.specs.Source.{answers}
 use Rattle.values.specs.Worth.{Worth, missing, wrong, number, string, answered, absolute, filteredNumber, filteredString, filtered, kindOf}
 use Rattle.values.specs.Meanings.{worthOf, operandMeaning, argumentMeaning}
 use Rattle.values.proofs.Keeping.{absolute-integer, absolute-decimal}
+use Rattle.values.proofs.Answering.{cell-has, fetch-has}
 
 -- "SV1–SV99 hold up to 16 bytes each, IV integers, FV decimals"; strings of cells and of the template have "0–16 bytes"
 abbrev pub IntegerWithin : ℤ → Type 0
@@ -176,12 +170,7 @@ element-within l (negsuc n) h = tt
 
 module _ (m : Machine) (line : ℕ) where
   cell-within : (kind p : ℕ) (i j : Index) → Yields AnswerWithin (worthOf (cellMeaning m line kind p i j)) WorthWithin
-  unfolding worthOf cellMeaning asks
-  cell-within kind p i j =
-      yields-bind AnswerWithin (cellMeaning m line kind p i j) (λ a. done (answered a)) AnswerWithin WorthWithin
-      (yields-bind AnswerWithin (indexValue m line i) (λ r. bind (indexValue m line j) (λ e. ask (question (m .datasource) kind p r e) line (λ a. done a))) (λ _. Unit {0}) AnswerWithin (yields-any AnswerWithin (indexValue m line i)) (λ r h.
-      yields-bind AnswerWithin (indexValue m line j) (λ e. ask (question (m .datasource) kind p r e) line (λ a. done a)) (λ _. Unit {0}) AnswerWithin (yields-any AnswerWithin (indexValue m line j)) (λ e k a w. w)))
-      (λ a h. answered-within a h)
+  cell-within = cell-has AnswerWithin WorthWithin answered-within m line
 
   module _ (h : MachineWithin m) (s : List ℕ) where
     operand-within : (kind : ℕ) (o : Operand) → OperandWithin s o → Yields AnswerWithin (operandMeaning m s line kind o) WorthWithin
@@ -262,24 +251,9 @@ module _ (m : Machine) (h : MachineWithin m) where
 
 -- ---- $REC and $TBL
 
-each-within : (line : ℕ) (qs : List Question) → Yields AnswerWithin (asksEach line qs) (Each AnswerWithin)
-unfolding asksEach
-each-within line [] = tt
-each-within line (q ∷ qs) =
-    λ r p. yields-bind AnswerWithin (asksEach line qs) (λ rest. done (r ∷ rest)) (Each AnswerWithin) (Each AnswerWithin) (each-within line qs) (λ l h. (p, h))
-
 -- What is fetched lies within its limits.
 pub fetch-within : (m : Machine) (line : ℕ) (along : Along) (p : ℕ) (i j c : Index) → Yields AnswerWithin (fetchMeaning m line along p i j c) (Each AnswerWithin)
-unfolding fetchMeaning asksElements
-fetch-within m line along p i j c =
-    yields-bind AnswerWithin (indexValue m line i) _ (λ _. Unit {0}) (Each AnswerWithin) (yields-any AnswerWithin (indexValue m line i)) (λ r h.
-    yields-bind AnswerWithin (indexValue m line j) _ (λ _. Unit {0}) (Each AnswerWithin) (yields-any AnswerWithin (indexValue m line j)) (λ e k.
-    yields-bind AnswerWithin (countValue line (indexNumber (m .integers) (m .counter) c)) _ (λ _. Unit {0}) (Each AnswerWithin) (yields-any AnswerWithin (countValue line (indexNumber (m .integers) (m .counter) c))) (λ n l.
-    by (leb (firstOf along r e + n) 1000) (asksEach line (elementQuestions (elementQuestion (m .datasource) along p r e) 0 n)) (each-within line _))))
-  where
-    by : (b : Bool) (t : Meaning (List Answer)) → Yields AnswerWithin t (Each AnswerWithin) → Yields AnswerWithin (cond b t (stop BadIndex line)) (Each AnswerWithin)
-    by true t h = h
-    by false t h = tt
+fetch-within = fetch-has AnswerWithin
 
 -- What a store answers lies within its limits.
 pub answers-within : (b : List ℕ) (n : ℕ) (q : Question) → AnswerWithin (answers b n q)
