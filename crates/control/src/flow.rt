@@ -1,10 +1,10 @@
 // Where a run goes on, and what its lines are executed in.
 use crate::state::Flow;
 use pages::page::Page;
+use shapes::seek;
+use shapes::seek::Sought;
 use tables::table;
 use tables::table::Tables;
-use template::seek;
-use template::seek::Sought;
 use values::scene::Scene;
 ghost use mathlib.Core.Path.{_≡_};
 ghost use Prim.Native.Nat.{_+_, _≤_};
