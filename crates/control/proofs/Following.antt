@@ -9,11 +9,11 @@ use lib.IntN.{ℤ, pos}
 use lib.Signed.{ltZ}
 use lib.ListN.{length, drop, take, set, drop-of-length-le, length-take}
 use Rattle.buffers.proofs.Laws.{map-set}
-use Rattle.template.specs.declared.seek.Sought.{Sought}
-use Rattle.template.specs.declared.seek.Sought.the-variants.{Branch, TableEnd}
-use Rattle.template.specs.declared.seek.Skip.{Skip}
-use Rattle.template.specs.Lines.{linesWithin, linesOf}
-use Rattle.template.specs.Seek.{atMost, skipFrom, skipped}
+use Rattle.shapes.specs.declared.seek.Sought.{Sought}
+use Rattle.shapes.specs.declared.seek.Sought.the-variants.{Branch, TableEnd}
+use Rattle.shapes.specs.declared.seek.Skip.{Skip}
+use Rattle.shapes.specs.Lines.{linesWithin, linesOf}
+use Rattle.shapes.specs.Seek.{atMost, skipFrom, skipped}
 use Rattle.template.proofs.Reach.{found-inside, part-skip}
 use Rattle.meaning.specs.declared.end.Halt.{Halt}
 use Rattle.meaning.specs.declared.end.Ended.{Ended}

@@ -2,10 +2,10 @@
 use crate::state::Flow;
 use pages::page::Page;
 use questions::scene::Scene;
+use shapes::seek;
+use shapes::seek::Sought;
 use tables::table;
 use tables::table::Tables;
-use template::seek;
-use template::seek::Sought;
 ghost use mathlib.Core.Path.{_≡_};
 ghost use Prim.Native.Nat.{_+_, _≤_};
 ghost use Rattle.control.specs.inner.Arms.{Jumpable};

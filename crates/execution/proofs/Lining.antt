@@ -12,7 +12,7 @@ use Rattle.arguments.specs.declared.argument.Argument.{Argument}
 use Rattle.lines.specs.declared.command.Line.{Line}
 use Rattle.lines.specs.declared.command.Line.the-variants.{BeginTable}
 use Rattle.lines.specs.readers.Command.{parseLine}
-use Rattle.template.specs.Form.{shapeIn, shapeOf}
+use Rattle.shapes.specs.Form.{shapeIn, shapeOf}
 use Rattle.template.proofs.Opening.{checks-short, opens-line}
 use Rattle.questions.specs.declared.scene.Scene.{Scene}
 use Rattle.questions.specs.declared.fetch.Along.the-variants.{Records, Entries}

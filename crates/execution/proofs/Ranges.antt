@@ -24,7 +24,7 @@ use Rattle.cells.proofs.Limits.{AnswerWithin}
 use Rattle.arguments.proofs.Parsed.{Between}
 use Rattle.questions.specs.Machine.{Machine}
 use Rattle.values.proofs.Ranges.{IntegerWithin, DecimalWithin, Short, MachineWithin}
-use Rattle.template.specs.declared.seek.Sought.the-variants.{TableEnd}
+use Rattle.shapes.specs.declared.seek.Sought.the-variants.{TableEnd}
 use Rattle.tables.specs.declared.table.Table.{Table}
 use Rattle.coercions.specs.Settling.{integerMeaning}
 use Rattle.assignments.specs.Setting.{setMeaning}

@@ -19,8 +19,8 @@ use Rattle.lines.specs.declared.command.Optional.the-variants.{Given, Absent}
 use Rattle.lines.specs.declared.command.Line.{Line}
 use Rattle.lines.specs.declared.command.Line.the-variants as form
 use Rattle.lines.specs.readers.Command.{parseLine}
-use Rattle.template.specs.declared.seek.Sought.the-variants.{Branch, TestEnd, TableEnd}
-use Rattle.template.specs.Form.{shapeIn, shapeOf}
+use Rattle.shapes.specs.declared.seek.Sought.the-variants.{Branch, TestEnd, TableEnd}
+use Rattle.shapes.specs.Form.{shapeIn, shapeOf}
 use Rattle.template.specs.Opening.{Checks}
 use Rattle.template.proofs.Opening.{opens-line}
 use Rattle.meaning.specs.Answer.{Answer}

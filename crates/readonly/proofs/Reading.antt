@@ -15,7 +15,7 @@ use Rattle.lines.specs.declared.command.Optional.{Optional}
 use Rattle.lines.specs.declared.command.Optional.the-variants.{Given, Absent}
 use Rattle.lines.specs.declared.command.Line.{Line}
 use Rattle.lines.specs.declared.command.Line.the-variants as form
-use Rattle.template.specs.declared.seek.Sought.the-variants.{TestEnd}
+use Rattle.shapes.specs.declared.seek.Sought.the-variants.{TestEnd}
 use Rattle.meaning.specs.Each.{Each}
 use Rattle.meaning.specs.Tree.{done, bind}
 use Rattle.meaning.specs.Place.{at, Does}

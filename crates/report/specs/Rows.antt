@@ -36,9 +36,9 @@ use Rattle.cells.specs.Store.{above, rising, ordered, before as cellsBefore, ce
 use Rattle.history.specs.State.{isHeld}
 use Rattle.meaning.specs.Event.{breaks, joined}
 use Rattle.meaning.specs.Tree.{run as meaningRun}
-use Rattle.template.specs.Seek.{atMost, orSkip, past, amongTables, amongTests, atElse, roleOf, skipFrom, skipped}
-use Rattle.template.specs.Lines.{linesWithin, linesOf}
-use Rattle.template.specs.Form.{shapeWords, wordShape, hasForm, shapeIn, shapeOf, isFormed}
+use Rattle.shapes.specs.Seek.{atMost, orSkip, past, amongTables, amongTests, atElse, roleOf, skipFrom, skipped}
+use Rattle.shapes.specs.Lines.{linesWithin, linesOf}
+use Rattle.shapes.specs.Form.{shapeWords, wordShape, hasForm, shapeIn, shapeOf, isFormed}
 use Rattle.template.specs.Verdicts.{firstFault, lineAllowed, bytesCheck}
 use Rattle.template.specs.Checks.{formCheck, nameEnd, hasName, cameBefore, nameStep, nameCheck, nestEnd, nestStep, nestCheck}
 use Rattle.template.specs.Walk.{orElse, walk}

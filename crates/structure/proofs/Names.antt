@@ -21,14 +21,14 @@ use Rattle.names.specs.Name.{sectionWord, sameBytes}
 use Rattle.template.specs.declared.Verdict.the-variants.{Fine, Fault}
 use Rattle.template.specs.declared.sections.Found.{Found}
 use Rattle.template.specs.declared.sections.Found.the-variants.{At, Nowhere}
-use Rattle.template.specs.Lines.{linesOf}
-use Rattle.template.specs.Form.{isFormed}
+use Rattle.shapes.specs.Lines.{linesOf}
+use Rattle.shapes.specs.Form.{isFormed}
 use Rattle.template.specs.Verdicts.{firstFault}
 use Rattle.template.specs.Walk.{orElse, walk}
 use Rattle.template.specs.Checks.{formCheck, hasName, cameBefore, nameStep, nameEnd, nameCheck}
 use Rattle.template.specs.Sections.{selects, sectionFrom, sectionEnd, runFrom, selected}
-use Rattle.template.proofs.LineLaws.{lines-none, lines-more}
-use Rattle.template.proofs.NameForm.{formed}
+use Rattle.shapes.proofs.LineLaws.{lines-none, lines-more}
+use Rattle.shapes.proofs.NameForm.{formed}
 use Rattle.grammar.specs.Line.{Spells, section}
 use Rattle.grammar.proofs.Lines.{reads-what-is-spelled}
 use Rattle.structure.specs.Sections.{nameIn, nameOf, isIn, repeatedFrom, isSection, isNamed, chooses, chosenFrom, chosenEnd, runOf, chosenRun}

@@ -16,7 +16,7 @@ use Rattle.template.specs.declared.sections.Found.{Found}
 use Rattle.template.specs.declared.sections.Found.the-variants.{At, Nowhere}
 use Rattle.template.specs.declared.sections.Selection.{Selection}
 use Rattle.template.specs.declared.sections.Selection.the-variants.{Lines, NotThere}
-use Rattle.template.specs.Lines.{linesOf}
+use Rattle.shapes.specs.Lines.{linesOf}
 use Rattle.template.specs.Sections.{endAt}
 
 -- the name that a form of the line l has, by its first eight characters: "Names are compared by their first eight characters"

@@ -8,7 +8,7 @@ use Rattle.template.specs.declared.Verdict.{Verdict}
 use Rattle.template.specs.declared.Verdict.the-variants.{Fine, Fault}
 use Rattle.template.specs.declared.forms.Faults.{Faults}
 use Rattle.template.specs.declared.forms.Faults.the-variants.{NoFault, InForm, InNesting}
-use Rattle.template.specs.Form.{shapeOf, hasForm, isFormed}
+use Rattle.shapes.specs.Form.{shapeOf, hasForm, isFormed}
 use Rattle.template.specs.Checks.{formBeforeNesting}
 
 pub formed-by : (l : List ℕ) (shape : Shape) (b : Bool) → shape ≡ shapeOf l → b ≡ hasForm shape → b ≡ isFormed l

@@ -1,4 +1,4 @@
-pub mod LineLaws
+pub mod VerdictLaws
 pub mod WalkLaws
 pub mod NameLaws
 pub mod NoteLaws
@@ -6,12 +6,9 @@ pub mod NestLaws
 pub mod FormLaws
 pub mod SectionLaws
 pub mod OrderLaws
-pub mod SeekLaws
-pub mod NameForm
 pub mod Reach
 pub mod Turns
 pub mod Opening
 pub mod Accepted
 pub mod Matching
 pub mod Jumps
-pub mod WordForm

@@ -12,9 +12,9 @@ use Rattle.nesting.specs.declared.Shape.{Shape}
 use Rattle.nesting.specs.declared.Open.{Open}
 use Rattle.nesting.specs.declared.Step.{Step}
 use Rattle.nesting.specs.declared.Step.the-variants.{Went, Wrong}
-use Rattle.template.specs.Lines.{linesOf}
+use Rattle.shapes.specs.Lines.{linesOf}
 use Rattle.template.specs.Walk.{walk}
-use Rattle.template.specs.Form.{shapeOf}
+use Rattle.shapes.specs.Form.{shapeOf}
 use Rattle.nesting.specs.Nest.{Mark, tests, tables, behind}
 use Rattle.nesting.specs.inner.Open.{code, HoldsOpen, Follows, Steps, Ends}
 use Rattle.template.specs.Checks.{nestStep, nestEnd, nestCheck}

@@ -13,10 +13,10 @@ use Rattle.scan.specs.Line.{lineAt, nextLine}
 use Rattle.names.specs.Name.{nameOf, sameBytes}
 use Rattle.names.specs.inner.Hash.{hashOf}
 use Rattle.names.proofs.NameLaws.{hash-bound, other-hash}
-use Rattle.template.specs.Lines.{linesOf}
+use Rattle.shapes.specs.Lines.{linesOf}
 use Rattle.template.specs.Checks.{hasName}
 use Rattle.template.specs.inner.Notes.{slotOf, fingerprintOf, notedWith, RuledOut}
-use Rattle.template.proofs.LineLaws.{lines-more}
+use Rattle.shapes.proofs.LineLaws.{lines-more}
 
 -- ---- the lines before, and one more: a name that none of them has
 

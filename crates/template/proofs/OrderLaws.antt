@@ -22,7 +22,7 @@ use Rattle.template.specs.Sections.{selected}
 use Rattle.template.specs.Verdicts.{bytesCheck}
 use Rattle.template.specs.Checks.{formBeforeNesting}
 use Rattle.template.specs.Order.{unlessFault, acceptedRun, sectionChecked}
-use Rattle.template.proofs.LineLaws.{too-long}
+use Rattle.template.proofs.VerdictLaws.{too-long}
 
 module _ (e : Refusal) (next : Checked) (v w : Verdict) (q : w ≡ v) where
   pub no-fault : (r : Checked) → w ≡ Fine → r ≡ next → r ≡ unlessFault e v next

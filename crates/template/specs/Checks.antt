@@ -10,10 +10,10 @@ use Rattle.template.specs.declared.Verdict.{Verdict}
 use Rattle.template.specs.declared.Verdict.the-variants.{Fine, Fault}
 use Rattle.template.specs.declared.forms.Faults.{Faults}
 use Rattle.template.specs.declared.forms.Faults.the-variants.{NoFault, InForm, InNesting}
-use Rattle.template.specs.Lines.{linesOf}
+use Rattle.shapes.specs.Lines.{linesOf}
 use Rattle.template.specs.Verdicts.{firstFault}
 use Rattle.template.specs.Walk.{walk}
-use Rattle.template.specs.Form.{shapeOf, isFormed}
+use Rattle.shapes.specs.Form.{shapeOf, isFormed}
 use Rattle.nesting.specs.Nest.{Mark, behind, allClosed}
 
 -- 3

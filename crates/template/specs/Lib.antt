@@ -1,11 +1,8 @@
-pub mod Lines
 pub mod Verdicts
 pub mod Walk
-pub mod Form
 pub mod Checks
 pub mod inner
 pub mod Sections
 pub mod Order
-pub mod Seek
 pub mod Opening
 pub mod Rows

@@ -1,16 +1,16 @@
 // 3: "A line has no form above, a number literal exceeds ±2,000,000,000, or fields widen a line past 132 bytes."
 // 4: nesting, from the first line to the last. One walk for both parses a line once.
 use crate::Verdict;
-use crate::form;
 use nesting::Open;
 use nesting::Step;
+use shapes::form;
 ghost use mathlib.Core.Path.{_≡_};
 ghost use Prim.Native.Nat.{_+_, _≤_};
 ghost use lib.ListN.{length, drop};
 ghost use Rattle.template.specs.declared.Verdict.the-variants.{Fault};
-ghost use Rattle.template.specs.Lines.{linesOf};
+ghost use Rattle.shapes.specs.Lines.{linesOf};
 ghost use Rattle.template.specs.Verdicts.{firstFault};
-ghost use Rattle.template.specs.Form.{isFormed};
+ghost use Rattle.shapes.specs.Form.{isFormed};
 ghost use Rattle.template.specs.Checks.{formCheck, nestCheck, formBeforeNesting};
 
 // How 3 and then 4 end: no line is at fault, or the first that is.

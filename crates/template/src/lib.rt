@@ -2,7 +2,6 @@
 //
 // check           2 to 5, each over the whole template, then 6
 // bytes::check    2: too long, a byte or a line outside its limits
-// seek::skip_lines   where a failed test, an executed $ELSE and a $BT with n below 1 go on
 use crate::forms::Faults;
 use crate::sections::Selection;
 use meaning::refusal::Refusal;
@@ -12,10 +11,8 @@ ghost use lib.ListN.{length};
 ghost use Rattle.template.specs.Order.{sectionChecked, namesChecked, formsChecked, templateChecked};
 
 pub mod bytes; // bytes.rt: check 2
-mod form; // form.rt: what a line is to the checks
 mod forms; // forms.rt: checks 3 and 4
 mod repeats; // repeats.rt: check 5
-pub mod seek; // seek.rt: where a failed test, an executed $ELSE and a skipped table go on
 mod sections; // sections.rt: check 6
 
 // How a check ends: nothing at fault, or the first line that is. 0 is no line.

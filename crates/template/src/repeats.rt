@@ -4,7 +4,7 @@ ghost use mathlib.Core.Path.{_≡_};
 ghost use mathlib.Core.Bool.{false};
 ghost use Prim.Native.Nat.{_≤_};
 ghost use lib.ListN.{length, take};
-ghost use Rattle.template.specs.Lines.{linesOf};
+ghost use Rattle.shapes.specs.Lines.{linesOf};
 ghost use Rattle.template.specs.inner.Notes.{RuledOut, notedWith};
 ghost use Rattle.template.specs.Checks.{hasName, cameBefore, nameCheck};
 

@@ -3,7 +3,7 @@ use crate::Run;
 ghost use mathlib.Core.Path.{_≡_};
 ghost use Prim.Native.Nat.{_+_, _<_, _≤_};
 ghost use lib.ListN.{length, drop};
-ghost use Rattle.template.specs.Lines.{linesOf};
+ghost use Rattle.shapes.specs.Lines.{linesOf};
 ghost use Rattle.template.specs.Sections.{selects, sectionFrom, sectionEnd, selected, Within};
 
 pub enum Selection {

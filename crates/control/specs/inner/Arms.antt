@@ -6,7 +6,7 @@ use Prim.Native.Nat.{ℕ, _-_, _≤_}
 use lib.IntN.{ℤ, pos}
 use lib.Signed.{ltZ}
 use lib.ListN.{length, replicate}
-use Rattle.template.specs.declared.seek.Sought.the-variants.{Branch, TableEnd}
+use Rattle.shapes.specs.declared.seek.Sought.the-variants.{Branch, TableEnd}
 use Rattle.meaning.specs.Answer.{Answer}
 use Rattle.meaning.specs.Place.{at, Does}
 use Rattle.meaning.specs.Number.{endOf}

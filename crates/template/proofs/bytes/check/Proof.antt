@@ -1,6 +1,6 @@
 -- A template within its length is judged line by line.
 use mathlib.Core.Path.{sym, _∙_}
-use Rattle.template.proofs.LineLaws.{too-long, not-too-long}
+use Rattle.template.proofs.VerdictLaws.{too-long, not-too-long}
 use borrow.Author.Needs.{needs}
 use Rattle.template.proofs.bytes.check.Statement.{statement}
 use Rattle.template.proofs.bytes.check.Tie as tie

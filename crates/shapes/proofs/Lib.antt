@@ -1,0 +1,4 @@
+pub mod LineLaws
+pub mod SeekLaws
+pub mod NameForm
+pub mod WordForm
