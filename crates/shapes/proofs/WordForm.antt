@@ -18,7 +18,8 @@ use Rattle.lines.proofs.Makes.{set-makes, datasource-makes, compare-makes, sing
 use Rattle.lines.proofs.SectionLaws.{begins-says}
 use Rattle.nesting.specs.declared.Shape.{Shape}
 use Rattle.nesting.specs.declared.Shape.the-variants.{Section, Remark, Test, Else, EndTest, Table, EndTable, Plain}
-use Rattle.shapes.specs.Form.{shapeIn, shapeOf, isFormed, numberedShape, shapeWords, wordShape}
+use Rattle.shapes.specs.Form.{shapeIn, shapeOf, isFormed, shapeWords, wordShape}
+use Rattle.shapes.specs.inner.Numbered.{numberedShape}
 use Rattle.shapes.proofs.NameForm.{formed}
 
 -- ---- the table of the code

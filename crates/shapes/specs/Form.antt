@@ -2,7 +2,6 @@
 use mathlib.Core.Bool.{Bool, true, false, cond}
 use mathlib.Core.List.{List, [], _∷_}
 use Prim.Native.Nat.{ℕ}
-use lib.Dec.{eqb}
 use Rattle.scan.specs.Line.{byteIs}
 use Rattle.scan.specs.Words.{Spelled, _takes_, firstOf}
 use Rattle.lines.specs.declared.command.Line.{Line}
@@ -61,17 +60,6 @@ shapeWords =
     ∷ "SEC" takes (λ l at. Section)
     ∷ "REM" takes (λ l at. Remark)
     ∷ []
-
--- how the code finds the shape: by the number of its word in a table
-unfoldable pub numberedShape : ℕ → Shape
-numberedShape k =
-    cond (eqb k 0) Test
-    (cond (eqb k 1) Else
-    (cond (eqb k 2) EndTest
-    (cond (eqb k 3) Table
-    (cond (eqb k 4) EndTable
-    (cond (eqb k 5) Section
-    Remark)))))
 
 -- what a line is by its word alone: the same where it has a form (proofs/WordForm:shape-by-word)
 unfoldable pub wordShape : List ℕ → Shape

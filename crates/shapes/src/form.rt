@@ -6,7 +6,8 @@ use scan::words::WordRead;
 ghost use mathlib.Core.Path.{_≡_};
 ghost use Rattle.scan.specs.Words.{firstOf};
 ghost use Rattle.nesting.specs.declared.Shape.the-variants.{Plain};
-ghost use Rattle.shapes.specs.Form.{shapeIn, shapeOf, hasForm, isFormed, numberedShape, shapeWords, wordShape};
+ghost use Rattle.shapes.specs.Form.{shapeIn, shapeOf, hasForm, isFormed, shapeWords, wordShape};
+ghost use Rattle.shapes.specs.inner.Numbered.{numberedShape};
 
 fn shape_in(form: Line) -> Shape
     ensures { λ r. ⌜ r ≡ shapeIn form ⌝ }

@@ -12,7 +12,8 @@ use Rattle.template.specs.declared.sections.Selection.the-variants.{Line
 use Rattle.template.specs.declared.sections.Found.{Found}
 use Rattle.template.specs.declared.sections.Found.the-variants.{At, Nowhere}
 use Rattle.shapes.specs.Lines.{linesOf}
-use Rattle.template.specs.Sections.{selects, sectionFrom, endAt, sectionEnd, runFrom, selected, Within}
+use Rattle.template.specs.Sections.{selects, sectionFrom, endAt, sectionEnd, runFrom, selected}
+use Rattle.template.specs.inner.Within.{Within}
 use Rattle.shapes.proofs.LineLaws.{lines-none, lines-more}
 
 module _ (t name : List ℕ) (at n : ℕ) {w : Found} (inv : sectionFrom name at n (linesOf (drop at t)) ≡ w) where

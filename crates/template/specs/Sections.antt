@@ -1,7 +1,7 @@
 -- "The caller's name selects one section; an empty name selects all".
 use mathlib.Core.Bool.{Bool, not, cond}
 use mathlib.Core.List.{List, [], _∷_}
-use Prim.Native.Nat.{ℕ, suc, _+_, _<_, _≤_}
+use Prim.Native.Nat.{ℕ, suc, _+_}
 use lib.Dec.{eqb}
 use lib.ListN.{length, drop}
 use Rattle.scan.specs.Line.{nextLine, window}
@@ -38,8 +38,3 @@ runFrom t name Nowhere = NotThere
 
 unfoldable pub selected : List ℕ → List ℕ → Selection
 selected t name = runFrom t name (sectionFrom name 0 0 (linesOf t))
-
--- a line that was found starts in the template, and no more lines than bytes stand before it
-unfoldable pub Within : List ℕ → Found → Type 0
-Within t (At at n) = (at < length t) × (n ≤ at + 1)
-Within t Nowhere = Unit

@@ -4,7 +4,8 @@ ghost use mathlib.Core.Path.{_≡_};
 ghost use Prim.Native.Nat.{_+_, _<_, _≤_};
 ghost use lib.ListN.{length, drop};
 ghost use Rattle.shapes.specs.Lines.{linesOf};
-ghost use Rattle.template.specs.Sections.{selects, sectionFrom, sectionEnd, selected, Within};
+ghost use Rattle.template.specs.Sections.{selects, sectionFrom, sectionEnd, selected};
+ghost use Rattle.template.specs.inner.Within.{Within};
 
 pub enum Selection {
     Lines(Run),

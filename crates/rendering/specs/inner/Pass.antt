@@ -1,6 +1,6 @@
 -- A text line as the code makes it, in one pass, and what its contracts say.
 use mathlib.Core.Path.{_≡_}
-use mathlib.Core.Bool.{Bool, true, false}
+use mathlib.Core.Bool.{Bool, true, false, _||_}
 use mathlib.Core.List.{List, [], _∷_, _++_}
 use Prim.Native.Nat.{ℕ, _+_, _≤_}
 use lib.IntN.{ℤ}
@@ -29,7 +29,7 @@ use Rattle.rendering.specs.declared.text.Made.{Made}
 use Rattle.rendering.specs.declared.text.Told.{Told}
 use Rattle.rendering.specs.Shown.{fieldBytes}
 use Rattle.texts.specs.Pieces.{piecesOf, fieldCount}
-use Rattle.rendering.specs.Text.{isWrong, or, textMeaning}
+use Rattle.rendering.specs.Text.{isWrong, textMeaning}
 
 -- the bytes made so far, and whether a kind was wrong
 pub record Worked : Type 0 where
@@ -43,7 +43,7 @@ abbrev pub pass : Machine → List ℕ → ℕ → List Piece → List ℕ → B
 pass m l line [] made w = done (worked made w)
 pass m l line (Plain b ∷ ps) made w = pass m l line ps (made ++ b ∷ []) w
 pass m l line (Placed f ∷ ps) made w =
-    bind (argumentMeaning m l line (f .argument)) (λ v. pass m l line ps (made ++ fieldBytes (f .width) (f .places) v) (or w (isWrong v)))
+    bind (argumentMeaning m l line (f .argument)) (λ v. pass m l line ps (made ++ fieldBytes (f .width) (f .places) v) (w || isWrong v))
 
 -- whether a kind was wrong, with one more value as the code holds it
 unfoldable pub orWrong : Bool → C.Worth → Bool

@@ -1,6 +1,6 @@
 -- The definition makes the code's tests in the code's order.
 use borrow.Author.Tests.{eq-eqb, ne-eqb}
-use Rattle.shapes.specs.Form.{numberedShape}
+use Rattle.shapes.specs.inner.Numbered.{numberedShape}
 use Rattle.shapes.proofs.form.shape_numbered.Statement.{statement}
 use Rattle.shapes.proofs.form.shape_numbered.Tie as tie
 
