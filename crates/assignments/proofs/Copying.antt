@@ -16,14 +16,14 @@ use Rattle.strings.specs.declared.part.Text.{Text}
 use Rattle.strings.specs.Letters.{letter}
 use Rattle.strings.specs.inner.Texts.{zeros, rowFor, chosen, Strings, strings, cased}
 use Rattle.strings.proofs.Texts.{text-is, length-cased}
-use Rattle.questions.specs.inner.State.{texts}
+use Rattle.questions.specs.inner.State.{texts, bank, lengthsIn}
 use Rattle.values.specs.declared.worth.Worth.{Worth}
 use Rattle.values.proofs.Keeping.{strings-kept}
 use Rattle.coercions.specs.declared.settle.Phrase.{Phrase}
 use Rattle.coercions.specs.declared.settle.Phrase.the-variants.{String, NoString}
 use Rattle.assignments.specs.Setting.{setNumbered, stored, stringNew}
 use Rattle.coercions.specs.inner.Contracts.{TakesText}
-use Rattle.assignments.specs.inner.Contracts.{Held, PutsString, StoresString}
+use Rattle.assignments.specs.inner.Contracts.{Rowed, Puts, PutsString, StoresString}
 use Rattle.assignments.proofs.Sets.{put-none, put-in, put-past}
 
 -- ---- a copy of at most 16 bytes
@@ -87,33 +87,36 @@ unfolding texts
 length-texts rows k [] = refl
 length-texts rows k (n ∷ ns) = ap suc (length-texts rows (suc k) ns)
 
-module _ (rows : List (List ℕ)) (lengths : List ℕ) (n : ℕ) (row : List ℕ) (count : ℕ) (h : Held rows lengths) where
-  pub string-none : n < 1 → PutsString rows lengths n (take count row) rows lengths
-  string-none l = record { put = put-none _ _ n l; held = h }
+module _ (rows : List (List ℕ)) (words : List ℕ) (n : ℕ) (row : List ℕ) (count : ℕ) (h : Rowed rows) where
+  pub string-none : n < 1 → PutsString rows words n (take count row) rows words
+  string-none l = record { put = put-none _ _ n l; held = h; above = λ i k g. refl }
 
-  pub string-in : 1 ≤ n → n - 1 < 99 → PutsString rows lengths n (take count row) (set rows (n - 1) row) (set lengths (n - 1) count)
-  string-in k l = record {
-    put = strings-kept rows lengths (n - 1) row count l (omega (arith, h .rows-held)) ∙ put-in (texts rows 0 lengths) (take count row) n _ k refl;
-    held = record { rows-held = length-set rows (n - 1) row ∙ h .rows-held; lengths-held = length-set lengths (n - 1) count ∙ h .lengths-held };
+  pub string-in : 1 ≤ n → n - 1 < 99 → (words′ : List ℕ) → Puts words 0 99 n count words′ → PutsString rows words n (take count row) (set rows (n - 1) row) words′
+  string-in k l words′ d = record {
+    put = ap (texts (set rows (n - 1) row) 0) (d .own ∙ sym (put-in (lengthsIn words) count n count k refl)) ∙ strings-kept rows (lengthsIn words) (n - 1) row count l (omega (arith, h .rows-held)) ∙ put-in (texts rows 0 (lengthsIn words)) (take count row) n _ k refl;
+    held = record { rows-held = length-set rows (n - 1) row ∙ h .rows-held };
+    above = λ i j g. d .above i j (omega arith);
   }
 
-  pub string-past : 1 ≤ n → 99 ≤ n - 1 → PutsString rows lengths n (take count row) rows lengths
-  string-past k l = record { put = put-past _ _ n k (omega (arith, length-texts rows 0 lengths, h .lengths-held)); held = h }
+  pub string-past : 1 ≤ n → 99 ≤ n - 1 → PutsString rows words n (take count row) rows words
+  unfolding bank
+  string-past k l = record { put = put-past _ _ n k (omega (arith, length-texts rows 0 (take 99 (drop 0 words)), length-take 99 (drop 0 words))); held = h; above = λ i k g. refl }
 
 -- ---- a value in hand
 
-module _ (line store : List ℕ) (rows : List (List ℕ)) (lengths : List ℕ) (n number : ℕ) (w : Worth) (k : Held rows lengths) (phrase : Phrase) (d : TakesText w phrase) where
+module _ (line store : List ℕ) (rows : List (List ℕ)) (words : List ℕ) (n number : ℕ) (w : Worth) (k : Rowed rows) (phrase : Phrase) (d : TakesText w phrase) where
   abbrev Here : Strings
   Here = strings line store rows
 
-  pub string-refused : (e : Refusal) → phrase ≡ NoString e → StoresString line store rows lengths n number w rows lengths (Halted (H.Refused e) number)
+  pub string-refused : (e : Refusal) → phrase ≡ NoString e → StoresString line store rows words n number w rows words (Halted (H.Refused e) number)
   unfolding stored stringNew
-  string-refused e h = record { concludes = record { same = rw (← (d .same Here), h) }; held = k }
+  string-refused e h = record { concludes = record { same = rw (← (d .same Here), h) }; held = k; above = λ i k g. refl }
 
   module _ (t : Text) (h : phrase ≡ String t) (row found : List ℕ) (r : row ≡ rowFor rows (t .source)) (f : found ≡ take (t .count) (drop (t .at) (chosen line store row (t .source)))) where
-    pub string-stored : (copy : List ℕ) (count : ℕ) → copy ≡ sets zeros 0 (take 16 (cased (t .upper) found)) → count ≡ length (take 16 found) → (rows′ : List (List ℕ)) (lengths′ : List ℕ) → PutsString rows lengths n (take count copy) rows′ lengths′ → StoresString line store rows lengths n number w rows′ lengths′ Finished
+    pub string-stored : (copy : List ℕ) (count : ℕ) → copy ≡ sets zeros 0 (take 16 (cased (t .upper) found)) → count ≡ length (take 16 found) → (rows′ : List (List ℕ)) (words′ : List ℕ) → PutsString rows words n (take count copy) rows′ words′ → StoresString line store rows words n number w rows′ words′ Finished
     unfolding stored stringNew
-    string-stored copy count e l rows′ lengths′ p = record {
-      concludes = record { same = rw (← (d .same Here), h) (ap finished (p .put ∙ ap (λ (s : List ℕ). setNumbered (texts rows 0 lengths) n s) (copy-is found (t .upper) copy count e l ∙ ap (take 16) (text-is Here t row found r f)))) };
+    string-stored copy count e l rows′ words′ p = record {
+      concludes = record { same = rw (← (d .same Here), h) (ap finished (p .put ∙ ap (λ (s : List ℕ). setNumbered (texts rows 0 (lengthsIn words)) n s) (copy-is found (t .upper) copy count e l ∙ ap (take 16) (text-is Here t row found r f)))) };
       held = p .held;
+      above = p .above;
     }

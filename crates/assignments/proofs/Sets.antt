@@ -1,39 +1,35 @@
 -- $SETE to $SETD: one law for each return of the code.
 use mathlib.Core.Path.{_≡_, refl, sym, ap, _∙_}
 use mathlib.Core.List.{List}
-use Prim.Native.Nat.{ℕ, zero, suc, _-_, _≤_, _<_}
+use Prim.Native.Nat.{ℕ, zero, suc, _+_, _-_, _≤_, _<_}
 use native.Mathlib.Omega.{arith}
 use lib.IntN.{ℤ, pos}
-use lib.ListN.{length, set}
-use lib.Seq.{set-out}
+use lib.ListN.{length, take, drop, set, length-take}
+use lib.Seq.{set-out, drop-set-add, take-set-le, take-set-lt, drop-set-lt}
 use Rattle.meaning.specs.Answer.{Answer}
 use Rattle.meaning.specs.declared.question.Question.{Question}
 use Rattle.meaning.specs.declared.refusal.Refusal.{Refusal}
-use Rattle.meaning.specs.declared.end.Halt.{Halt}
 use Rattle.meaning.specs.declared.end.Halt.the-variants as H
 use Rattle.meaning.specs.declared.end.Ended.{Ended}
 use Rattle.meaning.specs.declared.end.Ended.the-variants.{Finished, Halted}
 use Rattle.numbers.specs.Outcome.{Outcome}
-use Rattle.arguments.specs.declared.argument.Argument.{Argument}
 use Rattle.lines.specs.declared.command.Operation.{Operation}
 use Rattle.lines.specs.declared.command.Target.{Target}
 use Rattle.lines.specs.declared.command.Target.the-variants.{IntegerTarget, DecimalTarget, StringTarget}
 use Rattle.strings.specs.inner.Texts.{Strings, strings}
 use Rattle.questions.specs.declared.scene.Scene.{Scene}
 use Rattle.questions.specs.Machine.{Machine, numbered}
-use Rattle.questions.specs.inner.State.{machine}
+use Rattle.questions.specs.inner.State.{texts, bank, integersIn, decimalsIn, lengthsIn, held, machine}
 use Rattle.values.specs.declared.worth.Worth.{Worth}
-use Rattle.values.specs.declared.worth.Valued.{Valued}
 use Rattle.values.specs.Worth as D
-use Rattle.values.specs.Meanings.{argumentMeaning}
-use Rattle.values.specs.inner.Yielding.{meant, ArgumentValue}
+use Rattle.values.specs.inner.Yielding.{meant}
 use Rattle.coercions.specs.declared.settle.Taken.{Taken}
 use Rattle.coercions.specs.declared.settle.Taken.the-variants.{Value, Refused}
 use Rattle.coercions.specs.Settling.{Settled, resultOf}
-use Rattle.assignments.specs.Setting.{setNumbered, stored, newFrom, integerNew, decimalNew, stringNew, withIntegers, withDecimals, withStrings, setOf, setMeaning}
-use Rattle.coercions.specs.inner.Contracts.{takenOf, Takes, Concludes}
-use Rattle.assignments.specs.inner.Contracts.{Held, StoresString, Assigns, SetsVariable}
-use Rattle.coercions.proofs.Running.{concludes-in, value-over, value-follows}
+use Rattle.assignments.specs.Setting.{setNumbered, stored, newFrom, integerNew, decimalNew, stringNew, withIntegers, withDecimals, withStrings, setOf}
+use Rattle.coercions.specs.inner.Contracts.{takenOf, Takes}
+use Rattle.assignments.specs.inner.Contracts.{Rowed, Puts, StoresNumber, StoresString, Assigns}
+use Rattle.coercions.proofs.Running.{concludes-in}
 
 -- ---- what a variable becomes
 
@@ -64,58 +60,74 @@ module _ {A : Type 0} (l : List A) (x : A) where
   put-past zero h k = absurd (omega arith)
   put-past (suc n) h k = sym (set-out l n x (omega arith))
 
-module _ (l l′ : List ℤ) (n : ℕ) (t : Taken) (line : ℕ) where
-  pub stored-refused : (e : Refusal) → t ≡ Refused e → Concludes (stored l n (takenOf t)) line l′ (Halted (H.Refused e) line)
-  unfolding stored
-  stored-refused e h = record { same = rw h }
+-- ---- the n-th of a part
 
-  pub stored-value : (z : ℤ) → t ≡ Value z → l′ ≡ setNumbered l n z → Concludes (stored l n (takenOf t)) line l′ Finished
+module _ {A : Type 0} (l : List A) (from size n : ℕ) (x : A) where
+  pub puts-none : n < 1 → Puts l from size n x l
+  puts-none h = record { own = put-none (bank from size l) x n h; below = λ i k e. refl; above = λ i k e. refl }
+
+  pub puts-past : size < n → Puts l from size n x l
+  unfolding bank
+  puts-past h = record {
+    own = put-past (take size (drop from l)) x n (omega arith) (omega (arith, length-take size (drop from l)));
+    below = λ i k e. refl;
+    above = λ i k e. refl;
+  }
+
+  before : (i k j : ℕ) (y : A) → i + k ≤ j → take k (drop i (set l j y)) ≡ take k (drop i l)
+  before i k j y h =
+      let e : j ≡ i + (j - i) = omega arith in
+      ap (λ (q : ℕ). take k (drop i (set l q y))) e ∙ ap (take k) (drop-set-add i l (j - i) y) ∙ take-set-le k (drop i l) (j - i) y (omega arith)
+
+  pub puts-in : (y : A) → 1 ≤ n → n ≤ size → y ≡ x → Puts l from size n x (set l (from + (n - 1)) y)
+  unfolding bank
+  puts-in y h k e = record {
+    own = ap (take size) (drop-set-add from l (n - 1) y) ∙ take-set-lt size (drop from l) (n - 1) y (omega arith) ∙ put-in (take size (drop from l)) x n y h e;
+    below = λ i j g. before i j (from + (n - 1)) y (omega arith);
+    above = λ i j g. ap (take j) (drop-set-lt i l (from + (n - 1)) y (omega arith));
+  }
+
+module _ (l : List ℤ) (from n : ℕ) (t : Taken) (line : ℕ) where
+  pub stored-refused : (e : Refusal) → t ≡ Refused e → StoresNumber l from n t line l (Halted (H.Refused e) line)
   unfolding stored
-  stored-value z h e = record { same = rw (h, e) }
+  stored-refused e h = record { concludes = record { same = rw h }; below = λ i k g. refl; above = λ i k g. refl }
+
+  pub stored-value : (l′ : List ℤ) (z : ℤ) → t ≡ Value z → Puts l from 99 n z l′ → StoresNumber l from n t line l′ Finished
+  unfolding stored
+  stored-value l′ z h d = record { concludes = record { same = rw (h, d .own) }; below = d .below; above = d .above }
 
 -- ---- a value in hand
 
-module _ (line store : List ℕ) (integers decimals : List ℤ) (rows : List (List ℕ)) (lengths : List ℕ) (number : ℕ) (o : Operation) (t : Target) (w : Worth) (n : ℕ) (end : Ended) (r : Held rows lengths) where
+module _ (line store : List ℕ) (numbers : List ℤ) (rows : List (List ℕ)) (words : List ℕ) (number : ℕ) (o : Operation) (t : Target) (w : Worth) (n : ℕ) (end : Ended) (r : Rowed rows) where
   abbrev Here : Strings
   Here = strings line store rows
 
-  pub assigned-integer : t ≡ IntegerTarget n → (a : ℤ) → a ≡ numbered (pos 0) integers n → (taken : Taken) → Takes (integerNew o a) w taken → (integers′ : List ℤ) → Concludes (stored integers n (takenOf taken)) number integers′ end → Assigns line store integers decimals rows lengths number o t w integers′ decimals rows lengths end
+  abbrev Now : (Question → Answer) → Scene → Machine
+  Now source sc = machine source (held numbers rows words) sc
+
+  pub assigned-integer : t ≡ IntegerTarget n → (a : ℤ) → a ≡ numbered (pos 0) (integersIn numbers) n → (taken : Taken) → Takes (integerNew o a) w taken → (numbers′ : List ℤ) → StoresNumber numbers 0 n taken number numbers′ end → Assigns line store (held numbers rows words) number o t w (held numbers′ rows words) end
   unfolding setOf
-  assigned-integer h a e taken d integers′ k = record {
-    concludes = λ source records entries sc. rw (h, ← e, ← (d .same Here)) (concludes-in (withIntegers (machine source integers decimals rows lengths records entries sc)) (stored integers n (takenOf taken)) number integers′ end k);
+  assigned-integer h a e taken d numbers′ k = record {
+    concludes = λ source sc. rw (h, ← e, ← (d .same Here), k .above 99 99 (omega arith)) (concludes-in (withIntegers (Now source sc)) (stored (integersIn numbers) n (takenOf taken)) number (integersIn numbers′) end (k .concludes));
     held = r;
+    headings = refl;
+    tables = refl;
   }
 
-  pub assigned-decimal : t ≡ DecimalTarget n → (a : ℤ) → a ≡ numbered (pos 0) decimals n → (taken : Taken) → Takes (decimalNew o a) w taken → (decimals′ : List ℤ) → Concludes (stored decimals n (takenOf taken)) number decimals′ end → Assigns line store integers decimals rows lengths number o t w integers decimals′ rows lengths end
+  pub assigned-decimal : t ≡ DecimalTarget n → (a : ℤ) → a ≡ numbered (pos 0) (decimalsIn numbers) n → (taken : Taken) → Takes (decimalNew o a) w taken → (numbers′ : List ℤ) → StoresNumber numbers 99 n taken number numbers′ end → Assigns line store (held numbers rows words) number o t w (held numbers′ rows words) end
   unfolding setOf
-  assigned-decimal h a e taken d decimals′ k = record {
-    concludes = λ source records entries sc. rw (h, ← e, ← (d .same Here)) (concludes-in (withDecimals (machine source integers decimals rows lengths records entries sc)) (stored decimals n (takenOf taken)) number decimals′ end k);
+  assigned-decimal h a e taken d numbers′ k = record {
+    concludes = λ source sc. rw (h, ← e, ← (d .same Here), k .below 0 99 (omega arith)) (concludes-in (withDecimals (Now source sc)) (stored (decimalsIn numbers) n (takenOf taken)) number (decimalsIn numbers′) end (k .concludes));
     held = r;
+    headings = refl;
+    tables = refl;
   }
 
-  pub assigned-string : t ≡ StringTarget n → (rows′ : List (List ℕ)) (lengths′ : List ℕ) → StoresString line store rows lengths n number w rows′ lengths′ end → Assigns line store integers decimals rows lengths number o t w integers decimals rows′ lengths′ end
+  pub assigned-string : t ≡ StringTarget n → (rows′ : List (List ℕ)) (words′ : List ℕ) → StoresString line store rows words n number w rows′ words′ end → Assigns line store (held numbers rows words) number o t w (held numbers rows′ words′) end
   unfolding setOf
-  assigned-string h rows′ lengths′ d = record {
-    concludes = λ source records entries sc. let now = machine source integers decimals rows lengths records entries sc in rw h (concludes-in (withStrings now) (stored (now .strings) n (stringNew (meant Here w))) number _ end (d .concludes));
+  assigned-string h rows′ words′ d = record {
+    concludes = λ source sc. rw (h, d .above 99 10 (omega arith), d .above 109 10 (omega arith)) (concludes-in (withStrings (Now source sc)) (stored (texts rows 0 (lengthsIn words)) n (stringNew (meant Here w))) number (texts rows′ 0 (lengthsIn words′)) end (d .concludes));
     held = d .held;
-  }
-
--- ---- the line
-
-module _ (line store index : List ℕ) (count : ℕ) (integers decimals : List ℤ) (rows : List (List ℕ)) (lengths records entries : List ℕ) (sc : Scene) (o : Operation) (t : Target) (x : Argument) (log : List ℕ) (a p : ℕ) (log′ : List ℕ) (v : Valued) (d : ArgumentValue line store index count integers decimals rows lengths records entries sc x log a p log′ v) where
-  abbrev Now : (Question → Answer) → Machine
-  Now source = machine source integers decimals rows lengths records entries sc
-
-  pub set-over : Held rows lengths → (h : Halt) (l : ℕ) → v .end ≡ Halted h l → SetsVariable line store index count integers decimals rows lengths records entries sc o t x log a p integers decimals rows lengths log′ (record { end = Halted h l; asked = v .asked })
-  unfolding setMeaning
-  set-over r h l e = record {
-    runs = value-over (strings line store rows) index count (λ source. argumentMeaning (Now source) line (sc .number) x) (sc .number) (λ source w. setOf (Now source) o t w) Now log a p log′ v (d .yields) h l e;
-    held = r;
-  }
-
-  pub set-follows : v .end ≡ Finished → (integers′ decimals′ : List ℤ) (rows′ : List (List ℕ)) (lengths′ : List ℕ) (end : Ended) → Assigns line store integers decimals rows lengths (sc .number) o t (v .worth) integers′ decimals′ rows′ lengths′ end → SetsVariable line store index count integers decimals rows lengths records entries sc o t x log a p integers′ decimals′ rows′ lengths′ log′ (record { end = end; asked = v .asked })
-  unfolding setMeaning
-  set-follows e integers′ decimals′ rows′ lengths′ end k = record {
-    runs = value-follows (strings line store rows) index count (λ source. argumentMeaning (Now source) line (sc .number) x) (sc .number) (λ source w. setOf (Now source) o t w) (λ source. machine source integers′ decimals′ rows′ lengths′ records entries sc) log a p log′ v (d .yields) end e (λ source. k .concludes source records entries sc);
-    held = k .held;
+    headings = d .above 119 9 (omega arith);
+    tables = d .above 128 20 (omega arith);
   }

@@ -1,6 +1,8 @@
-// Assignments: what $SETE, $SETA, $SETS, $SETM and $SETD do when their line runs.
+// Assignments: what $SETE, $SETA, $SETS, $SETM and $SETD do with the value of their argument.
 //
-// set::set_variable    $SETE, $SETA, $SETS, $SETM, $SETD
+// set::assigned                         $SETE, $SETA, $SETS, $SETM, $SETD
+// register::put_number, put_word        a register is set
 
+pub mod register; // register.rt: registers
 pub mod string; // string.rt: a string as SVn
 pub mod set; // set.rt: $SETE to $SETD

@@ -1,15 +1,17 @@
 // A string as the row and the length of SVn.
+use crate::register;
 use coercions::settle;
 use coercions::settle::Phrase;
 use meaning::end::Ended;
 use meaning::end::Halt;
+use questions::scene::Words;
 use strings::part;
 use values::worth::Worth;
 ghost use mathlib.Core.Path.{_≡_};
 ghost use lib.ListN.{length, take};
 ghost use lib.Seq.{sets};
 ghost use Rattle.strings.specs.inner.Texts.{zeros, cased};
-ghost use Rattle.assignments.specs.inner.Contracts.{Held, PutsString, StoresString};
+ghost use Rattle.assignments.specs.inner.Contracts.{Rowed, PutsString, StoresString};
 
 // The first 16 bytes, in upper case where the flag is set.
 fn copied(bytes: &[u8], raised: bool) -> [u8; 16]
@@ -38,9 +40,9 @@ fn count_of(bytes: &[u8]) -> usize
 }
 
 // SVn; any other stays.
-fn put(strings: &mut [[u8; 16]; 99], lengths: &mut [usize], n: usize, row: [u8; 16], count: usize)
-    requires { ⌜ Held (now strings) (now lengths) ⌝ }
-    ensures { λ _. ⌜ PutsString (now (strings .entry)) (now (lengths .entry)) n (take count row) (now (strings .exit)) (now (lengths .exit)) ⌝ }
+fn put(strings: &mut [[u8; 16]; 99], words: &mut Words, n: usize, row: [u8; 16], count: usize)
+    requires { ⌜ Rowed (now strings) ⌝ }
+    ensures { λ _. ⌜ PutsString (now (strings .entry)) (now (words .entry)) n (take count row) (now (strings .exit)) (now (words .exit)) ⌝ }
 {
     if n < 1 {
         return;
@@ -48,7 +50,7 @@ fn put(strings: &mut [[u8; 16]; 99], lengths: &mut [usize], n: usize, row: [u8; 
     let i = n - 1;
     if i < 99 {
         strings[i] = row;
-        lengths[i] = count;
+        register::put_word(words, 0, 99, n, count as u64);
     }
 }
 
@@ -57,13 +59,13 @@ pub fn stored<'a>(
     line: &'a [u8],
     store: &'a [u8],
     strings: &mut [[u8; 16]; 99],
-    lengths: &mut [usize],
+    words: &mut Words,
     n: usize,
     number: u32,
     worth: Worth,
 ) -> Ended
-    requires { ⌜ Held (now strings) (now lengths) ⌝ }
-    ensures { λ r. ⌜ StoresString (now (line .entry)) (now (store .entry)) (now (strings .entry)) (now (lengths .entry)) n number worth (now (strings .exit)) (now (lengths .exit)) r ⌝ }
+    requires { ⌜ Rowed (now strings) ⌝ }
+    ensures { λ r. ⌜ StoresString (now (line .entry)) (now (store .entry)) (now (strings .entry)) (now (words .entry)) n number worth (now (strings .exit)) (now (words .exit)) r ⌝ }
 {
     let phrase = settle::text_of(worth);
     match phrase {
@@ -73,7 +75,7 @@ pub fn stored<'a>(
             let row = part::row_for(strings, source);
             let bytes = part::bytes_of(line, store, &row, text);
             let copy = copied(bytes, text.upper);
-            put(strings, lengths, n, copy, count_of(bytes));
+            put(strings, words, n, copy, count_of(bytes));
             Ended::Finished
         }
     }

@@ -21,7 +21,7 @@ use Rattle.coercions.specs.declared.settle.Taken.the-variants.{Value, Re
 use Rattle.coercions.specs.declared.settle.Amount.the-variants as A
 use Rattle.coercions.specs.declared.settle.Phrase.the-variants as P
 use Rattle.coercions.specs.Settling.{settled, against, integerFrom, quantityFrom, stringFrom, decimalFrom, resultOf, millionthsOf}
-use Rattle.coercions.specs.inner.Contracts.{takenOf, Takes, TakesQuantity, TakesText, Concludes}
+use Rattle.coercions.specs.inner.Contracts.{takenOf, Takes, TakesQuantity, TakesText}
 
 module _ (n : Number) where
   pub result-value : (z m : ℤ) → n ≡ N.Value z → m ≡ z → settled m ≡ resultOf (outcome n)
@@ -116,11 +116,3 @@ module _ (w : Worth) where
   pub string-text : (t : Text) → w ≡ W.Text t → TakesText w (P.String t)
   unfolding stringFrom meant
   string-text t h = record { same = λ s. rw h }
-
--- how a line ends that takes a number
-module _ (t : Taken) (line : ℕ) where
-  pub taken-refused : (e : Refusal) (z : ℤ) → t ≡ Refused e → Concludes (takenOf t) line z (Halted (H.Refused e) line)
-  taken-refused e z h = record { same = rw h }
-
-  pub taken-value : (z y : ℤ) → t ≡ Value z → y ≡ z → Concludes (takenOf t) line y Finished
-  taken-value z y h e = record { same = rw (h, e) }

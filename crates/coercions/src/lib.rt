@@ -2,7 +2,5 @@
 //
 // settle::integer_of, decimal_of, quantity_of, text_of    what is taken from a value, or the refusal: 10, 11
 // settle::result_of                                       what is taken from a calculation, or the refusal: 12, 13
-// taking::integer_value                                   an integer argument: $BT, $ET, $NP
 
 pub mod settle; // settle.rt: what is taken from values
-pub mod taking; // taking.rt: integer arguments

@@ -1,16 +1,16 @@
 -- Rows of zeros, and the machine that they stand for.
-use mathlib.Core.Path.{_≡_, refl, sym, ap, ap₂, _∙_}
-use mathlib.Core.List.{List, [], _∷_, _++_, map, append-nil}
+use mathlib.Core.Path.{_≡_, refl, ap, _∙_}
+use mathlib.Core.List.{List, [], _∷_, _++_, map}
 use Prim.Native.Nat.{ℕ, zero, suc, _+_, _≤_, _<_}
 use native.Mathlib.Omega.{arith}
 use native.Mathlib.Nat.{le-antisymm}
 use native.Mathlib.Numerals.{add-one}
-use lib.ListN.{length, drop, getD, set, replicate, length-set, length-replicate, drop-of-length-le}
+use lib.ListN.{drop, getD, length, length-replicate, length-set, replicate, set, take}
 use lib.Seq.{drop-cons, set-at}
 use Rattle.meaning.specs.Answer.{Answer}
 use Rattle.meaning.specs.declared.question.Question.{Question}
 use Rattle.questions.specs.declared.fetch.Along.{Along}
-use Rattle.questions.specs.inner.State.{texts, wordsFrom, fetched}
+use Rattle.questions.specs.inner.State.{bank, texts, wordsFrom, fetched}
 
 -- The loop stands at j: so many elements of the row b are x.
 pub record Cleared {A : Type 0} (x : A) (b d : List A) (j : ℕ) : Type 0 where
@@ -38,10 +38,32 @@ module _ {A : Type 0} (x : A) (b : List A) where
       few = omega (arith, h .same);
     }
 
-    pub clear-end : length d ≤ j → d ≡ replicate (length b) x
-    clear-end l =
-        let e : length b ≡ j = le-antisymm (omega (arith, h .same)) (h .few) in
-        h .row-is ∙ ap₂ (λ (n : ℕ) (l : List A). replicate n x ++ l) (sym e) (drop-of-length-le b {i = j} (omega arith)) ∙ append-nil (replicate (length b) x)
+    pub clear-end : (n : ℕ) → n ≤ j → j ≤ n → d ≡ replicate n x ++ drop n b
+    clear-end n l k = let e : j ≡ n = le-antisymm k l in h .row-is ∙ ap (λ (i : ℕ). replicate i x ++ drop i b) e
+
+-- a part of a row that begins with zeros
+take-zeros : {A : Type 0} (x : A) (l : List A) (k n : ℕ) → k ≤ n → take k (replicate n x ++ l) ≡ replicate k x
+take-zeros x l zero n h = refl
+take-zeros x l (suc k) zero h = absurd (omega arith)
+take-zeros {A} x l (suc k) (suc n) h = ap (λ (r : List A). x ∷ r) (take-zeros x l k n (omega arith))
+
+zeros-part : {A : Type 0} (x : A) (l : List A) (i k n : ℕ) → i + k ≤ n → take k (drop i (replicate n x ++ l)) ≡ replicate k x
+zeros-part x l zero k n h = take-zeros x l k n (omega arith)
+zeros-part x l (suc i) k zero h = absurd (omega arith)
+zeros-part x l (suc i) k (suc n) h = zeros-part x l i k n (omega arith)
+
+pub zeros-bank : {A : Type 0} (x : A) (l : List A) (i k n : ℕ) → i + k ≤ n → bank i k (replicate n x ++ l) ≡ replicate k x
+unfolding bank
+zeros-bank x l i k n h = zeros-part x l i k n h
+
+drop-zeros : {A : Type 0} (x : A) (l : List A) (n : ℕ) → drop n (replicate n x ++ l) ≡ l
+drop-zeros x l zero = refl
+drop-zeros x l (suc n) = drop-zeros x l n
+
+-- what lies behind the zeros stays
+pub zeros-behind : {A : Type 0} (x : A) (l : List A) (n k : ℕ) → bank n k (replicate n x ++ drop n l) ≡ bank n k l
+unfolding bank
+zeros-behind x l n k = ap (take k) (drop-zeros x (drop n l) n)
 
 -- SV1 to SV99 of length 0 are empty.
 pub texts-cleared : (rows : List (List ℕ)) (k n : ℕ) → texts rows k (replicate n 0) ≡ replicate n []

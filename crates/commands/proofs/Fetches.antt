@@ -2,6 +2,7 @@
 use mathlib.Core.Path.{_≡_, refl, ap, _∙_}
 use mathlib.Core.List.{List, map}
 use Prim.Native.Nat.{ℕ, zero, suc}
+use native.Mathlib.Omega.{arith}
 use lib.IntN.{ℤ}
 use Rattle.buffers.proofs.Laws.{map-set}
 use Rattle.meaning.specs.Answer.{Answer}
@@ -20,25 +21,26 @@ use Rattle.questions.specs.declared.fetch.Along.the-variants.{Records, Entries}
 use Rattle.questions.specs.Machine.{Machine}
 use Rattle.questions.specs.inner.Fetch.{Fetches, FetchValue}
 use Rattle.questions.specs.Source.{answers}
-use Rattle.questions.specs.inner.State.{fetched, machine}
+use Rattle.questions.specs.inner.State.{fetched, recordsIn, entriesIn, held, machine}
 use Rattle.questions.specs.inner.Word.{questions}
 use Rattle.assignments.specs.Setting.{setNumbered}
+use Rattle.assignments.specs.inner.Contracts.{Puts}
 use Rattle.coercions.specs.inner.Contracts.{Runs}
 use Rattle.commands.specs.Fetching.{withRecords, withEntries, recordsMeaning, entriesMeaning}
 use Rattle.commands.specs.inner.Fetches.{TakesRecords, TakesEntries}
 
 -- A fetch that led to v, and the machine with what it fetched.
-module _ (b index : List ℕ) (count : ℕ) (t : (Question → Answer) → Meaning (List Answer)) (along : Along) (put : (Question → Answer) → List Answer → Machine) (after : (Question → Answer) → Machine) (log : List ℕ) (a p : ℕ) (log′ : List ℕ) (v : Fetched) (d : Fetches t along log a p log′ v) where
+module _ (b index : List ℕ) (t : (Question → Answer) → Meaning (List Answer)) (along : Along) (put : (Question → Answer) → List Answer → Machine) (after : (Question → Answer) → Machine) (log : List ℕ) (a p : ℕ) (log′ : List ℕ) (v : Fetched) (d : Fetches t along log a p log′ v) where
   abbrev Line : (Question → Answer) → Meaning Machine
   Line source = bind (t source) (λ l. done (put source l))
 
-  over : (h : Halt) (l : ℕ) → v .end ≡ Halted h l → Runs b index count Line after 64 log a p log′ (v .asked) (Halted h l)
+  over : (h : Halt) (l : ℕ) → v .end ≡ Halted h l → Runs b index Line after 64 log a p log′ (v .asked) (Halted h l)
   over h l e = record {
     does = λ n cs r text m g. then-over (λ x. done (put (answers b n) x)) (rw e at (d .does (answers b n) text m g));
     few = d .few;
   }
 
-  follows : v .end ≡ Finished → ((source : Question → Answer) → after source ≡ put source (fetched source along (v .fetched))) → Runs b index count Line after 64 log a p log′ (v .asked) Finished
+  follows : v .end ≡ Finished → ((source : Question → Answer) → after source ≡ put source (fetched source along (v .fetched))) → Runs b index Line after 64 log a p log′ (v .asked) Finished
   follows e k = record {
     does = λ n cs r text m g. let source = answers b n in rw (k source) (then-does (λ x. done (put source x)) (rw e at (d .does source text m g)) (does-done source (at text m (questions log′) (v .asked) p g) (put source (fetched source along (v .fetched)))));
     few = d .few;
@@ -50,21 +52,45 @@ unfolding setNumbered
 kept source along words zero w = refl
 kept source along words (suc n) w = map-set (fetched source along) words n w
 
-module _ (integers : List ℤ) (words : List ℕ) (sc : Scene) (f : Fetch) (log : List ℕ) (a p : ℕ) (log′ : List ℕ) (v : Fetched) where
-  module _ (d : FetchValue integers sc Records (f .parameter) (f .first) (f .second) (f .count) log a p log′ v) where
-    pub records-over : (h : Halt) (l : ℕ) → v .end ≡ Halted h l → TakesRecords integers words sc f log a p words log′ (record { end = Halted h l; asked = v .asked })
+module _ (numbers : List ℤ) (words : List ℕ) (sc : Scene) (f : Fetch) (log : List ℕ) (a p : ℕ) (log′ : List ℕ) (v : Fetched) where
+  module _ (d : FetchValue numbers sc Records (f .parameter) (f .first) (f .second) (f .count) log a p log′ v) where
+    pub records-over : (h : Halt) (l : ℕ) → v .end ≡ Halted h l → TakesRecords numbers words sc f log a p words log′ (record { end = Halted h l; asked = v .asked })
     unfolding recordsMeaning
-    records-over h l e = record { runs = λ b index count decimals rows lengths entries. let now : (Question → Answer) → Machine = λ source. machine source integers decimals rows lengths words entries sc in over b index count _ Records (λ source x. withRecords (now source) (setNumbered (now source .records) (f .number) x)) now log a p log′ v (d .fetches decimals rows lengths words entries) h l e }
+    records-over h l e = record {
+      takes = record {
+        runs = λ b index rows. let now : (Question → Answer) → Machine = λ source. machine source (held numbers rows words) sc in over b index _ Records (λ source x. withRecords (now source) (setNumbered (now source .records) (f .number) x)) now log a p log′ v (d .fetches rows words) h l e;
+        headings = refl;
+        tables = refl;
+      };
+    }
 
-    pub records-follow : (words′ : List ℕ) → v .end ≡ Finished → words′ ≡ setNumbered words (f .number) (v .fetched) → TakesRecords integers words sc f log a p words′ log′ (record { end = Finished; asked = v .asked })
+    pub records-follow : (words′ : List ℕ) → v .end ≡ Finished → Puts words 99 10 (f .number) (v .fetched) words′ → TakesRecords numbers words sc f log a p words′ log′ (record { end = Finished; asked = v .asked })
     unfolding recordsMeaning
-    records-follow words′ e k = record { runs = λ b index count decimals rows lengths entries. let now : (Question → Answer) → Machine = λ source. machine source integers decimals rows lengths words entries sc in follows b index count _ Records (λ source x. withRecords (now source) (setNumbered (now source .records) (f .number) x)) (λ source. machine source integers decimals rows lengths words′ entries sc) log a p log′ v (d .fetches decimals rows lengths words entries) e (λ source. ap (withRecords (now source)) (ap (map (fetched source Records)) k ∙ kept source Records words (f .number) (v .fetched))) }
+    records-follow words′ e k = record {
+      takes = record {
+        runs = λ b index rows. let now : (Question → Answer) → Machine = λ source. machine source (held numbers rows words) sc in follows b index _ Records (λ source x. withRecords (now source) (setNumbered (now source .records) (f .number) x)) (λ source. machine source (held numbers rows words′) sc) log a p log′ v (d .fetches rows words) e (λ source. rw (k .below 0 99 (omega arith), k .above 109 10 (omega arith)) (ap (withRecords (now source)) (ap (map (fetched source Records)) (k .own) ∙ kept source Records (recordsIn words) (f .number) (v .fetched))));
+        headings = k .above 119 9 (omega arith);
+        tables = k .above 128 20 (omega arith);
+      };
+    }
 
-  module _ (d : FetchValue integers sc Entries (f .parameter) (f .first) (f .second) (f .count) log a p log′ v) where
-    pub entries-over : (h : Halt) (l : ℕ) → v .end ≡ Halted h l → TakesEntries integers words sc f log a p words log′ (record { end = Halted h l; asked = v .asked })
+  module _ (d : FetchValue numbers sc Entries (f .parameter) (f .first) (f .second) (f .count) log a p log′ v) where
+    pub entries-over : (h : Halt) (l : ℕ) → v .end ≡ Halted h l → TakesEntries numbers words sc f log a p words log′ (record { end = Halted h l; asked = v .asked })
     unfolding entriesMeaning
-    entries-over h l e = record { runs = λ b index count decimals rows lengths records. let now : (Question → Answer) → Machine = λ source. machine source integers decimals rows lengths records words sc in over b index count _ Entries (λ source x. withEntries (now source) (setNumbered (now source .entries) (f .number) x)) now log a p log′ v (d .fetches decimals rows lengths records words) h l e }
+    entries-over h l e = record {
+      takes = record {
+        runs = λ b index rows. let now : (Question → Answer) → Machine = λ source. machine source (held numbers rows words) sc in over b index _ Entries (λ source x. withEntries (now source) (setNumbered (now source .entries) (f .number) x)) now log a p log′ v (d .fetches rows words) h l e;
+        headings = refl;
+        tables = refl;
+      };
+    }
 
-    pub entries-follow : (words′ : List ℕ) → v .end ≡ Finished → words′ ≡ setNumbered words (f .number) (v .fetched) → TakesEntries integers words sc f log a p words′ log′ (record { end = Finished; asked = v .asked })
+    pub entries-follow : (words′ : List ℕ) → v .end ≡ Finished → Puts words 109 10 (f .number) (v .fetched) words′ → TakesEntries numbers words sc f log a p words′ log′ (record { end = Finished; asked = v .asked })
     unfolding entriesMeaning
-    entries-follow words′ e k = record { runs = λ b index count decimals rows lengths records. let now : (Question → Answer) → Machine = λ source. machine source integers decimals rows lengths records words sc in follows b index count _ Entries (λ source x. withEntries (now source) (setNumbered (now source .entries) (f .number) x)) (λ source. machine source integers decimals rows lengths records words′ sc) log a p log′ v (d .fetches decimals rows lengths records words) e (λ source. ap (withEntries (now source)) (ap (map (fetched source Entries)) k ∙ kept source Entries words (f .number) (v .fetched))) }
+    entries-follow words′ e k = record {
+      takes = record {
+        runs = λ b index rows. let now : (Question → Answer) → Machine = λ source. machine source (held numbers rows words) sc in follows b index _ Entries (λ source x. withEntries (now source) (setNumbered (now source .entries) (f .number) x)) (λ source. machine source (held numbers rows words′) sc) log a p log′ v (d .fetches rows words) e (λ source. rw (k .below 0 99 (omega arith), k .below 99 10 (omega arith)) (ap (withEntries (now source)) (ap (map (fetched source Entries)) (k .own) ∙ kept source Entries (entriesIn words) (f .number) (v .fetched))));
+        headings = k .above 119 9 (omega arith);
+        tables = k .above 128 20 (omega arith);
+      };
+    }

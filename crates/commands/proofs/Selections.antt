@@ -13,11 +13,11 @@ use Rattle.meaning.specs.declared.end.Ended.the-variants.{Finished, Halted}
 use Rattle.arguments.specs.declared.index.Index.{Index}
 use Rattle.questions.specs.declared.scene.Scene.{Scene}
 use Rattle.questions.specs.Indexes.{indexNumber}
+use Rattle.questions.specs.inner.State.{integersIn}
 use Rattle.questions.specs.inner.Hearing.{placeOf}
 use Rattle.coercions.specs.Settling.{Settled, settled, against}
-use Rattle.commands.specs.Selecting.{datasourceFrom, datasourceMeaning}
+use Rattle.commands.specs.Selecting.{datasourceFrom}
 use Rattle.commands.specs.inner.Selects.{Selects}
-use Rattle.coercions.proofs.Running.{runs-still}
 
 -- the same by a number from 0 to 999, or 1000
 fromPlace : ℕ → Settled ℕ
@@ -32,29 +32,28 @@ from-place (pos k) = by (leb k 999) refl
     by true e = refl
     by false e = let h : 999 < k = leb-false k 999 e in rw (le-leb 1 k (omega arith), lt-leb k 35 (omega arith))
 
-module _ (integers : List ℤ) (sc : Scene) (i : Index) (n : ℕ) (z : ℤ) (t : z ≡ sc .turn) (e : n ≡ placeOf (indexNumber integers z i)) where
-  from-index : datasourceFrom (indexNumber integers (sc .turn) i) ≡ fromPlace n
-  from-index = rw (e, t) (from-place (indexNumber integers (sc .turn) i))
+module _ (numbers : List ℤ) (sc : Scene) (i : Index) (n : ℕ) (z : ℤ) (t : z ≡ sc .turn) (e : n ≡ placeOf (indexNumber (integersIn numbers) z i)) where
+  from-index : datasourceFrom (indexNumber (integersIn numbers) (sc .turn) i) ≡ fromPlace n
+  from-index = rw (e, t) (from-place (indexNumber (integersIn numbers) (sc .turn) i))
 
-  concludes-out : fromPlace n ≡ against BadIndex → Selects integers sc i (record { end = Halted (Refused BadIndex) (sc .number); datasource = sc .datasource })
-  unfolding datasourceMeaning
+  concludes-out : fromPlace n ≡ against BadIndex → Selects numbers sc i (record { end = Halted (Refused BadIndex) (sc .number); datasource = sc .datasource })
   concludes-out h = record {
-    runs = λ b index count decimals rows lengths records entries log a p. runs-still b index count (sc .number) 0 (datasourceFrom (indexNumber integers (sc .turn) i)) (sc .datasource) log a p (Halted (Refused BadIndex) (sc .number)) (record { same = rw (from-index ∙ h) });
+    concludes = record { same = rw (from-index ∙ h) };
     kept = λ h l k. refl;
   }
 
-  pub select-low : n < 1 → Selects integers sc i (record { end = Halted (Refused BadIndex) (sc .number); datasource = sc .datasource })
+  pub select-low : n < 1 → Selects numbers sc i (record { end = Halted (Refused BadIndex) (sc .number); datasource = sc .datasource })
   unfolding fromPlace
   select-low h = concludes-out (rw (lt-leb 1 n h))
 
-  pub select-high : 1 ≤ n → 35 < n → Selects integers sc i (record { end = Halted (Refused BadIndex) (sc .number); datasource = sc .datasource })
+  pub select-high : 1 ≤ n → 35 < n → Selects numbers sc i (record { end = Halted (Refused BadIndex) (sc .number); datasource = sc .datasource })
   unfolding fromPlace
   select-high h k = concludes-out (rw (le-leb 1 n h, lt-leb n 35 k))
 
-  pub select-in : 1 ≤ n → n ≤ 35 → Selects integers sc i (record { end = Finished; datasource = n })
-  unfolding datasourceMeaning fromPlace
+  pub select-in : 1 ≤ n → n ≤ 35 → Selects numbers sc i (record { end = Finished; datasource = n })
+  unfolding fromPlace
   select-in h k = record {
-    runs = λ b index count decimals rows lengths records entries log a p. runs-still b index count (sc .number) 0 (datasourceFrom (indexNumber integers (sc .turn) i)) n log a p Finished (record { same = rw (from-index ∙ in-limits) });
+    concludes = (record { same = rw (from-index ∙ in-limits) });
     kept = λ g l j. let f : _≡_ {A = ℕ} 0 1 = cc in absurd (omega (arith, f));
   }
     where

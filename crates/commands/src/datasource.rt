@@ -4,6 +4,7 @@ use meaning::end::Ended;
 use meaning::end::Halt;
 use meaning::refusal::Refusal;
 use questions::scene;
+use questions::scene::Numbers;
 use questions::scene::Scene;
 ghost use Rattle.commands.specs.inner.Selects.{Selects};
 
@@ -14,10 +15,10 @@ pub struct Selected {
 }
 
 // 8: "a $SETDS number outside 1–35"
-pub fn select(i: Index, scene: Scene, integers: &[i64]) -> Selected
-    ensures { λ r. ⌜ Selects (now (integers .entry)) scene i r ⌝ }
+pub fn select(i: Index, scene: Scene, numbers: &Numbers) -> Selected
+    ensures { λ r. ⌜ Selects (now (numbers .entry)) scene i r ⌝ }
 {
-    let n = scene::index_place(i, scene.turn, integers);
+    let n = scene::index_place(i, scene.turn, numbers);
     if n < 1 {
         return Selected {
             end: Ended::Halted(Halt::Refused(Refusal::BadIndex), scene.number),

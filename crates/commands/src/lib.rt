@@ -2,7 +2,7 @@
 //
 // fetching::fetch_records, fetch_entries     $REC, $TBL
 // datasource::select                         $SETDS
-// clear::numbers, words, lengths             what a $SEC sets to 0
+// clear::numbers, words                      what a $SEC sets to 0
 
 pub mod fetching; // fetching.rt: $REC and $TBL
 pub mod datasource; // datasource.rt: $SETDS

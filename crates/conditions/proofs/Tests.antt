@@ -1,48 +1,30 @@
 -- Tests: one law for each return of the code.
 use mathlib.Core.Path.{_≡_, refl, sym, ap, _∙_}
 use mathlib.Core.Bool.{Bool, true, false, not, false≢true}
-use mathlib.Core.List.{List}
-use Prim.Native.Nat.{ℕ, _+_, _≤_}
-use native.Mathlib.Omega.{arith}
-use lib.IntN.{ℤ}
-use Rattle.meaning.specs.Answer.{Answer}
-use Rattle.meaning.specs.Meaning.{Meaning}
-use Rattle.meaning.specs.declared.question.Question.{Question}
 use Rattle.meaning.specs.declared.refusal.Refusal.{Refusal}
 use Rattle.meaning.specs.declared.refusal.Refusal.the-variants as R
-use Rattle.meaning.specs.declared.end.Halt.{Halt}
-use Rattle.meaning.specs.declared.end.Halt.the-variants as H
-use Rattle.meaning.specs.declared.end.Ended.the-variants.{Finished, Halted}
 use Rattle.numbers.specs.declared.Quantity.{Quantity}
 use Rattle.numbers.specs.Order.{isZero}
-use Rattle.arguments.specs.declared.argument.Argument.{Argument}
 use Rattle.lines.specs.declared.command.Comparison.{Comparison}
 use Rattle.lines.specs.declared.command.Comparison.the-variants.{SameString, SameLetters, Equal, NotEqual, Less, AtMost, Greater, AtLeast}
 use Rattle.strings.specs.declared.part.Text.{Text}
 use Rattle.strings.specs.Letters.{equalStrings}
 use Rattle.strings.specs.inner.Texts.{Strings, strings, textOf}
-use Rattle.questions.specs.declared.scene.Scene.{Scene}
-use Rattle.questions.specs.inner.State.{machine}
-use Rattle.questions.specs.inner.Hearing.{Askable}
 use Rattle.values.specs.declared.worth.Worth.{Worth}
 use Rattle.values.specs.declared.worth.Worth.the-variants as W
-use Rattle.values.specs.declared.worth.Valued.{Valued}
 use Rattle.values.specs.Worth as D
-use Rattle.values.specs.Meanings.{argumentMeaning}
-use Rattle.values.specs.inner.Yielding.{meant, ArgumentValue}
+use Rattle.values.specs.inner.Yielding.{meant}
 use Rattle.coercions.specs.declared.settle.Amount.{Amount}
 use Rattle.coercions.specs.declared.settle.Amount.the-variants.{Number, NoNumber}
 use Rattle.coercions.specs.declared.settle.Phrase.{Phrase}
 use Rattle.coercions.specs.declared.settle.Phrase.the-variants.{String, NoString}
 use Rattle.conditions.specs.declared.test.Judged.{Judged}
 use Rattle.conditions.specs.declared.test.Judged.the-variants.{Holds, Refused}
-use Rattle.conditions.specs.declared.test.Tested.{Tested}
 use Rattle.coercions.specs.Settling.{settled, against}
-use Rattle.conditions.specs.Testing.{zeroTest, zeroJudged, ofNumbers, ofStrings, judged, isMissing, compared, zeroMeaning, testMeaning}
+use Rattle.conditions.specs.Testing.{zeroTest, zeroJudged, ofNumbers, ofStrings, judged, isMissing, compared}
 use Rattle.conditions.specs.inner.Kinds.{textual, ignoring, numbersHold}
-use Rattle.conditions.specs.inner.Contracts.{judgedOf, Lacks, JudgesNumbers, JudgesZero, TestsZero, Tests}
-use Rattle.coercions.specs.inner.Contracts.{TakesQuantity, TakesText, Concludes}
-use Rattle.coercions.proofs.Running.{value-over, value-follows, first-over, second-over, both-follow}
+use Rattle.conditions.specs.inner.Contracts.{judgedOf, Lacks, JudgesNumbers, JudgesZero}
+use Rattle.coercions.specs.inner.Contracts.{TakesQuantity, TakesText}
 
 -- ---- whether a value is missing
 
@@ -152,45 +134,3 @@ module _ (zero : Bool) (q : Quantity) (r : Bool) (e : r ≡ isZero q) where
   pub other-wanted : zero ≡ false → not r ≡ zeroTest zero q
   unfolding zeroTest
   other-wanted h = rw h (ap not e)
-
-module _ (j : Judged) (line : ℕ) where
-  pub judged-refused : (e : Refusal) (holds : Bool) → j ≡ Refused e → Concludes (judgedOf j) line holds (Halted (H.Refused e) line)
-  judged-refused e holds h = record { same = rw h }
-
-  pub judged-holds : (b : Bool) → j ≡ Holds b → Concludes (judgedOf j) line b Finished
-  judged-holds b h = record { same = rw h }
-
-pub askable-next : (d k p a b : ℕ) → Askable d k p (a + 1) → b ≤ a + 1 → Askable d k p b
-askable-next d k p a b h l = record { datasource = h .datasource; kinds = h .kinds; parameter = h .parameter; place = omega (arith, h .place) }
-
--- ---- lines
-
-module _ (line store index : List ℕ) (count : ℕ) (integers decimals : List ℤ) (rows : List (List ℕ)) (lengths records entries : List ℕ) (sc : Scene) (x : Argument) (log : List ℕ) (a p : ℕ) (log′ : List ℕ) (v : Valued) (d : ArgumentValue line store index count integers decimals rows lengths records entries sc x log a p log′ v) where
-  abbrev Worths : Argument → (Question → Answer) → Meaning D.Worth
-  Worths y source = argumentMeaning (machine source integers decimals rows lengths records entries sc) line (sc .number) y
-
-  abbrev Here : Strings
-  Here = strings line store rows
-
-  module _ (zero : Bool) where
-    pub zero-over : (h : Halt) (l : ℕ) (holds : Bool) → v .end ≡ Halted h l → TestsZero line store index count integers decimals rows lengths records entries sc zero x log a p log′ (record { end = Halted h l; holds = holds; asked = v .asked })
-    unfolding zeroMeaning
-    zero-over h l holds e = record { runs = value-over Here index count (Worths x) (sc .number) (λ source w. zeroJudged zero w) (λ source. holds) log a p log′ v (d .yields) h l e }
-
-    pub zero-follows : v .end ≡ Finished → (j : Judged) → JudgesZero zero (v .worth) j → (r : Tested) → Concludes (judgedOf j) (sc .number) (r .holds) (r .end) → r .asked ≡ v .asked → TestsZero line store index count integers decimals rows lengths records entries sc zero x log a p log′ r
-    unfolding zeroMeaning
-    zero-follows e j k r g i = record { runs = rw i (value-follows Here index count (Worths x) (sc .number) (λ source w. zeroJudged zero w) (λ source. r .holds) log a p log′ v (d .yields) (r .end) e (λ source. rw (k .same Here) at g)) }
-
-  module _ (c : Comparison) (y : Argument) where
-    pub compare-over : (h : Halt) (l : ℕ) (holds : Bool) → v .end ≡ Halted h l → Tests line store index count integers decimals rows lengths records entries sc c x y log a p log′ (record { end = Halted h l; holds = holds; asked = v .asked })
-    unfolding testMeaning
-    compare-over h l holds e = record { runs = first-over Here index count (Worths x) (Worths y) (sc .number) (compared c) holds log a p log′ v (d .yields) h l e }
-
-    module _ (e : v .end ≡ Finished) (log″ : List ℕ) (w : Valued) (d′ : ArgumentValue line store index count integers decimals rows lengths records entries sc y log′ (v .asked) p log″ w) where
-      pub compare-over-second : (h : Halt) (l : ℕ) (holds : Bool) → w .end ≡ Halted h l → Tests line store index count integers decimals rows lengths records entries sc c x y log a p log″ (record { end = Halted h l; holds = holds; asked = w .asked })
-      unfolding testMeaning
-      compare-over-second h l holds e′ = record { runs = second-over Here index count (Worths x) (Worths y) (sc .number) (compared c) holds log a p log′ v (d .yields) e log″ w (d′ .yields) h l e′ }
-
-      pub compare-follows : w .end ≡ Finished → (j : Judged) → judgedOf j ≡ compared c (meant Here (v .worth)) (meant Here (w .worth)) → (r : Tested) → Concludes (judgedOf j) (sc .number) (r .holds) (r .end) → r .asked ≡ w .asked → Tests line store index count integers decimals rows lengths records entries sc c x y log a p log″ r
-      unfolding testMeaning
-      compare-follows e′ j k r g i = record { runs = rw i (both-follow Here index count (Worths x) (Worths y) (sc .number) (compared c) (r .holds) log a p log′ v (d .yields) e log″ w (d′ .yields) (r .end) e′ (rw k at g)) }

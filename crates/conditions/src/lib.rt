@@ -1,4 +1,4 @@
-// Conditions: whether the test of a line holds when it runs.
+// Conditions: whether a test holds of the values of its arguments.
 //
 // test::if_zero    $IF, $IFNOT
 // test::compare    $IFEQ to $IFGE, $IFEQSS, $IFEQSI

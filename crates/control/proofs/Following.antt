@@ -1,7 +1,7 @@
 -- Where the run goes on behind a command, one law for each return of arms.rt.
 use mathlib.Core.Path.{_≡_, refl, sym, ap, _∙_}
 use mathlib.Core.Bool.{Bool, true, false, false≢true}
-use mathlib.Core.List.{List, [], _∷_}
+use mathlib.Core.List.{List, []}
 use Prim.Native.Nat.{ℕ, zero, suc, _+_, _-_, _≤_, _<_}
 use native.Mathlib.Omega.{arith}
 use native.Mathlib.Nat.{add-zero}
@@ -15,14 +15,22 @@ use Rattle.shapes.specs.declared.seek.Skip.{Skip}
 use Rattle.shapes.specs.Lines.{linesWithin, linesOf}
 use Rattle.shapes.specs.Seek.{atMost, skipFrom, skipped}
 use Rattle.template.proofs.Reach.{found-inside, part-skip}
+use Rattle.meaning.specs.declared.refusal.Refusal.{Refusal}
 use Rattle.meaning.specs.declared.end.Halt.{Halt}
+use Rattle.meaning.specs.declared.end.Halt.the-variants.{Refused}
 use Rattle.meaning.specs.declared.end.Ended.{Ended}
 use Rattle.meaning.specs.declared.end.Ended.the-variants.{Finished, Halted}
 use Rattle.questions.specs.declared.scene.Scene.{Scene}
 use Rattle.tables.specs.declared.table.Looped.{Looped}
-use Rattle.coercions.specs.declared.taking.Counted.{Counted}
+use Rattle.coercions.specs.declared.settle.Taken.{Taken}
+use Rattle.coercions.specs.declared.settle.Taken.the-variants as K
+use Rattle.conditions.specs.declared.test.Judged.{Judged}
+use Rattle.conditions.specs.declared.test.Judged.the-variants as J
+use Rattle.conditions.specs.inner.Contracts.{judgedOf}
+use Rattle.questions.specs.inner.State.{headingsIn}
+use Rattle.assignments.specs.inner.Contracts.{Puts}
 use Rattle.tables.specs.Looping.{loop}
-use Rattle.tables.specs.inner.Open.{openOf}
+use Rattle.tables.specs.inner.Open.{opened}
 use Rattle.assignments.specs.Setting.{setNumbered}
 use Rattle.pages.specs.declared.heading.Heading.{Heading}
 use Rattle.pages.specs.declared.page.Turned.{Turned}
@@ -30,13 +38,13 @@ use Rattle.pages.specs.inner.Packed.{headingIn, headingsOf}
 use Rattle.pages.specs.inner.Paging.{Breaks}
 use Rattle.control.specs.declared.state.Flow.{Flow}
 use Rattle.control.specs.declared.state.Lined.{Lined}
-use Rattle.control.specs.inner.Going.{endedIn, sceneOf, placedAt, pageIn, tablesIn, jumpedIn, againIn}
-use Rattle.control.specs.inner.Arms.{Jumpable, Follows, branchedIn, begunIn, overIn, Heads, BreaksLine, PagesLine}
+use Rattle.control.specs.inner.Going.{endedIn, sceneOf, placedAt, pageIn, depthIn, jumpedIn, againIn}
+use Rattle.control.specs.inner.Arms.{Jumpable, Follows, settledIn, branchedIn, begunIn, overIn, Heads, BreaksLine, PagesLine}
 
 -- ---- the flow
 
-pub scene-is : (f : Flow) (n : ℕ) (z : ℤ) → z ≡ pos (loop (openOf (f .tables))) → _≡_ {A = Scene} (record { datasource = f .datasource; page = f .page .number; row = f .page .line; number = n; turn = z }) (sceneOf f n)
-scene-is f n z e = ap (λ (x : ℤ). record { datasource = f .datasource; page = f .page .number; row = f .page .line; number = n; turn = x }) e
+pub scene-is : (ws : List ℕ) (f : Flow) (n : ℕ) (z : ℤ) → z ≡ pos (loop (opened ws (f .depth))) → _≡_ {A = Scene} (record { datasource = f .datasource; page = f .page .number; row = f .page .line; number = n; turn = z }) (sceneOf ws f n)
+scene-is ws f n z e = ap (λ (x : ℤ). record { datasource = f .datasource; page = f .page .number; row = f .page .line; number = n; turn = x }) e
 
 skip-none : (q : Sought) → skipped [] q ≡ record { bytes = 0; lines = 0 }
 unfolding skipped atMost skipFrom linesOf linesWithin
@@ -65,82 +73,72 @@ follows-halted end f f′ u a h l e = record { end-same = refl; printed = refl; 
 pub follows-went : (end : Ended) (f f′ g : Flow) (u a : ℕ) (r : Lined) → end ≡ Finished → g ≡ f′ → f′ .page ≡ f .page → r ≡ endedIn Finished g u a → Follows end f f′ u a r
 follows-went end f f′ g u a r e q p i = rw (i, e, q) (record { end-same = refl; printed = refl; asked = refl; page = p; goes = λ _. refl })
 
-module _ (t : List ℕ) (f : Flow) (u a : ℕ) (r : Lined) (end : Ended) (e : end ≡ Finished) where
-  pub branch-holds : (holds : Bool) → holds ≡ true → r ≡ endedIn Finished f u a → Follows end f (branchedIn t f holds) u a r
-  branch-holds holds b i = rw b (follows-went end f f f u a r e refl refl i)
+pub branch-refused : (t : List ℕ) (l : ℕ) (f : Flow) (u a : ℕ) (x : Judged) (e : Refusal) → x ≡ J.Refused e → endedIn (Halted (Refused e) l) f u a ≡ settledIn l f u a (branchedIn t f) (judgedOf x)
+branch-refused t l f u a x e h = rw h
 
-  pub branch-fails : (holds : Bool) (g : Flow) → holds ≡ false → g ≡ jumpedIn t f Branch → r ≡ endedIn Finished g u a → Follows end f (branchedIn t f holds) u a r
-  branch-fails holds g b q i = rw b (follows-went end f (jumpedIn t f Branch) g u a r e q refl i)
+module _ (t : List ℕ) (l : ℕ) (f : Flow) (u a : ℕ) (r : Lined) (x : Judged) where
+  pub branch-holds : (holds : Bool) → x ≡ J.Holds holds → holds ≡ true → r ≡ endedIn Finished f u a → r ≡ settledIn l f u a (branchedIn t f) (judgedOf x)
+  branch-holds holds h b i = rw (h, b) i
 
-module _ (t : List ℕ) (f : Flow) (u : ℕ) (r : Lined) (x : Looped) (e : x .end ≡ Finished) where
-  pub begun-skipped : (g : Flow) → x .jumps ≡ true → g ≡ jumpedIn t f TableEnd → r ≡ endedIn Finished g u (x .asked) → Follows (x .end) f (begunIn t f x) u (x .asked) r
-  begun-skipped g b q i = rw b (follows-went (x .end) f (jumpedIn t f TableEnd) g u (x .asked) r e q refl i)
+  pub branch-fails : (holds : Bool) (g : Flow) → x ≡ J.Holds holds → holds ≡ false → g ≡ jumpedIn t f Branch → r ≡ endedIn Finished g u a → r ≡ settledIn l f u a (branchedIn t f) (judgedOf x)
+  branch-fails holds g h b q i = rw (h, b) (i ∙ ap (λ (y : Flow). endedIn Finished y u a) q)
 
-  pub begun-opened : (g : Flow) → x .jumps ≡ false → g ≡ tablesIn f (x .tables) → r ≡ endedIn Finished g u (x .asked) → Follows (x .end) f (begunIn t f x) u (x .asked) r
-  begun-opened g b q i = rw b (follows-went (x .end) f (tablesIn f (x .tables)) g u (x .asked) r e q refl i)
+module _ (t : List ℕ) (f : Flow) (u a : ℕ) (r : Lined) (x : Looped) (e : x .end ≡ Finished) where
+  pub begun-skipped : (g : Flow) → x .jumps ≡ true → g ≡ jumpedIn t f TableEnd → r ≡ endedIn Finished g u a → Follows (x .end) f (begunIn t f x) u a r
+  begun-skipped g b q i = rw b (follows-went (x .end) f (jumpedIn t f TableEnd) g u a r e q refl i)
 
-module _ (f : Flow) (u : ℕ) (r : Lined) (x : Looped) (e : x .end ≡ Finished) where
-  pub over-again : (g g′ : Flow) → x .jumps ≡ true → g ≡ tablesIn f (x .tables) → g′ ≡ againIn g → r ≡ endedIn Finished g′ u (x .asked) → Follows (x .end) f (overIn f x) u (x .asked) r
-  over-again g g′ b q k i = rw b (follows-went (x .end) f (againIn (tablesIn f (x .tables))) g′ u (x .asked) r e (k ∙ ap againIn q) refl i)
+  pub begun-opened : (g : Flow) → x .jumps ≡ false → g ≡ depthIn f (x .depth) → r ≡ endedIn Finished g u a → Follows (x .end) f (begunIn t f x) u a r
+  begun-opened g b q i = rw b (follows-went (x .end) f (depthIn f (x .depth)) g u a r e q refl i)
 
-  pub over-ended : (g : Flow) → x .jumps ≡ false → g ≡ tablesIn f (x .tables) → r ≡ endedIn Finished g u (x .asked) → Follows (x .end) f (overIn f x) u (x .asked) r
-  over-ended g b q i = rw b (follows-went (x .end) f (tablesIn f (x .tables)) g u (x .asked) r e q refl i)
+module _ (ws : List ℕ) (f : Flow) (u a : ℕ) (r : Lined) (x : Looped) (e : x .end ≡ Finished) where
+  pub over-again : (g g′ : Flow) → x .jumps ≡ true → g ≡ depthIn f (x .depth) → g′ ≡ againIn ws g → r ≡ endedIn Finished g′ u a → Follows (x .end) f (overIn ws f x) u a r
+  over-again g g′ b q k i = rw b (follows-went (x .end) f (againIn ws (depthIn f (x .depth))) g′ u a r e (k ∙ ap (againIn ws) q) refl i)
+
+  pub over-ended : (g : Flow) → x .jumps ≡ false → g ≡ depthIn f (x .depth) → r ≡ endedIn Finished g u a → Follows (x .end) f (overIn ws f x) u a r
+  over-ended g b q i = rw b (follows-went (x .end) f (depthIn f (x .depth)) g u a r e q refl i)
 
 -- ---- a break, and $NP
 
 pub break-line : (l : ℕ) (f g : Flow) (T : List ℕ) (u a : ℕ) (T′ : List ℕ) (x : Turned) → Breaks l (f .feeds) (f .page) T u T′ x → g ≡ pageIn f (x .page) → BreaksLine l f T u a T′ (endedIn (x .end) g (x .printed) a)
 break-line l f g T u a T′ x d q = rw q (record { does = d .does; flow = refl; asked = refl; kept = d .kept })
 
-module _ (v : Counted) (l : ℕ) (f : Flow) (T : List ℕ) (u : ℕ) where
-  pub page-refused : (h : Halt) (k : ℕ) → v .end ≡ Halted h k → PagesLine v l f T u T (endedIn (v .end) f u (v .asked))
-  page-refused h k e = record {
-    refused = λ _ _ _. (refl, refl);
-    stays = λ q. absurd (let z : _≡_ {A = ℕ} 0 1 = cc in omega arith);
-    breaks = λ q. absurd (let z : _≡_ {A = ℕ} 0 1 = cc in omega arith);
+module _ (t : Taken) (l : ℕ) (f : Flow) (T : List ℕ) (u a : ℕ) where
+  pub page-refused : (e : Refusal) → t ≡ K.Refused e → PagesLine t l f T u a T (endedIn (Halted (Refused e) l) f u a)
+  page-refused e h = record {
+    refused = λ x q. let g : x ≡ e = cc in rw g (refl, refl);
+    stays = λ z q. absurd (let z : _≡_ {A = ℕ} 0 1 = cc in omega arith);
+    breaks = λ z q. absurd (let z : _≡_ {A = ℕ} 0 1 = cc in omega arith);
     kept = refl;
   }
 
-  module _ (e : v .end ≡ Finished) (b : Bool) (i : b ≡ ltZ (pos (61 - f .page .line)) (v .value)) where
-    pub page-stays : (r : Lined) → b ≡ false → r ≡ endedIn Finished f u (v .asked) → PagesLine v l f T u T r
-    page-stays r n q = record {
-      refused = λ h k x. absurd (let z : _≡_ {A = ℕ} 0 1 = cc in omega arith);
-      stays = λ _ _. (q, refl);
-      breaks = λ _ x. absurd (false≢true (sym n ∙ i ∙ x));
+  module _ (n : ℤ) (e : t ≡ K.Value n) (b : Bool) (i : b ≡ ltZ (pos (61 - f .page .line)) n) where
+    pub page-stays : (r : Lined) → b ≡ false → r ≡ endedIn Finished f u a → PagesLine t l f T u a T r
+    page-stays r g q = record {
+      refused = λ z x. absurd (let z : _≡_ {A = ℕ} 0 1 = cc in omega arith);
+      stays = λ _ _ _. (q, refl);
+      breaks = λ z x y. let w : z ≡ n = cc in absurd (false≢true (sym g ∙ i ∙ ap (ltZ (pos (61 - f .page .line))) (sym w) ∙ y));
       kept = refl;
     }
 
-    pub page-breaks : (T′ : List ℕ) (r : Lined) → b ≡ true → BreaksLine l f T u (v .asked) T′ r → PagesLine v l f T u T′ r
-    page-breaks T′ r n d = record {
-      refused = λ h k x. absurd (let z : _≡_ {A = ℕ} 0 1 = cc in omega arith);
-      stays = λ _ x. absurd (false≢true (sym x ∙ sym i ∙ n));
-      breaks = λ _ _. d;
+    pub page-breaks : (T′ : List ℕ) (r : Lined) → b ≡ true → BreaksLine l f T u a T′ r → PagesLine t l f T u a T′ r
+    page-breaks T′ r g d = record {
+      refused = λ z x. absurd (let z : _≡_ {A = ℕ} 0 1 = cc in omega arith);
+      stays = λ z x y. let w : z ≡ n = cc in absurd (false≢true (sym y ∙ ap (ltZ (pos (61 - f .page .line))) w ∙ sym i ∙ g));
+      breaks = λ _ _ _. d;
       kept = d .kept;
     }
 
 -- ---- headings
-
-pub numbered-none : {A : Type 0} (l : List A) (n : ℕ) (x : A) → n < 1 → l ≡ setNumbered l n x
-unfolding setNumbered
-numbered-none l zero x h = refl
-numbered-none l (suc k) x h = absurd (omega arith)
-
-pub numbered-inside : {A : Type 0} (l : List A) (n : ℕ) (x : A) → 1 ≤ n → set l (n - 1) x ≡ setNumbered l n x
-unfolding setNumbered
-numbered-inside l zero x h = absurd (omega arith)
-numbered-inside l (suc k) x h = let e : suc k - 1 ≡ k = omega arith in ap (λ (i : ℕ). set l i x) e
-
-set-outside : {A : Type 0} (l : List A) (k : ℕ) (x : A) → length l ≤ k → l ≡ set l k x
-set-outside [] k x h = refl
-set-outside (y ∷ l) zero x h = absurd (omega arith)
-set-outside (y ∷ l) (suc k) x h = ap (λ z. y ∷ z) (set-outside l k x (omega arith))
-
-pub numbered-outside : {A : Type 0} (l : List A) (n : ℕ) (x : A) → 1 ≤ n → length l ≤ n - 1 → l ≡ setNumbered l n x
-numbered-outside l n x h k = set-outside l (n - 1) x k ∙ numbered-inside l n x h
 
 numbered-map : (ws : List ℕ) (n w : ℕ) → headingsOf (setNumbered ws n w) ≡ setNumbered (headingsOf ws) n (headingIn w)
 unfolding setNumbered
 numbered-map ws zero w = refl
 numbered-map ws (suc k) w = map-set headingIn ws k w
 
-pub heads : (ws ws′ : List ℕ) (n w : ℕ) (h : Heading) (f : Flow) (u a : ℕ) (r : Lined) → headingIn w ≡ h → ws′ ≡ setNumbered ws n w → r ≡ endedIn Finished f u a → Heads ws n h f u a ws′ r
-heads ws ws′ n w h f u a r e q i = record { set = ap headingsOf q ∙ numbered-map ws n w ∙ ap (setNumbered (headingsOf ws) n) e; went = i }
+pub heads : (ws ws′ : List ℕ) (n w : ℕ) (h : Heading) (f : Flow) (u a : ℕ) (r : Lined) → headingIn w ≡ h → Puts ws 119 9 n w ws′ → r ≡ endedIn Finished f u a → Heads ws n h f u a ws′ r
+heads ws ws′ n w h f u a r e q i = record {
+  set = ap headingsOf (q .own) ∙ numbered-map (headingsIn ws) n w ∙ ap (setNumbered (headingsOf (headingsIn ws)) n) e;
+  others = q .below;
+  tables = q .above 128 20 (omega arith);
+  went = i;
+}

@@ -4,3 +4,4 @@ pub mod Held
 pub mod Sound
 pub mod Executing
 pub mod Updating
+pub mod Forms

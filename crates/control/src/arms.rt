@@ -2,16 +2,19 @@
 use crate::flow;
 use crate::state::Flow;
 use crate::state::Lined;
-use coercions::settle::Done;
-use coercions::taking::Counted;
+use assignments::register;
+use coercions::settle::Taken;
 use commands::clear;
 use commands::datasource::Selected;
-use conditions::test::Tested;
+use conditions::test::Judged;
 use meaning::end::Ended;
+use meaning::end::Halt;
 use pages::heading;
 use pages::heading::Heading;
 use pages::page;
 use pages::step::Paged;
+use questions::scene::Numbers;
+use questions::scene::Words;
 use shapes::seek::Sought;
 use tables::table::Looped;
 use values::worth;
@@ -21,12 +24,14 @@ ghost use lib.IntN.{pos};
 ghost use lib.Signed.{ltZ};
 ghost use Rattle.shapes.specs.declared.seek.Sought.the-variants.{TestEnd};
 ghost use Rattle.meaning.specs.declared.end.Ended.the-variants.{Finished};
-ghost use Rattle.assignments.specs.Setting.{setNumbered};
+ghost use lib.ListN.{length};
+ghost use Rattle.conditions.specs.inner.Contracts.{judgedOf};
+ghost use Rattle.questions.specs.inner.State.{tablesIn};
 ghost use Rattle.pages.specs.Heading.{noHeading};
 ghost use Rattle.pages.specs.inner.Packed.{Small};
 ghost use Rattle.pages.specs.inner.Paging.{TurnReady};
 ghost use Rattle.control.specs.inner.Going.{endedIn, datasourceIn, pageIn, jumpedIn};
-ghost use Rattle.control.specs.inner.Arms.{Jumpable, Follows, branchedIn, begunIn, overIn, Clears, Heads, BreaksLine, PagesLine};
+ghost use Rattle.control.specs.inner.Arms.{Jumpable, Follows, settledIn, branchedIn, begunIn, overIn, Clears, Heads, BreaksLine, PagesLine};
 
 // A line that does no more than go on.
 pub fn went(flow: Flow, printed: usize, asked: usize) -> Lined
@@ -40,39 +45,47 @@ pub fn went(flow: Flow, printed: usize, asked: usize) -> Lined
     }
 }
 
-// A variable, R or T is set: the run goes on at the next line.
-pub fn onward(done: Done, flow: Flow, printed: usize) -> Lined
-    ensures { λ r. ⌜ r ≡ endedIn (done .end) flow printed (done .asked) ⌝ }
+// A line that ended so, on the flow behind it.
+pub fn onward(end: Ended, flow: Flow, printed: usize, asked: usize) -> Lined
+    ensures { λ r. ⌜ r ≡ endedIn end flow printed asked ⌝ }
 {
-    let end = done.end;
     Lined {
         end,
         flow,
         printed,
-        asked: done.asked,
+        asked,
     }
 }
 
 // "A failed one continues at the line after its matching `$ELSE`, or `$ENDIF` if there is none"
-pub fn branched(tested: Tested, template: &[u8], flow: Flow, printed: usize) -> Lined
+pub fn branched(
+    judged: Judged,
+    number: u32,
+    template: &[u8],
+    flow: Flow,
+    printed: usize,
+    asked: usize,
+) -> Lined
     requires { ⌜ Jumpable (now template) flow ⌝ }
-    ensures { λ r. ⌜ Follows (tested .end) flow (branchedIn (now (template .entry)) flow (tested .holds)) printed (tested .asked) r ⌝ }
+    ensures { λ r. ⌜ r ≡ settledIn number flow printed asked (branchedIn (now (template .entry)) flow) (judgedOf judged) ⌝ }
 {
-    let end = tested.end;
-    let Ended::Finished = end else {
-        return Lined {
-            end,
-            flow,
-            printed,
-            asked: tested.asked,
-        };
-    };
-    let holds = tested.holds;
-    if holds {
-        return went(flow, printed, tested.asked);
+    match judged {
+        Judged::Refused(e) => {
+            return Lined {
+                end: Ended::Halted(Halt::Refused(e), number),
+                flow,
+                printed,
+                asked,
+            };
+        }
+        Judged::Holds(holds) => {
+            if holds {
+                return went(flow, printed, asked);
+            }
+            let next = flow::jumped(template, flow, Sought::Branch);
+            return went(next, printed, asked);
+        }
     }
-    let next = flow::jumped(template, flow, Sought::Branch);
-    went(next, printed, tested.asked)
 }
 
 // "an executed `$ELSE` continues after `$ENDIF`"
@@ -85,12 +98,11 @@ pub fn turned_away(template: &[u8], flow: Flow, printed: usize, asked: usize) ->
 }
 
 // Skipped, or a table more.
-pub fn begun(looped: Looped, template: &[u8], flow: Flow, printed: usize) -> Lined
+pub fn begun(looped: Looped, template: &[u8], flow: Flow, printed: usize, asked: usize) -> Lined
     requires { ⌜ Jumpable (now template) flow ⌝ }
-    ensures { λ r. ⌜ Follows (looped .end) flow (begunIn (now (template .entry)) flow looped) printed (looped .asked) r ⌝ }
+    ensures { λ r. ⌜ Follows (looped .end) flow (begunIn (now (template .entry)) flow looped) printed asked r ⌝ }
 {
     let end = looped.end;
-    let asked = looped.asked;
     let Ended::Finished = end else {
         return Lined {
             end,
@@ -104,17 +116,15 @@ pub fn begun(looped: Looped, template: &[u8], flow: Flow, printed: usize) -> Lin
         let next = flow::jumped(template, flow, Sought::TableEnd);
         return went(next, printed, asked);
     }
-    let tables = looped.tables;
-    let next = flow::with_tables(flow, tables);
+    let next = flow::with_depth(flow, looped.depth);
     went(next, printed, asked)
 }
 
 // "ends the table when the counter exceeds n, else goes to the line after $BT"
-pub fn ended(looped: Looped, flow: Flow, printed: usize) -> Lined
-    ensures { λ r. ⌜ Follows (looped .end) flow (overIn flow looped) printed (looped .asked) r ⌝ }
+pub fn ended(looped: Looped, words: &Words, flow: Flow, printed: usize, asked: usize) -> Lined
+    ensures { λ r. ⌜ Follows (looped .end) flow (overIn (tablesIn (now (words .entry))) flow looped) printed asked r ⌝ }
 {
     let end = looped.end;
-    let asked = looped.asked;
     let Ended::Finished = end else {
         return Lined {
             end,
@@ -123,11 +133,10 @@ pub fn ended(looped: Looped, flow: Flow, printed: usize) -> Lined
             asked,
         };
     };
-    let tables = looped.tables;
-    let next = flow::with_tables(flow, tables);
+    let next = flow::with_depth(flow, looped.depth);
     let jumps = looped.jumps;
     if jumps {
-        let again = flow::again(next);
+        let again = flow::again(words, next);
         return went(again, printed, asked);
     }
     went(next, printed, asked)
@@ -167,44 +176,24 @@ pub fn paged(paged: Paged, flow: Flow) -> Lined
 
 // "Each executed $SEC sets IV and FV to 0, SV to empty, clears R, T and headings, ends $NOFF."
 pub fn section_line(
-    integers: &mut [i64],
-    decimals: &mut [i64],
-    lengths: &mut [usize],
-    records: &mut [u64],
-    entries: &mut [u64],
-    headings: &mut [u64],
+    numbers: &mut Numbers,
+    words: &mut Words,
     flow: Flow,
     printed: usize,
     asked: usize,
 ) -> Lined
-    ensures { λ r. ⌜ Clears (now (integers .entry)) (now (decimals .entry)) (now (lengths .entry)) (now (records .entry)) (now (entries .entry)) (now (headings .entry)) flow printed asked (now (integers .exit)) (now (decimals .exit)) (now (lengths .exit)) (now (records .exit)) (now (entries .exit)) (now (headings .exit)) r ⌝ }
+    requires { ⌜ (198 ≤ length (now numbers)) × (128 ≤ length (now words)) ⌝ }
+    ensures { λ r. ⌜ Clears (now (numbers .entry)) (now (words .entry)) flow printed asked (now (numbers .exit)) (now (words .exit)) r ⌝ }
 {
-    clear::numbers(integers);
-    clear::numbers(decimals);
-    clear::lengths(lengths);
-    clear::words(records);
-    clear::words(entries);
-    clear::words(headings);
+    clear::numbers(numbers);
+    clear::words(words);
     let next = flow::with_feeds(flow, true);
     went(next, printed, asked)
 }
 
-// Heading n, counted from 1.
-fn put_heading(headings: &mut [u64], n: usize, word: u64)
-    ensures { λ _. ⌜ now (headings .exit) ≡ setNumbered (now (headings .entry)) n word ⌝ }
-{
-    if n < 1 {
-        return;
-    }
-    let i = n - 1;
-    if i < headings.len() {
-        headings[i] = word;
-    }
-}
-
 // $PHn with a text
 pub fn heading_line(
-    headings: &mut [u64],
+    words: &mut Words,
     n: usize,
     defined: Heading,
     flow: Flow,
@@ -212,24 +201,24 @@ pub fn heading_line(
     asked: usize,
 ) -> Lined
     requires { ⌜ Small defined ⌝ }
-    ensures { λ r. ⌜ Heads (now (headings .entry)) n defined flow printed asked (now (headings .exit)) r ⌝ }
+    ensures { λ r. ⌜ Heads (now (words .entry)) n defined flow printed asked (now (words .exit)) r ⌝ }
 {
     let word = heading::packed(defined);
-    put_heading(headings, n, word);
+    register::put_word(words, 119, 9, n, word);
     went(flow, printed, asked)
 }
 
 // $PHn without
 pub fn no_heading_line(
-    headings: &mut [u64],
+    words: &mut Words,
     n: usize,
     flow: Flow,
     printed: usize,
     asked: usize,
 ) -> Lined
-    ensures { λ r. ⌜ Heads (now (headings .entry)) n noHeading flow printed asked (now (headings .exit)) r ⌝ }
+    ensures { λ r. ⌜ Heads (now (words .entry)) n noHeading flow printed asked (now (words .exit)) r ⌝ }
 {
-    put_heading(headings, n, 0);
+    register::put_word(words, 119, 9, n, 0);
     went(flow, printed, asked)
 }
 
@@ -260,23 +249,32 @@ fn breaks_for(row: u32, n: i64) -> bool
 }
 
 // $NP with its value
-pub fn page_for(v: Counted, number: u32, text: &mut [u8], printed: usize, flow: Flow) -> Lined
+pub fn page_for(
+    taken: Taken,
+    number: u32,
+    text: &mut [u8],
+    printed: usize,
+    flow: Flow,
+    asked: usize,
+) -> Lined
     requires { ⌜ TurnReady (flow .page) (now text) printed ⌝ }
-    ensures { λ r. ⌜ PagesLine v number flow (now (text .entry)) printed (now (text .exit)) r ⌝ }
+    ensures { λ r. ⌜ PagesLine taken number flow (now (text .entry)) printed asked (now (text .exit)) r ⌝ }
 {
-    let end = v.end;
-    let Ended::Finished = end else {
-        return Lined {
-            end,
-            flow,
-            printed,
-            asked: v.asked,
-        };
-    };
-    let page = flow.page;
-    let row = page.line;
-    if breaks_for(row, v.value) {
-        return break_line(number, text, printed, flow, v.asked);
+    match taken {
+        Taken::Refused(e) => {
+            return Lined {
+                end: Ended::Halted(Halt::Refused(e), number),
+                flow,
+                printed,
+                asked,
+            };
+        }
+        Taken::Value(n) => {
+            let page = flow.page;
+            if breaks_for(page.line, n) {
+                return break_line(number, text, printed, flow, asked);
+            }
+            return went(flow, printed, asked);
+        }
     }
-    went(flow, printed, v.asked)
 }

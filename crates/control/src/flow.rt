@@ -2,27 +2,27 @@
 use crate::state::Flow;
 use pages::page::Page;
 use questions::scene::Scene;
+use questions::scene::Words;
 use shapes::seek;
 use shapes::seek::Sought;
 use tables::table;
-use tables::table::Tables;
 ghost use mathlib.Core.Path.{_≡_};
 ghost use Prim.Native.Nat.{_+_, _≤_};
+ghost use Rattle.questions.specs.inner.State.{tablesIn};
 ghost use Rattle.control.specs.inner.Arms.{Jumpable};
-ghost use Rattle.control.specs.inner.Going.{sceneOf, placedAt, datasourceIn, tablesIn, feedsIn, pageIn, jumpedIn, againIn};
+ghost use Rattle.control.specs.inner.Going.{sceneOf, placedAt, datasourceIn, depthIn, feedsIn, pageIn, jumpedIn, againIn};
 
 // What a line is executed in.
-pub fn scene_of(flow: Flow, number: u32) -> Scene
-    ensures { λ r. ⌜ r ≡ sceneOf flow number ⌝ }
+pub fn scene_of(words: &Words, flow: Flow, number: u32) -> Scene
+    ensures { λ r. ⌜ r ≡ sceneOf (tablesIn (now (words .entry))) flow number ⌝ }
 {
     let page = flow.page;
-    let tables = flow.tables;
     Scene {
         datasource: flow.datasource,
         page: page.number,
         row: page.line,
         number,
-        turn: table::turn_of(tables),
+        turn: table::turn_of(words, flow.depth),
     }
 }
 
@@ -41,10 +41,10 @@ pub fn with_datasource(mut flow: Flow, datasource: u32) -> Flow
     flow
 }
 
-pub fn with_tables(mut flow: Flow, tables: Tables) -> Flow
-    ensures { λ r. ⌜ r ≡ tablesIn flow tables ⌝ }
+pub fn with_depth(mut flow: Flow, depth: usize) -> Flow
+    ensures { λ r. ⌜ r ≡ depthIn flow depth ⌝ }
 {
-    flow.tables = tables;
+    flow.depth = depth;
     flow
 }
 
@@ -87,10 +87,9 @@ pub fn jumped(template: &[u8], flow: Flow, sought: Sought) -> Flow
 }
 
 // The line behind the $BT of the innermost table.
-pub fn again(flow: Flow) -> Flow
-    ensures { λ r. ⌜ r ≡ againIn flow ⌝ }
+pub fn again(words: &Words, flow: Flow) -> Flow
+    ensures { λ r. ⌜ r ≡ againIn (tablesIn (now (words .entry))) flow ⌝ }
 {
-    let tables = flow.tables;
-    let table = table::innermost(tables);
+    let table = table::innermost(words, flow.depth);
     placed(flow, table.start, table.line)
 }

@@ -1,6 +1,5 @@
 -- The line that is due: split, parsed, and executed in its form.
 use mathlib.Core.Path.{_≡_, refl, sym, ap, _∙_}
-use mathlib.Core.Bool.{Bool, true, false}
 use mathlib.Core.List.{List, [], _∷_}
 use Prim.Native.Nat.{ℕ, suc, _+_, _-_, _≤_}
 use native.Mathlib.Omega.{arith}
@@ -17,7 +16,7 @@ use Rattle.template.proofs.Opening.{checks-short, opens-line}
 use Rattle.questions.specs.declared.scene.Scene.{Scene}
 use Rattle.questions.specs.declared.fetch.Along.the-variants.{Records, Entries}
 use Rattle.questions.specs.inner.State.{texts, fetched}
-use Rattle.tables.specs.inner.Open.{openOf}
+use Rattle.tables.specs.inner.Open.{opened}
 use Rattle.tables.proofs.Tabling.{opened-length}
 use Rattle.pages.specs.inner.Packed.{headingIn}
 use Rattle.lines.proofs.Accepted.{parsed-sound}
@@ -25,13 +24,30 @@ use Rattle.lines.specs.inner.Known.{formOf}
 use Rattle.lines.proofs.KnownLaws.{form-known}
 use Rattle.control.specs.declared.state.Flow.{Flow}
 use Rattle.control.specs.declared.state.Lined.{Lined}
-use Rattle.control.specs.inner.Held.{Held}
+use Rattle.questions.specs.inner.State.{Held}
 use Rattle.control.specs.Line.{formMeaning, lineMeaning}
 use Rattle.control.specs.inner.Sound.{Nested}
-use Rattle.control.specs.inner.Going.{sceneOf, placedAt}
-use Rattle.control.specs.inner.Executing.{sourceOf, stateAt, Executes, LineReady, FormReady}
-use Rattle.control.specs.inner.Updating.{updating}
-use Rattle.updates.specs.inner.Updating.{UpdateReady}
+use Rattle.control.specs.inner.Going.{endedIn, sceneOf, placedAt}
+use Rattle.control.specs.inner.Executing.{sourceOf, stateAt, machineIn, Executes, LineReady, FormReady}
+use Rattle.lines.specs.declared.command.Optional.{Optional}
+use Rattle.lines.specs.declared.command.Optional.the-variants.{Given, Absent}
+use Rattle.lines.specs.declared.command.Line.the-variants as form
+use Rattle.lines.proofs.Accepted as parsed
+use Rattle.meaning.specs.Place.{at, Does}
+use Rattle.meaning.specs.Number.{endOf}
+use Rattle.meaning.specs.declared.end.Halt.{Halt}
+use Rattle.meaning.specs.declared.end.Ended.the-variants.{Finished, Halted}
+use Rattle.strings.specs.inner.Texts.{Strings, strings, Sized}
+use Rattle.questions.specs.inner.Word.{questions}
+use Rattle.values.specs.declared.working.Inputs.{Inputs}
+use Rattle.values.specs.declared.working.Operands.{Operands}
+use Rattle.values.specs.inner.Yielding.{meant}
+use Rattle.values.specs.inner.Working.{worths, inputsMeaning, firstParameter, secondParameter, Workable, WorksOut}
+use Rattle.control.specs.State.{State, seen}
+use Rattle.control.specs.inner.Forms.{optionalInput, inputsOf, formWith}
+use Rattle.control.proofs.Forms.{form-inputs}
+use Rattle.control.proofs.Commanding.{inputs-then, inputs-over}
+use Rattle.dispatch.specs.inner.Performing.{Performs}
 use Rattle.execution.proofs.Places.{nested-few, nested-line, nested-room}
 
 pub texts-length : (rows : List (List ℕ)) (k : ℕ) (ns : List ℕ) → length (texts rows k ns) ≡ length ns
@@ -39,8 +55,8 @@ unfolding texts
 texts-length rows k [] = refl
 texts-length rows k (n ∷ ns) = ap suc (texts-length rows (suc k) ns)
 
-module _ {b index : List ℕ} {count : ℕ} {t : List ℕ} {h : Held} {f : Flow} {T : List ℕ} {u a : ℕ} (k : LineReady b index count t h f T u a) {body : List ℕ} (e : body ≡ lineOf (take (length t - f .at) (drop (f .at) t))) where
-  here : Nested t (f .at) (f .line) (openOf (f .tables))
+module _ {b index t : List ℕ} {h : Held} {f : Flow} {T : List ℕ} {u a : ℕ} (k : LineReady b index t h f T u a) {body : List ℕ} (e : body ≡ lineOf (take (length t - f .at) (drop (f .at) t))) where
+  here : Nested t (f .at) (f .line) (opened (h .tables) (f .depth))
   here = k .sound .nested (k .inside)
 
   body-is : body ≡ lineAt t (f .at)
@@ -56,19 +72,19 @@ module _ {b index : List ℕ} {count : ℕ} {t : List ℕ} {h : Held} {f : Flow}
   pub form-parsed : {line : Line} → line ≡ formOf body → line ≡ parseLine body
   form-parsed l = l ∙ rw body-is (form-known (lineAt t (f .at)) (opens-line (k .sound .checks) (here .opens) (k .inside) .parsed))
 
-  module _ {scene : Scene} {next : Flow} {line : Line} (s : scene ≡ sceneOf f (f .line)) (n : next ≡ placedAt f (f .at + length body + 1) (f .line + 1)) (l : line ≡ parseLine body) where
-    few : f .tables .depth ≤ 5
-    few = omega (arith, nested-few (k .sound .checks) here (k .inside), opened-length (f .tables .rows) (f .tables .depth))
+  module _ {scene : Scene} {next : Flow} {line : Line} (s : scene ≡ sceneOf (h .tables) f (f .line)) (n : next ≡ placedAt f (f .at + length body + 1) (f .line + 1)) (l : line ≡ parseLine body) where
+    few : f .depth ≤ 5
+    few = omega (arith, nested-few (k .sound .checks) here (k .inside), opened-length (h .tables) (f .depth))
 
     table-shape : (x : Argument) → line ≡ BeginTable x → shapeOf (lineAt t (f .at)) ≡ Table
     unfolding shapeOf shapeIn
     table-shape x q = ap shapeIn (sym (l ∙ ap parseLine body-is) ∙ q)
 
-    room : (x : Argument) → line ≡ BeginTable x → f .tables .depth ≤ 4
-    room x q = omega (arith, nested-room (k .sound .checks) here (k .inside) (table-shape x q), opened-length (f .tables .rows) (f .tables .depth))
+    room : (x : Argument) → line ≡ BeginTable x → f .depth ≤ 4
+    room x q = omega (arith, nested-room (k .sound .checks) here (k .inside) (table-shape x q), opened-length (h .tables) (f .depth))
 
-    pub form-ready : FormReady body b index count t h scene (f .at) next line T u a
-    form-ready = rw (n, s) (record {
+    pub form-ready : (a′ : ℕ) → a′ ≤ a + 2 → FormReady body b index t h scene (f .at) next line T u a′
+    form-ready a′ few′ = rw (n, s) (record {
       kept = k .kept;
       stored = k .stored;
       scened = refl;
@@ -86,73 +102,73 @@ module _ {b index : List ℕ} {count : ℕ} {t : List ℕ} {h : Held} {f : Flow}
       integers = k .sound .integers;
       decimals = k .sound .decimals;
       rows = k .rows;
+      table-words = k .table-words;
       lengths = sym (texts-length (h .rows) 0 (h .lengths)) ∙ k .sound .strings;
       records = sym (length-map (h .records) (fetched (sourceOf b) Records)) ∙ k .sound .records;
       entries = sym (length-map (h .entries) (fetched (sourceOf b) Entries)) ∙ k .sound .entries;
       headings = sym (length-map (h .headings) headingIn) ∙ k .sound .headings;
       heads = k .sound .heads;
       room = k .room;
-      places = k .places;
+      places = omega (arith, k .places);
     })
 
-    -- what a line that sets requires, and one that only reads
-    pub update-ready : (q : Bool) → q ≡ updating line → q ≡ true → UpdateReady body b index count h scene (f .at) next line a
-    update-ready q e i =
-        let y = form-ready in
-        record {
-          kept = y .kept;
-          stored = y .stored;
-          scened = y .scened;
-          parsed = y .parsed;
-          short = y .short;
-          placed = y .placed;
-          numbered = y .numbered;
-          datasource = y .datasource;
-          integers = y .integers;
-          decimals = y .decimals;
-          rows = y .rows;
-          lengths = y .lengths;
-          records = y .records;
-          entries = y .entries;
-          headings = y .headings;
-          places = y .places;
-          update = sym e ∙ i;
-        }
+    -- what the arguments require
+    small : (x : Optional) → parsed.SmallOptional x → (firstParameter (optionalInput x) ≤ 65535) × (secondParameter (optionalInput x) ≤ 65535)
+    unfolding optionalInput firstParameter secondParameter
+    small (Given y) e = (e, omega arith)
+    small Absent e = (omega arith, omega arith)
 
-    pub read-ready : (q : Bool) → q ≡ updating line → q ≡ false → FormReady body b index count t h scene 0 next line T u a × (updating line ≡ false)
-    read-ready q e i =
-        let y = form-ready in (
-          record {
-            kept = y .kept;
-            stored = y .stored;
-            scened = y .scened;
-            parsed = y .parsed;
-            short = y .short;
-            template = y .template;
-            placed = omega arith;
-            numbered = y .numbered;
-            few = y .few;
-            datasource = y .datasource;
-            tables = y .tables;
-            room-for-table = y .room-for-table;
-            page = y .page;
-            row = y .row;
-            integers = y .integers;
-            decimals = y .decimals;
-            rows = y .rows;
-            lengths = y .lengths;
-            records = y .records;
-            entries = y .entries;
-            headings = y .headings;
-            heads = y .heads;
-            room = y .room;
-            places = y .places;
-          },
-          sym e ∙ i,
-        )
+    both : (x : Line) → parsed.Sound body x → (firstParameter (inputsOf x) ≤ 65535) × (secondParameter (inputsOf x) ≤ 65535)
+    unfolding inputsOf firstParameter secondParameter
+    both form.NoForm e = (omega arith, omega arith)
+    both form.Text e = (omega arith, omega arith)
+    both (form.Section x y) e = (omega arith, omega arith)
+    both (form.Set o v x) e = (e, omega arith)
+    both (form.IfZero x) e = (e, omega arith)
+    both (form.IfNonZero x) e = (e, omega arith)
+    both (form.Compare c x y) e = (e .0, e .1)
+    both form.Else e = (omega arith, omega arith)
+    both form.EndIf e = (omega arith, omega arith)
+    both (form.BeginTable x) e = (e, omega arith)
+    both (form.EndTable x) e = small x e
+    both (form.Records x) e = (omega arith, omega arith)
+    both (form.Entries x) e = (omega arith, omega arith)
+    both (form.Datasource i) e = (omega arith, omega arith)
+    both form.NoFormFeed e = (omega arith, omega arith)
+    both (form.NewPage x) e = small x e
+    both (form.Heading m from) e = (omega arith, omega arith)
+    both (form.NoHeading m) e = (omega arith, omega arith)
+    both form.Remark e = (omega arith, omega arith)
 
-    pub line-executes : (log : List ℕ) (p : ℕ) (h′ : Held) (T′ log′ : List ℕ) (r : Lined) → Executes (formMeaning t (f .at) (scene .number) body (stateAt b h next) line) b h next T u log a p h′ T′ log′ r → Executes (lineMeaning t (stateAt b h f)) b h f T u log a p h′ T′ log′ r
+    pub inputs-ready : (i : Inputs) → i ≡ inputsOf line → Workable (scene .datasource) i a × Sized body b
+    inputs-ready i q =
+        let w = both line (parsed-sound body line (sym l)) in
+        rw q (record { datasource = omega (arith, ap (λ (y : Scene). y .datasource) s, k .sound .datasource); first = w .0; second = w .1; places = omega (arith, k .places) }, record { short-line = omega (arith, body-short); short-store = k .stored })
+
+    line-executes : (log : List ℕ) (p : ℕ) (h′ : Held) (T′ log′ : List ℕ) (r : Lined) → Executes 332 (formMeaning t (f .at) (scene .number) body (stateAt b h next) line) b h next T u log a p h′ T′ log′ r → Executes 332 (lineMeaning t (stateAt b h f)) b h f T u log a p h′ T′ log′ r
     unfolding lineMeaning
     line-executes log p h′ T′ log′ r d =
         let x = rw (n, s, l) at d in
         rw (← body-is) (record { does = x .does; few = x .few; rows = x .rows })
+
+    -- the arguments, then the line by their values
+    module _ (log : List ℕ) (p : ℕ) (i : Inputs) (same : i ≡ inputsOf line) (log₁ : List ℕ) (v : Operands) (w : WorksOut body b index h scene i log a p log₁ v) where
+      abbrev now : State
+      now = stateAt b h next
+
+      abbrev S : Strings
+      S = strings body b (h .rows)
+
+      seen-same : machineIn b h scene ≡ seen now
+      seen-same = rw (n, s)
+
+      did : Does (sourceOf b) (inputsMeaning (seen now) body (scene .number) (inputsOf line)) (at T u (questions log) a p (next .page .number)) (at T u (questions log₁) (v .asked) p (next .page .number)) (endOf (worths (meant S (v .first)) (meant S (v .second))) (v .end))
+      did = rw (← same, ← seen-same) (w .does (length b) (k .kept .cells) (k .kept .ready) T u (next .page .number))
+
+      pub line-over : (c : Halt) (m : ℕ) (r : Lined) → v .end ≡ Halted c m → r ≡ endedIn (v .end) next u (v .asked) → Executes 332 (lineMeaning t (stateAt b h f)) b h f T u log a p h T log₁ r
+      line-over c m r q j =
+          line-executes log p h T log₁ r (rw (form-inputs t (f .at) (scene .number) body now line, j) (inputs-over (inputsMeaning (seen now) body (scene .number) (inputsOf line)) (formWith t (f .at) (scene .number) body now line) (worths (meant S (v .first)) (meant S (v .second))) log₁ (v .asked) (v .end) c m q did (w .few)))
+
+      pub line-follows : (h′ : Held) (T′ log′ : List ℕ) (r : Lined) → v .end ≡ Finished → Performs body b t h scene (f .at) next line (v .first) (v .second) T u log₁ (v .asked) p h′ T′ log′ r → Executes 332 (lineMeaning t (stateAt b h f)) b h f T u log a p h′ T′ log′ r
+      line-follows h′ T′ log′ r q d =
+          line-executes log p h′ T′ log′ r (rw (form-inputs t (f .at) (scene .number) body now line) (inputs-then (inputsMeaning (seen now) body (scene .number) (inputsOf line)) (formWith t (f .at) (scene .number) body now line) (worths (meant S (v .first)) (meant S (v .second))) log₁ (v .asked) (rw q at did) (w .few) (d .executes)))

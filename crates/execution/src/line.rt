@@ -1,26 +1,27 @@
 // One template line.
+use control::arms;
 use control::flow;
+use control::inputs;
 use control::state::Flow;
 use control::state::Lined;
+use dispatch::execute;
 use lines::command;
-use readonly::read;
-use updates::update;
+use meaning::end::Ended;
+use questions::scene::Numbers;
+use questions::scene::Words;
+use values::working;
+ghost use Rattle.questions.specs.inner.State.{held};
 ghost use Rattle.control.specs.Line.{lineMeaning};
-ghost use Rattle.control.specs.inner.Executing.{held, stateAt, LineReady, Executes};
+ghost use Rattle.control.specs.inner.Executing.{stateAt, LineReady, Executes};
 
-// The line that is due.
+// The line that is due: its arguments, then its command.
 pub fn line<'a>(
     template: &'a [u8],
     store: &'a [u8],
     index: &'a [u16],
-    count: usize,
-    integers: &mut [i64],
-    decimals: &mut [i64],
+    numbers: &mut Numbers,
     strings: &mut [[u8; 16]; 99],
-    lengths: &mut [usize],
-    records: &mut [u64],
-    entries: &mut [u64],
-    headings: &mut [u64],
+    words: &mut Words,
     text: &mut [u8],
     printed: usize,
     log: &mut [u64; 512],
@@ -28,57 +29,52 @@ pub fn line<'a>(
     places: usize,
     flow: Flow,
 ) -> Lined
-    requires { ⌜ LineReady (now store) (now index) count (now template) (held (now integers) (now decimals) (now strings) (now lengths) (now records) (now entries) (now headings)) flow (now text) printed asked ⌝ }
-    ensures { λ r. ⌜ Executes (lineMeaning (now (template .entry)) (stateAt (now (store .entry)) (held (now (integers .entry)) (now (decimals .entry)) (now (strings .entry)) (now (lengths .entry)) (now (records .entry)) (now (entries .entry)) (now (headings .entry))) flow)) (now (store .entry)) (held (now (integers .entry)) (now (decimals .entry)) (now (strings .entry)) (now (lengths .entry)) (now (records .entry)) (now (entries .entry)) (now (headings .entry))) flow (now (text .entry)) printed (now (log .entry)) asked places (held (now (integers .exit)) (now (decimals .exit)) (now (strings .exit)) (now (lengths .exit)) (now (records .exit)) (now (entries .exit)) (now (headings .exit))) (now (text .exit)) (now (log .exit)) r ⌝ }
+    requires { ⌜ LineReady (now store) (now index) (now template) (held (now numbers) (now strings) (now words)) flow (now text) printed asked ⌝ }
+    ensures { λ r. ⌜ Executes 332 (lineMeaning (now (template .entry)) (stateAt (now (store .entry)) (held (now (numbers .entry)) (now (strings .entry)) (now (words .entry))) flow)) (now (store .entry)) (held (now (numbers .entry)) (now (strings .entry)) (now (words .entry))) flow (now (text .entry)) printed (now (log .entry)) asked places (held (now (numbers .exit)) (now (strings .exit)) (now (words .exit))) (now (text .exit)) (now (log .exit)) r ⌝ }
 {
     let at = flow.at;
     let body = scan::bytes::line_of(&template[at..]);
     let form = command::form_of(body);
-    let scene = flow::scene_of(flow, flow.line);
+    let scene = flow::scene_of(words, flow, flow.line);
     let next = flow::past(flow, body.len());
-    if update::is_update(form) {
-        return update::execute(
-            body,
-            store,
-            index,
-            count,
-            integers,
-            decimals,
-            strings,
-            lengths,
-            records,
-            entries,
-            headings,
-            printed,
-            log,
-            asked,
-            places,
-            scene,
-            at,
-            next,
-            form,
-        );
-    }
-    read::execute(
+    let arguments = inputs::inputs_of(form);
+    let v = working::work_out(
+        body,
+        store,
+        index,
+        numbers,
+        strings,
+        words,
+        scene,
+        arguments,
+        log,
+        asked,
+        places,
+    );
+    let end = v.end;
+    let first = v.first;
+    let second = v.second;
+    let Ended::Finished = end else {
+        return arms::onward(end, next, printed, v.asked);
+    };
+    execute::execute(
         template,
         body,
         store,
         index,
-        count,
-        integers,
-        decimals,
+        numbers,
         strings,
-        lengths,
-        records,
-        entries,
-        headings,
+        words,
         text,
         printed,
         log,
-        asked,
+        v.asked,
         places,
         scene,
+        at,
         next,
         form,
+        first,
+        second,
     )
 }

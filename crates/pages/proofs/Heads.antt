@@ -1,9 +1,12 @@
 -- A heading packed and read back.
-use mathlib.Core.Path.{_≡_, refl}
+use mathlib.Core.Path.{_≡_, refl, sym, ap, _∙_}
 use mathlib.Core.List.{List, [], _∷_}
 use Prim.Native.Nat.{ℕ, zero, suc, _+_, _*_, _/_, _%_, _≤_, _<_}
 use native.Mathlib.Omega.{arith}
-use lib.ListN.{length, getD}
+use native.Mathlib.Numerals.{add-one}
+use lib.ListN.{length, getD, take, drop, length-take, List·getD-eq-default}
+use Rattle.questions.specs.Machine.{numbered}
+use Rattle.questions.specs.inner.State.{bank, headingsIn}
 use Rattle.pages.specs.declared.heading.Heading.{Heading}
 use Rattle.pages.specs.Heading.{noHeading}
 use Rattle.pages.specs.inner.Packed.{headingIn, headingsOf, Small}
@@ -18,13 +21,21 @@ read-back h w s q =
     let e : w % 65536 ≡ h .number = omega (arith, s .number) in
     λ i. record { start = a i; length = b i; from = d i; number = e i }
 
-pub heading-inside : (words : List ℕ) (k : ℕ) → k < length words → getD (headingsOf words) k noHeading ≡ headingIn (getD words k 0)
-heading-inside [] k h = absurd (omega arith)
-heading-inside (w ∷ words) zero h = refl
-heading-inside (w ∷ words) (suc k) h = heading-inside words k (omega arith)
+heading-none : headingIn 0 ≡ noHeading
+unfolding headingIn
+heading-none = refl
 
-pub heading-outside : (words : List ℕ) (k : ℕ) → length words ≤ k → getD (headingsOf words) k noHeading ≡ noHeading
-heading-outside [] zero h = refl
-heading-outside [] (suc k) h = refl
-heading-outside (w ∷ words) zero h = absurd (omega arith)
-heading-outside (w ∷ words) (suc k) h = heading-outside words k (omega arith)
+heading-word : (words : List ℕ) (k : ℕ) → getD (headingsOf words) k noHeading ≡ headingIn (getD words k 0)
+heading-word [] k = sym heading-none
+heading-word (w ∷ words) zero = refl
+heading-word (w ∷ words) (suc k) = heading-word words k
+
+pub heading-inside : (words : List ℕ) (k w : ℕ) (h : Heading) → w ≡ numbered 0 words (k + 1) → h ≡ headingIn w → h ≡ getD (headingsOf words) k noHeading
+unfolding numbered
+heading-inside words k w h e i = rw add-one at (i ∙ ap headingIn e) ∙ sym (heading-word words k)
+
+pub heading-outside : (words : List ℕ) (k : ℕ) → 9 ≤ k → noHeading ≡ getD (headingsOf (headingsIn words)) k noHeading
+unfolding bank
+heading-outside words k h =
+    let l : length (take 9 (drop 119 words)) ≤ k = omega (arith, length-take 9 (drop 119 words)) in
+    sym (heading-word (take 9 (drop 119 words)) k ∙ ap headingIn (List·getD-eq-default (take 9 (drop 119 words)) 0 {n = k} l) ∙ heading-none)

@@ -1,6 +1,9 @@
 // Headings: each of nine is kept as one number.
+use questions::scene;
+use questions::scene::Words;
 ghost use mathlib.Core.Path.{_≡_};
 ghost use lib.ListN.{getD};
+ghost use Rattle.questions.specs.inner.State.{headingsIn};
 ghost use Rattle.pages.specs.Heading.{noHeading};
 ghost use Rattle.pages.specs.inner.Packed.{Small, headingIn, headingsOf};
 
@@ -39,11 +42,12 @@ fn unpacked(word: u64) -> Heading
 }
 
 // Heading k, counted from 0; an undefined one behind the last.
-pub fn heading_at(headings: &[u64], k: usize) -> Heading
-    ensures { λ r. ⌜ r ≡ getD (headingsOf (now (headings .entry))) k noHeading ⌝ }
+pub fn heading_at(words: &Words, k: usize) -> Heading
+    ensures { λ r. ⌜ r ≡ getD (headingsOf (headingsIn (now (words .entry)))) k noHeading ⌝ }
 {
-    if k < headings.len() {
-        return unpacked(headings[k]);
+    if k < 9 {
+        let word = scene::heading_word(words, k + 1);
+        return unpacked(word);
     }
     Heading {
         start: 0,

@@ -4,23 +4,26 @@ use crate::heading::Heading;
 use crate::page;
 use crate::page::Page;
 use meaning::end::Ended;
+use questions::scene::Numbers;
 use questions::scene::Scene;
+use questions::scene::Words;
 use rendering::text;
 use scan::bytes;
 ghost use mathlib.Core.Path.{_≡_};
 ghost use Prim.Native.Nat.{_≤_};
+ghost use Rattle.questions.specs.inner.State.{headingsIn};
 ghost use Rattle.pages.specs.inner.Packed.{headingsOf};
 ghost use Rattle.pages.specs.Page.{highestOf, headLine, headFrom, headNumber};
 ghost use Rattle.rendering.specs.inner.Pass.{lent};
 ghost use Rattle.pages.specs.inner.Paging.{sceneOn, SayReady, Says, HeadsReady, Heads, StepReady, Tops, Steps};
 
 // How many headings are printed: up to the highest defined.
-fn highest(headings: &[u64]) -> usize
-    ensures { λ r. ⌜ (r ≡ highestOf (headingsOf (now (headings .entry))) 9) × (r ≤ 9) ⌝ }
+fn highest(words: &Words) -> usize
+    ensures { λ r. ⌜ (r ≡ highestOf (headingsOf (headingsIn (now (words .entry)))) 9) × (r ≤ 9) ⌝ }
 {
     let mut k = 9;
     while 0 < k {
-        let heading = heading::heading_at(headings, k - 1);
+        let heading = heading::heading_at(words, k - 1);
         if heading.number != 0 {
             return k;
         }
@@ -57,13 +60,9 @@ fn say<'a>(
     page: Page,
     store: &'a [u8],
     index: &'a [u16],
-    count: usize,
-    integers: &'a [i64],
-    decimals: &'a [i64],
+    numbers: &'a Numbers,
     strings: &'a [[u8; 16]; 99],
-    lengths: &'a [usize],
-    records: &'a [u64],
-    entries: &'a [u64],
+    words: &'a Words,
     scene: Scene,
     log: &mut [u64; 512],
     asked: usize,
@@ -71,8 +70,8 @@ fn say<'a>(
     text: &mut [u8],
     printed: usize,
 ) -> Paged
-    requires { ⌜ SayReady (lent (now store) (now index) count (now integers) (now decimals) (now strings) (now lengths) (now records) (now entries)) scene (now line) from page asked (now text) printed ⌝ }
-    ensures { λ r. ⌜ Says (lent (now (store .entry)) (now (index .entry)) count (now (integers .entry)) (now (decimals .entry)) (now (strings .entry)) (now (lengths .entry)) (now (records .entry)) (now (entries .entry))) scene number (now (line .entry)) from page (now (text .entry)) printed (now (log .entry)) asked places (now (text .exit)) (now (log .exit)) r ⌝ }
+    requires { ⌜ SayReady (lent (now store) (now index) (now numbers) (now strings) (now words)) scene (now line) from page asked (now text) printed ⌝ }
+    ensures { λ r. ⌜ Says (lent (now (store .entry)) (now (index .entry)) (now (numbers .entry)) (now (strings .entry)) (now (words .entry))) scene number (now (line .entry)) from page (now (text .entry)) printed (now (log .entry)) asked places (now (text .exit)) (now (log .exit)) r ⌝ }
 {
     let here = scene_on(scene, page, number);
     let told = text::text_line(
@@ -80,13 +79,9 @@ fn say<'a>(
         from,
         store,
         index,
-        count,
-        integers,
-        decimals,
+        numbers,
         strings,
-        lengths,
-        records,
-        entries,
+        words,
         here,
         log,
         asked,
@@ -119,13 +114,9 @@ fn say_head<'a>(
     page: Page,
     store: &'a [u8],
     index: &'a [u16],
-    count: usize,
-    integers: &'a [i64],
-    decimals: &'a [i64],
+    numbers: &'a Numbers,
     strings: &'a [[u8; 16]; 99],
-    lengths: &'a [usize],
-    records: &'a [u64],
-    entries: &'a [u64],
+    words: &'a Words,
     scene: Scene,
     log: &mut [u64; 512],
     asked: usize,
@@ -133,8 +124,8 @@ fn say_head<'a>(
     text: &mut [u8],
     printed: usize,
 ) -> Paged
-    requires { ⌜ SayReady (lent (now store) (now index) count (now integers) (now decimals) (now strings) (now lengths) (now records) (now entries)) scene (headLine (now template) heading) (headFrom heading) page asked (now text) printed ⌝ }
-    ensures { λ r. ⌜ Says (lent (now (store .entry)) (now (index .entry)) count (now (integers .entry)) (now (decimals .entry)) (now (strings .entry)) (now (lengths .entry)) (now (records .entry)) (now (entries .entry))) scene (headNumber (scene .number) heading) (headLine (now (template .entry)) heading) (headFrom heading) page (now (text .entry)) printed (now (log .entry)) asked places (now (text .exit)) (now (log .exit)) r ⌝ }
+    requires { ⌜ SayReady (lent (now store) (now index) (now numbers) (now strings) (now words)) scene (headLine (now template) heading) (headFrom heading) page asked (now text) printed ⌝ }
+    ensures { λ r. ⌜ Says (lent (now (store .entry)) (now (index .entry)) (now (numbers .entry)) (now (strings .entry)) (now (words .entry))) scene (headNumber (scene .number) heading) (headLine (now (template .entry)) heading) (headFrom heading) page (now (text .entry)) printed (now (log .entry)) asked places (now (text .exit)) (now (log .exit)) r ⌝ }
 {
     if heading.number == 0 {
         let blank = bytes::part(template, 0, 0);
@@ -145,13 +136,9 @@ fn say_head<'a>(
             page,
             store,
             index,
-            count,
-            integers,
-            decimals,
+            numbers,
             strings,
-            lengths,
-            records,
-            entries,
+            words,
             scene,
             log,
             asked,
@@ -168,13 +155,9 @@ fn say_head<'a>(
         page,
         store,
         index,
-        count,
-        integers,
-        decimals,
+        numbers,
         strings,
-        lengths,
-        records,
-        entries,
+        words,
         scene,
         log,
         asked,
@@ -186,19 +169,14 @@ fn say_head<'a>(
 
 // The first headings, and the blank line below them.
 fn say_heads<'a>(
-    headings: &'a [u64],
     most: usize,
     template: &'a [u8],
     page: Page,
     store: &'a [u8],
     index: &'a [u16],
-    count: usize,
-    integers: &'a [i64],
-    decimals: &'a [i64],
+    numbers: &'a Numbers,
     strings: &'a [[u8; 16]; 99],
-    lengths: &'a [usize],
-    records: &'a [u64],
-    entries: &'a [u64],
+    words: &'a Words,
     scene: Scene,
     log: &mut [u64; 512],
     asked: usize,
@@ -206,28 +184,24 @@ fn say_heads<'a>(
     text: &mut [u8],
     printed: usize,
 ) -> Paged
-    requires { ⌜ HeadsReady (lent (now store) (now index) count (now integers) (now decimals) (now strings) (now lengths) (now records) (now entries)) scene (now template) (headingsOf (now headings)) most 1 page asked (now text) printed ⌝ }
-    ensures { λ r. ⌜ Heads (lent (now (store .entry)) (now (index .entry)) count (now (integers .entry)) (now (decimals .entry)) (now (strings .entry)) (now (lengths .entry)) (now (records .entry)) (now (entries .entry))) scene (now (template .entry)) (headingsOf (now (headings .entry))) most page (now (text .entry)) printed (now (log .entry)) asked places (now (text .exit)) (now (log .exit)) r ⌝ }
+    requires { ⌜ HeadsReady (lent (now store) (now index) (now numbers) (now strings) (now words)) scene (now template) (headingsOf (headingsIn (now words))) most 1 page asked (now text) printed ⌝ }
+    ensures { λ r. ⌜ Heads (lent (now (store .entry)) (now (index .entry)) (now (numbers .entry)) (now (strings .entry)) (now (words .entry))) scene (now (template .entry)) (headingsOf (headingsIn (now (words .entry)))) most page (now (text .entry)) printed (now (log .entry)) asked places (now (text .exit)) (now (log .exit)) r ⌝ }
 {
     let mut k = 0;
     let mut top = page;
     let mut heard = asked;
     let mut filled = printed;
     while k < most {
-        let heading = heading::heading_at(headings, k);
+        let heading = heading::heading_at(words, k);
         let said = say_head(
             heading,
             template,
             top,
             store,
             index,
-            count,
-            integers,
-            decimals,
+            numbers,
             strings,
-            lengths,
-            records,
-            entries,
+            words,
             scene,
             log,
             heard,
@@ -252,13 +226,9 @@ fn say_heads<'a>(
         top,
         store,
         index,
-        count,
-        integers,
-        decimals,
+        numbers,
         strings,
-        lengths,
-        records,
-        entries,
+        words,
         scene,
         log,
         heard,
@@ -270,18 +240,13 @@ fn say_heads<'a>(
 
 // The headings of a page that has no line yet.
 fn top<'a>(
-    headings: &'a [u64],
     template: &'a [u8],
     page: Page,
     store: &'a [u8],
     index: &'a [u16],
-    count: usize,
-    integers: &'a [i64],
-    decimals: &'a [i64],
+    numbers: &'a Numbers,
     strings: &'a [[u8; 16]; 99],
-    lengths: &'a [usize],
-    records: &'a [u64],
-    entries: &'a [u64],
+    words: &'a Words,
     scene: Scene,
     log: &mut [u64; 512],
     asked: usize,
@@ -289,8 +254,8 @@ fn top<'a>(
     text: &mut [u8],
     printed: usize,
 ) -> Paged
-    requires { ⌜ HeadsReady (lent (now store) (now index) count (now integers) (now decimals) (now strings) (now lengths) (now records) (now entries)) scene (now template) (headingsOf (now headings)) (highestOf (headingsOf (now headings)) 9) 61 page asked (now text) printed ⌝ }
-    ensures { λ r. ⌜ Tops (lent (now (store .entry)) (now (index .entry)) count (now (integers .entry)) (now (decimals .entry)) (now (strings .entry)) (now (lengths .entry)) (now (records .entry)) (now (entries .entry))) scene (now (template .entry)) (headingsOf (now (headings .entry))) page (now (text .entry)) printed (now (log .entry)) asked places (now (text .exit)) (now (log .exit)) r ⌝ }
+    requires { ⌜ HeadsReady (lent (now store) (now index) (now numbers) (now strings) (now words)) scene (now template) (headingsOf (headingsIn (now words))) (highestOf (headingsOf (headingsIn (now words))) 9) 61 page asked (now text) printed ⌝ }
+    ensures { λ r. ⌜ Tops (lent (now (store .entry)) (now (index .entry)) (now (numbers .entry)) (now (strings .entry)) (now (words .entry))) scene (now (template .entry)) (headingsOf (headingsIn (now (words .entry)))) page (now (text .entry)) printed (now (log .entry)) asked places (now (text .exit)) (now (log .exit)) r ⌝ }
 {
     if page.line != 1 {
         return Paged {
@@ -300,7 +265,7 @@ fn top<'a>(
             asked,
         };
     }
-    let most = highest(headings);
+    let most = highest(words);
     if most == 0 {
         return Paged {
             end: Ended::Finished,
@@ -310,19 +275,14 @@ fn top<'a>(
         };
     }
     say_heads(
-        headings,
         most,
         template,
         page,
         store,
         index,
-        count,
-        integers,
-        decimals,
+        numbers,
         strings,
-        lengths,
-        records,
-        entries,
+        words,
         scene,
         log,
         asked,
@@ -335,19 +295,14 @@ fn top<'a>(
 // A text line with what comes before it: a break, the headings, the line.
 pub fn step<'a>(
     line: &'a [u8],
-    headings: &'a [u64],
     template: &'a [u8],
     page: Page,
     feeds: bool,
     store: &'a [u8],
     index: &'a [u16],
-    count: usize,
-    integers: &'a [i64],
-    decimals: &'a [i64],
+    numbers: &'a Numbers,
     strings: &'a [[u8; 16]; 99],
-    lengths: &'a [usize],
-    records: &'a [u64],
-    entries: &'a [u64],
+    words: &'a Words,
     scene: Scene,
     log: &mut [u64; 512],
     asked: usize,
@@ -355,8 +310,8 @@ pub fn step<'a>(
     text: &mut [u8],
     printed: usize,
 ) -> Paged
-    requires { ⌜ StepReady (lent (now store) (now index) count (now integers) (now decimals) (now strings) (now lengths) (now records) (now entries)) scene (now template) (headingsOf (now headings)) (now line) page asked (now text) printed ⌝ }
-    ensures { λ r. ⌜ Steps (lent (now (store .entry)) (now (index .entry)) count (now (integers .entry)) (now (decimals .entry)) (now (strings .entry)) (now (lengths .entry)) (now (records .entry)) (now (entries .entry))) scene (now (template .entry)) (headingsOf (now (headings .entry))) feeds (now (line .entry)) page (now (text .entry)) printed (now (log .entry)) asked places (now (text .exit)) (now (log .exit)) r ⌝ }
+    requires { ⌜ StepReady (lent (now store) (now index) (now numbers) (now strings) (now words)) scene (now template) (headingsOf (headingsIn (now words))) (now line) page asked (now text) printed ⌝ }
+    ensures { λ r. ⌜ Steps (lent (now (store .entry)) (now (index .entry)) (now (numbers .entry)) (now (strings .entry)) (now (words .entry))) scene (now (template .entry)) (headingsOf (headingsIn (now (words .entry)))) feeds (now (line .entry)) page (now (text .entry)) printed (now (log .entry)) asked places (now (text .exit)) (now (log .exit)) r ⌝ }
 {
     let turned = page::turn(page, feeds, scene.number, text, printed);
     let end = turned.end;
@@ -371,18 +326,13 @@ pub fn step<'a>(
         };
     };
     let topped = top(
-        headings,
         template,
         first,
         store,
         index,
-        count,
-        integers,
-        decimals,
+        numbers,
         strings,
-        lengths,
-        records,
-        entries,
+        words,
         scene,
         log,
         asked,
@@ -404,13 +354,9 @@ pub fn step<'a>(
         second,
         store,
         index,
-        count,
-        integers,
-        decimals,
+        numbers,
         strings,
-        lengths,
-        records,
-        entries,
+        words,
         scene,
         log,
         heard,

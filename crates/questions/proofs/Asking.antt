@@ -6,7 +6,7 @@ use Prim.Native.Nat.{ℕ, _+_, _≤_, _<_}
 use native.Mathlib.Omega.{arith}
 use borrow.Author.Tests.{le-leb, lt-leb}
 use lib.Dec.{leb}
-use lib.ListN.{set}
+use lib.ListN.{length, set}
 use Rattle.buffers.proofs.Laws.{map-set}
 use Rattle.meaning.specs.Answer.{Answer}
 use Rattle.meaning.specs.Tree.{done, stop, bind}
@@ -33,26 +33,26 @@ use Rattle.questions.specs.inner.Hearing.{Hears, cellAt, placeOf}
 use Rattle.questions.proofs.Words.{unpacked-packed}
 use Rattle.questions.proofs.Indexes.{limited-is}
 
-module _ (b index : List ℕ) (count : ℕ) (q : Question) (line : ℕ) (log : List ℕ) (a p : ℕ) where
-  pub hears : (v : Answered) (w : ℕ) → a < p → w ≡ packed q → Small q → Answers b index count q v → Hears b index count (asks line q) log a p (set log a w) (record { end = Finished; answer = v; asked = a + 1 })
+module _ (b index : List ℕ) (q : Question) (line : ℕ) (log : List ℕ) (a p : ℕ) where
+  pub hears : (v : Answered) (w : ℕ) → a < p → w ≡ packed q → Small q → Answers b index (length index) q v → Hears b index (asks line q) log a p (set log a w) (record { end = Finished; answer = v; asked = a + 1 })
   unfolding asks
   hears v w h e s g = record {
     does = λ n cs r text m k.
         let l : questions (set log a w) ≡ set (questions log) a q = map-set unpacked log a w ∙ ap (λ x. set (questions log) a x) (ap unpacked e ∙ unpacked-packed q s) in
-        rw (same-answer b n index count cs q v r g, l) (does-ask (answers b n) (at text m (questions log) a p k) q line (λ x. x) h);
+        rw (same-answer b n index (length index) cs q v r g, l) (does-ask (answers b n) (at text m (questions log) a p k) q line (λ x. x) h);
     few = omega arith;
   }
 
-  pub hears-full : p ≤ a → Hears b index count (asks line q) log a p log (record { end = Halted (Cut ReadList) line; answer = Missing; asked = a })
+  pub hears-full : p ≤ a → Hears b index (asks line q) log a p log (record { end = Halted (Cut ReadList) line; answer = Missing; asked = a })
   unfolding asks
   hears-full h = record {
     does = λ n cs r text m k. does-ask-full (answers b n) (at text m (questions log) a p k) q line (λ x. done x) h;
     few = omega arith;
   }
 
-module _ (b index : List ℕ) (count line d kind p r e : ℕ) (log : List ℕ) (a places : ℕ) where
+module _ (b index : List ℕ) (line d kind p r e : ℕ) (log : List ℕ) (a places : ℕ) where
   abbrev Outside : Type 0
-  Outside = Hears b index count (cellAt line d kind p r e) log a places log (record { end = Halted (Refused BadIndex) line; answer = Missing; asked = a })
+  Outside = Hears b index (cellAt line d kind p r e) log a places log (record { end = Halted (Refused BadIndex) line; answer = Missing; asked = a })
 
   outside : cellAt line d kind p r e ≡ stop BadIndex line → Outside
   outside h = record {
@@ -68,7 +68,7 @@ module _ (b index : List ℕ) (count line d kind p r e : ℕ) (log : List ℕ) (
   unfolding cellAt
   entry-outside l h = outside (rw (le-leb r 999 l, lt-leb e 999 h))
 
-  pub cell-inside : (log′ : List ℕ) (x : Heard) → r ≤ 999 → e ≤ 999 → Hears b index count (asks line (question d kind p r e)) log a places log′ x → Hears b index count (cellAt line d kind p r e) log a places log′ x
+  pub cell-inside : (log′ : List ℕ) (x : Heard) → r ≤ 999 → e ≤ 999 → Hears b index (asks line (question d kind p r e)) log a places log′ x → Hears b index (cellAt line d kind p r e) log a places log′ x
   unfolding cellAt
   cell-inside log′ x l h y = rw (le-leb r 999 l, le-leb e 999 h) y
 

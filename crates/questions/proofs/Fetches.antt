@@ -33,7 +33,7 @@ use Rattle.questions.specs.inner.Word.{packed, unpacked, Small, question
 use Rattle.questions.specs.Machine.{Machine}
 use Rattle.questions.specs.Indexes.{indexNumber, indexValue}
 use Rattle.questions.specs.Asking.{question}
-use Rattle.questions.specs.inner.State.{stepOf, wordsFrom, fetched, machine}
+use Rattle.questions.specs.inner.State.{stepOf, wordsFrom, fetched, integersIn, held, machine}
 use Rattle.questions.specs.Fetching.{elementQuestion, elementQuestions, countValue, firstOf, asksElements, fetchMeaning}
 use Rattle.questions.specs.inner.Fetch.{fetchAllowed, fetchAt, FetchAt, FetchValue, Fetchable}
 use Rattle.questions.specs.inner.Hearing.{placeOf}
@@ -218,14 +218,14 @@ fetch-is m line along c i j k =
     let z = indexNumber (m .integers) (m .counter) k in
     rw (limited-is line x, limited-is line y, counted-is line z) (all-four line (leb (placeOf x) 999) (leb (placeOf y) 999) (leb (placeOf z) 64) (λ r e n. leb (firstOf along r e + n) 1000) (placeOf x) (placeOf y) (placeOf z) (λ r e n. asksEach line (elementQuestions (elementQuestion (m .datasource) along c r e) 0 n)))
 
-pub fetch-value : (integers : List ℤ) (sc : Scene) (along : Along) (c : ℕ) (i j k : Index) (log : List ℕ) (a p : ℕ) (log′ : List ℕ) (v : Fetched) (r e n : ℕ) (z z′ z″ : ℤ) → z ≡ sc .turn → z′ ≡ sc .turn → z″ ≡ sc .turn → r ≡ placeOf (indexNumber integers z i) → e ≡ placeOf (indexNumber integers z′ j) → n ≡ placeOf (indexNumber integers z″ k) → FetchAt (sc .number) (sc .datasource) along c r e n log a p log′ v → FetchValue integers sc along c i j k log a p log′ v
-fetch-value integers sc along c i j k log a p log′ v r e n z z′ z″ q q′ q″ hr he hn d = record {
-  fetches = λ decimals rows lengths records entries. record {
+pub fetch-value : (numbers : List ℤ) (sc : Scene) (along : Along) (c : ℕ) (i j k : Index) (log : List ℕ) (a p : ℕ) (log′ : List ℕ) (v : Fetched) (r e n : ℕ) (z z′ z″ : ℤ) → z ≡ sc .turn → z′ ≡ sc .turn → z″ ≡ sc .turn → r ≡ placeOf (indexNumber (integersIn numbers) z i) → e ≡ placeOf (indexNumber (integersIn numbers) z′ j) → n ≡ placeOf (indexNumber (integersIn numbers) z″ k) → FetchAt (sc .number) (sc .datasource) along c r e n log a p log′ v → FetchValue numbers sc along c i j k log a p log′ v
+fetch-value numbers sc along c i j k log a p log′ v r e n z z′ z″ q q′ q″ hr he hn d = record {
+  fetches = λ rows words. record {
     does = λ source text m g.
-        let x : r ≡ placeOf (indexNumber integers (sc .turn) i) = hr ∙ ap (λ t. placeOf (indexNumber integers t i)) q in
-        let y : e ≡ placeOf (indexNumber integers (sc .turn) j) = he ∙ ap (λ t. placeOf (indexNumber integers t j)) q′ in
-        let w : n ≡ placeOf (indexNumber integers (sc .turn) k) = hn ∙ ap (λ t. placeOf (indexNumber integers t k)) q″ in
-        rw (fetch-is (machine source integers decimals rows lengths records entries sc) (sc .number) along c i j k, ← x, ← y, ← w) (d .fetches .does source text m g);
+        let x : r ≡ placeOf (indexNumber (integersIn numbers) (sc .turn) i) = hr ∙ ap (λ t. placeOf (indexNumber (integersIn numbers) t i)) q in
+        let y : e ≡ placeOf (indexNumber (integersIn numbers) (sc .turn) j) = he ∙ ap (λ t. placeOf (indexNumber (integersIn numbers) t j)) q′ in
+        let w : n ≡ placeOf (indexNumber (integersIn numbers) (sc .turn) k) = hn ∙ ap (λ t. placeOf (indexNumber (integersIn numbers) t k)) q″ in
+        rw (fetch-is (machine source (held numbers rows words) sc) (sc .number) along c i j k, ← x, ← y, ← w) (d .fetches .does source text m g);
     few = d .fetches .few;
   };
 }

@@ -3,10 +3,11 @@ use mathlib.Core.Path.{_≡_, refl, sym, ap, _∙_}
 use mathlib.Core.List.{List, [], _∷_, map}
 use Prim.Native.Nat.{ℕ, zero, suc, _+_, _-_, _≤_, _<_}
 use native.Mathlib.Omega.{arith}
-use lib.ListN.{length, getD, take, List·getD-eq-default, List·getD-map}
+use lib.ListN.{length, getD, take, drop, length-take, List·getD-eq-default, List·getD-map}
+use lib.Seq.{getD-take, getD-drop}
 use Rattle.strings.specs.inner.Texts.{rowOf}
 use Rattle.questions.specs.Machine.{numbered}
-use Rattle.questions.specs.inner.State.{texts}
+use Rattle.questions.specs.inner.State.{texts, bank}
 
 module _ {A : Type 0} (d : A) (l : List A) where
   pub numbered-none : (n : ℕ) → n < 1 → d ≡ numbered d l n
@@ -23,6 +24,17 @@ module _ {A : Type 0} (d : A) (l : List A) where
   unfolding numbered
   numbered-past zero h k = absurd (omega arith)
   numbered-past (suc n) h k = sym (List·getD-eq-default l d {n = n} (omega arith))
+
+-- the n-th of a part of a row
+module _ {A : Type 0} (d : A) (l : List A) (from size n : ℕ) where
+  pub bank-past : size < n → d ≡ numbered d (bank from size l) n
+  unfolding bank
+  bank-past h = numbered-past d (take size (drop from l)) n (omega arith) (omega (arith, length-take size (drop from l)))
+
+  pub bank-in : 1 ≤ n → n ≤ size → getD l (from + (n - 1)) d ≡ numbered d (bank from size l) n
+  unfolding bank
+  bank-in h k =
+      sym (getD-drop from l (n - 1) d) ∙ sym (getD-take size (drop from l) (n - 1) d (omega arith)) ∙ numbered-in d (take size (drop from l)) n h
 
 pub numbered-map : {A B : Type 0} (f : A → B) (d : A) (e : B) (l : List A) (n : ℕ) → f d ≡ e → numbered e (map f l) n ≡ f (numbered d l n)
 unfolding numbered

@@ -39,16 +39,16 @@ unfolding element turnOf numbered
 element-is found (pos n) = refl
 element-is found (negsuc n) = refl
 
-module _ (b index : List ℕ) (count : ℕ) (along : Along) (f k : ℕ) (z z′ : ℤ) (e : k ≡ turnOf z) (q : z ≡ z′) where
+module _ (b index : List ℕ) (along : Along) (f k : ℕ) (z z′ : ℤ) (e : k ≡ turnOf z) (q : z ≡ z′) where
   named : (found : List Answer) → element found z′ ≡ numbered missing found k
   named found = ap (element found) (sym q) ∙ element-is found z ∙ ap (numbered missing found) (sym e)
 
-  pub recalls-none : k < 1 → Recalls b index count along f z′ Missing
+  pub recalls-none : k < 1 → Recalls b index along f z′ Missing
   unfolding C.meant
   recalls-none h = record { recalls = λ n cs r. numbered-none missing (fetched (answers b n) along f) k h ∙ sym (named (fetched (answers b n) along f)) }
 
   module _ (h : 1 ≤ k) where
-    pub recalls-past : f % 128 < k → Recalls b index count along f z′ Missing
+    pub recalls-past : f % 128 < k → Recalls b index along f z′ Missing
     unfolding C.meant fetched
     recalls-past l = record {
       recalls = λ n cs r.
@@ -56,11 +56,11 @@ module _ (b index : List ℕ) (count : ℕ) (along : Along) (f k : ℕ) (z z′ 
           ∙ sym (named (fetched (answers b n) along f));
     }
 
-    pub recalls-at : (w : ℕ) (v : Answered) (x : Question) → k ≤ f % 128 → w ≡ f / 128 + (k - 1) * stepOf along → x ≡ unpacked w → Answers b index count x v → Recalls b index count along f z′ v
+    pub recalls-at : (w : ℕ) (v : Answered) (x : Question) → k ≤ f % 128 → w ≡ f / 128 + (k - 1) * stepOf along → x ≡ unpacked w → Answers b index (length index) x v → Recalls b index along f z′ v
     unfolding fetched
     recalls-at w v x l g y a = record {
       recalls = λ n cs r.
-          same-answer b n index count cs x v r a
+          same-answer b n index (length index) cs x v r a
           ∙ ap (answers b n) (y ∙ ap unpacked g)
           ∙ sym (elements-at (answers b n) (stepOf along) (f / 128) (f % 128) (k - 1) (omega arith))
           ∙ numbered-in missing (fetched (answers b n) along f) k h

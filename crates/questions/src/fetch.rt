@@ -1,5 +1,6 @@
 // $REC and $TBL: what they fetched is kept as one number and looked up again, since a store doesn't change during a run.
 use crate::scene;
+use crate::scene::Numbers;
 use crate::scene::Scene;
 use crate::word;
 use arguments::index::Index;
@@ -14,27 +15,12 @@ ghost use Prim.Native.Nat.{_+_, _*_, _≤_, _<_};
 ghost use lib.Seq.{sets};
 ghost use Rattle.questions.specs.inner.Fetch.{fetchAllowed, FetchAt, FetchValue, Fetchable, turnOf, Recalls};
 ghost use Rattle.questions.specs.Fetching as F;
-ghost use Rattle.questions.specs.Machine as M;
 ghost use Rattle.questions.specs.inner.State.{stepOf, wordsFrom};
 
 // $REC fetches along records, $TBL along entries.
 pub enum Along {
     Records,
     Entries,
-}
-
-// What Rn or Tn fetched; 0, which is nothing, for any other.
-pub fn numbered(words: &[u64], n: usize) -> u64
-    ensures { λ r. ⌜ r ≡ M.numbered 0 (now (words .entry)) n ⌝ }
-{
-    if n < 1 {
-        return 0;
-    }
-    let i = n - 1;
-    if i < words.len() {
-        return words[i];
-    }
-    0
 }
 
 // The word of the k-th element's question, counted from 0.
@@ -58,15 +44,8 @@ fn turn_of(turn: i64) -> u64
 }
 
 // "Rn and Tn give element LOOP, missing outside 1–count"
-pub fn element(
-    store: &[u8],
-    index: &[u16],
-    count: usize,
-    along: Along,
-    fetched: u64,
-    turn: i64,
-) -> Answered
-    ensures { λ r. ⌜ Recalls (now (store .entry)) (now (index .entry)) count along fetched turn r ⌝ }
+pub fn element(store: &[u8], index: &[u16], along: Along, fetched: u64, turn: i64) -> Answered
+    ensures { λ r. ⌜ Recalls (now (store .entry)) (now (index .entry)) along fetched turn r ⌝ }
 {
     let k = turn_of(turn);
     if k < 1 {
@@ -77,7 +56,7 @@ pub fn element(
     }
     let word = behind(along, fetched / 128, k - 1);
     let question = word::unpacked(word);
-    cells::question::answer(store, index, count, question)
+    cells::question::answer(store, index, index.len(), question)
 }
 
 // How a fetch ended, what is kept of it, and how many questions have been asked now.
@@ -180,17 +159,17 @@ pub fn fetch(
     j: Index,
     n: Index,
     scene: Scene,
-    integers: &[i64],
+    numbers: &Numbers,
     log: &mut [u64; 512],
     asked: usize,
     places: usize,
 ) -> Fetched
     requires { ⌜ Fetchable (scene .datasource) parameter asked ⌝ }
-    ensures { λ r. ⌜ FetchValue (now (integers .entry)) scene along parameter i j n (now (log .entry)) asked places (now (log .exit)) r ⌝ }
+    ensures { λ r. ⌜ FetchValue (now (numbers .entry)) scene along parameter i j n (now (log .entry)) asked places (now (log .exit)) r ⌝ }
 {
-    let at = scene::index_place(i, scene.turn, integers);
-    let entry = scene::index_place(j, scene.turn, integers);
-    let count = scene::index_place(n, scene.turn, integers);
+    let at = scene::index_place(i, scene.turn, numbers);
+    let entry = scene::index_place(j, scene.turn, numbers);
+    let count = scene::index_place(n, scene.turn, numbers);
     fetch_at(
         along,
         scene.datasource,

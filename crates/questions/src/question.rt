@@ -22,7 +22,6 @@ pub struct Heard {
 fn ask(
     store: &[u8],
     index: &[u16],
-    count: usize,
     question: Question,
     line: u32,
     log: &mut [u64; 512],
@@ -30,11 +29,11 @@ fn ask(
     places: usize,
 ) -> Heard
     requires { ⌜ (Small question) × (asked < 512) ⌝ }
-    ensures { λ r. ⌜ Hears (now (store .entry)) (now (index .entry)) count (asks line question) (now (log .entry)) asked places (now (log .exit)) r ⌝ }
+    ensures { λ r. ⌜ Hears (now (store .entry)) (now (index .entry)) (asks line question) (now (log .entry)) asked places (now (log .exit)) r ⌝ }
 {
     if asked < places {
         log[asked] = word::packed(question);
-        let answer = cells::question::answer(store, index, count, question);
+        let answer = cells::question::answer(store, index, index.len(), question);
         return Heard {
             end: Ended::Finished,
             answer,
@@ -52,7 +51,6 @@ fn ask(
 pub fn ask_cell(
     store: &[u8],
     index: &[u16],
-    count: usize,
     datasource: u32,
     line: u32,
     kind: u32,
@@ -64,7 +62,7 @@ pub fn ask_cell(
     places: usize,
 ) -> Heard
     requires { ⌜ Askable datasource kind parameter asked ⌝ }
-    ensures { λ r. ⌜ Hears (now (store .entry)) (now (index .entry)) count (cellAt line datasource kind parameter at entry) (now (log .entry)) asked places (now (log .exit)) r ⌝ }
+    ensures { λ r. ⌜ Hears (now (store .entry)) (now (index .entry)) (cellAt line datasource kind parameter at entry) (now (log .entry)) asked places (now (log .exit)) r ⌝ }
 {
     if 999 < at {
         return Heard {
@@ -87,5 +85,5 @@ pub fn ask_cell(
         record: at,
         entry,
     };
-    ask(store, index, count, question, line, log, asked, places)
+    ask(store, index, question, line, log, asked, places)
 }

@@ -114,7 +114,8 @@ module _ (t name b : List ℕ) (n : ℕ) (T₀ : List ℕ) (R₀ : List Question
         ready = record {
           stored = omega (arith, g .len m, g .stored m);
           short = omega (arith, g .len m, g .short m);
-          kept = subst (λ (k : ℕ). Kept (take k b) index (s .saved .count)) (sym (g .len m)) (g .kept m);
+          kept = subst (λ (k : ℕ). Kept (take k b) (take (s .saved .count) index)) (sym (g .len m)) (g .kept m);
+          counted = g .counted m;
           inside = omega (arith, g .end m, accepted-runs t name (g .run m) (g .accepted m) .inside);
           standing = standing-at (s .saved .left) (stateIn (s .saved) rows b) (g .left m) state-is;
           room = omega (arith, g .printed m);

@@ -45,6 +45,7 @@ module _ (t name b : List ℕ) (n places : ℕ) (p p′ : List ℕ) (x : Indexed
         stored = λ m. absurd (false≢true m);
         short = λ m. absurd (false≢true m);
         kept = λ m. absurd (false≢true m);
+        counted = λ m. absurd (false≢true m);
       }
 
   -- 1
@@ -81,4 +82,5 @@ module _ (t name b : List ℕ) (n places : ℕ) (p p′ : List ℕ) (x : Indexed
           stored = λ _. indexed .stored;
           short = λ _. indexed .short;
           kept = λ _. indexed .kept;
+          counted = λ _. indexed .counted;
         }

@@ -5,7 +5,7 @@ use Prim.Native.Nat.{ℕ}
 use Rattle.template.specs.declared.Run.{Run}
 use Rattle.meaning.specs.Answer.{Answer}
 use Rattle.meaning.specs.declared.question.Question.{Question}
-use Rattle.questions.specs.inner.State.{texts, wordsFrom, fetched}
+use Rattle.questions.specs.inner.State.{texts, wordsFrom, fetched, bank}
 use Rattle.tables.specs.inner.Open.{opened}
 use Rattle.pages.specs.inner.Packed.{headingIn}
 use Rattle.control.specs.inner.Held.{stateOf}
@@ -14,5 +14,5 @@ use Rattle.runs.specs.inner.Start.{startFlow, startSaved}
 use Rattle.runs.specs.inner.Begun.{heldIn}
 
 pub starts-at : (run : Run) (len count places : ℕ) (rows : List (List ℕ)) (source : Question → Answer) → stateOf source (heldIn (startSaved run len count places) rows) (startFlow run) ≡ startOf run
-unfolding startSaved startFlow texts wordsFrom fetched opened headingIn
+unfolding startSaved startFlow bank texts wordsFrom fetched opened headingIn
 starts-at run len count places rows source = refl

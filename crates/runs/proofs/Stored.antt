@@ -2,11 +2,11 @@
 use mathlib.Core.Path.{_≡_, ap, _∙_}
 use mathlib.Core.List.{List}
 use mathlib.Core.Option.{Option, some}
-use Prim.Native.Nat.{ℕ, _≤_}
+use Prim.Native.Nat.{ℕ, _≤_, _<_}
 use native.Mathlib.Omega.{arith}
 use borrow.Author.Tests.{le-leb}
 use lib.ListN.{length, take}
-use lib.Seq.{take-all, length-take-le}
+use lib.Seq.{take-all, length-take-le, getD-take}
 use Rattle.cells.specs.Cell.{Cell}
 use Rattle.cells.specs.Store.{held, cells}
 use Rattle.cells.specs.Asking.{replied, askOf}
@@ -34,7 +34,8 @@ module _ (b : List ℕ) (n : ℕ) (h : n ≤ length b) where
 
 -- the index that was built serves the part
 pub record Serving (b : List ℕ) (n : ℕ) (index : List ℕ) (count : ℕ) : Type 0 where
-  pub kept : Kept (take n b) index count
+  pub kept : Kept (take n b) (take count index)
+  pub counted : count ≤ length index
   pub stored : n ≤ length b
   pub short : n ≤ 65536
   pub cells : List Cell
@@ -44,8 +45,10 @@ pub part-kept : (b : List ℕ) (n : ℕ) (p p′ : List ℕ) (r : Indexed) → I
 part-kept b n p p′ r i count e l =
     let g = index-ready b n p p′ r i count e l in
     let x = held-some b n (g .0) (g .1 .holds) in
+    let m : length (take count p′) ≡ count = length-take-le count p′ (g .1 .room) in
     record {
-      kept = record { cells = g .0; ready = record { holds = part-held b n (x .inside) ∙ g .1 .holds; tally = g .1 .tally; room = g .1 .room; places = g .1 .places } };
+      kept = record { cells = g .0; ready = record { holds = part-held b n (x .inside) ∙ g .1 .holds; tally = m ∙ g .1 .tally; room = omega arith; places = λ j q. let w : j < count = omega (arith, m) in getD-take count p′ j 0 w ∙ g .1 .places j w } };
+      counted = g .1 .room;
       stored = x .inside;
       short = x .most;
       cells = g .0;

@@ -8,8 +8,6 @@ use cells::index::Indexed;
 use control::state::Flow;
 use meaning::refusal::Refusal;
 use pages::page::Page;
-use tables::table::Table;
-use tables::table::Tables;
 use template::Checked;
 use template::Run;
 ghost use mathlib.Core.Path.{_≡_};
@@ -34,22 +32,13 @@ fn flow(run: Run) -> Flow
     ensures { λ r. ⌜ r ≡ startFlow run ⌝ }
 {
     let page = Page::new();
-    let none = Table {
-        counter: 0,
-        last: 0,
-        start: 0,
-        line: 0,
-    };
     Flow {
         at: run.start,
         line: run.line,
         datasource: 1,
         feeds: true,
         page,
-        tables: Tables {
-            rows: [none; 5],
-            depth: 0,
-        },
+        depth: 0,
     }
 }
 
@@ -66,12 +55,8 @@ fn saved(run: Run, len: usize, count: usize, places: usize) -> Saved
         printed: 0,
         asked: 0,
         places,
-        integers: [0; 99],
-        decimals: [0; 99],
-        lengths: [0; 99],
-        records: [0; 10],
-        entries: [0; 10],
-        headings: [0; 9],
+        numbers: [0; 198],
+        words: [0; 148],
     }
 }
 

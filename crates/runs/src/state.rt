@@ -1,6 +1,8 @@
 // What stands between two stretches of lines.
 use crate::Report;
 use control::state::Flow;
+use questions::scene::Numbers;
+use questions::scene::Words;
 
 // The questions of a stretch, each as one number, and the place of the first of them on the read list.
 pub struct Log {
@@ -20,12 +22,8 @@ pub struct Saved {
     pub printed: usize,
     pub asked: usize,
     pub places: usize,
-    pub integers: [i64; 99],
-    pub decimals: [i64; 99],
-    pub lengths: [usize; 99],
-    pub records: [u64; 10],
-    pub entries: [u64; 10],
-    pub headings: [u64; 9],
+    pub numbers: Numbers,
+    pub words: Words,
 }
 
 // Whether the run goes on, the questions of the last stretch, the report where it doesn't, and where it goes on where it does.

@@ -1,12 +1,13 @@
 -- A stretch of lines, line by line.
 use mathlib.Core.Path.{_≡_, refl, sym, ap, _∙_, subst}
 use mathlib.Core.Bool.{false≢true}
-use mathlib.Core.List.{List, [], _∷_}
+use mathlib.Core.List.{List}
 use Prim.Native.Nat.{ℕ, zero, suc, _+_, _-_, _≤_, _<_}
 use native.Mathlib.Omega.{arith}
 use native.Mathlib.Nat.{sub-zero}
 use borrow.Author.Tests.{lt-ltb, le-ltb}
-use lib.ListN.{length, take, replicate, length-map}
+use lib.IntN.{ℤ}
+use lib.ListN.{length, take, drop, replicate, length-take, length-drop}
 use lib.Seq.{length-take-le}
 use Rattle.meaning.specs.Answer.{Answer}
 use Rattle.meaning.specs.Tree.{done, stop, bind, End, finished}
@@ -25,15 +26,12 @@ use Rattle.meaning.proofs.Doing.{then-does, then-over, does-done, does-stop, ro
 use Rattle.meaning.proofs.Looping.{Leads, leads-start, leads-next, leads-end}
 use Rattle.meaning.proofs.Keeping.{yields}
 use Rattle.questions.specs.inner.Word.{questions}
-use Rattle.questions.specs.inner.State.{texts, fetched}
-use Rattle.questions.specs.declared.fetch.Along.the-variants.{Records, Entries}
-use Rattle.pages.specs.inner.Packed.{headingIn}
+use Rattle.questions.specs.inner.State.{bank, tablesIn, Held, held}
 use Rattle.control.specs.declared.state.Flow.{Flow}
 use Rattle.control.specs.declared.state.Lined.{Lined}
-use Rattle.control.specs.inner.Held.{Held, stateOf}
 use Rattle.control.specs.State.{State}
 use Rattle.control.specs.Line.{lineMeaning}
-use Rattle.control.specs.inner.Executing.{sourceOf, stateAt, LineReady, Executes}
+use Rattle.control.specs.inner.Executing.{sourceOf, Kept, stateAt, LineReady, Executes}
 use Rattle.execution.proofs.Sounds.{On, sound-more, line-keeps}
 use Rattle.runs.specs.declared.state.Saved.{Saved}
 use Rattle.runs.specs.declared.state.Stretch.{Stretch}
@@ -64,37 +62,10 @@ module _ (t : List ℕ) (end : ℕ) where
   run-late zero s z h = rw (lt-ltb (s .at) end h)
   run-late (suc f) s z h = absurd (omega arith)
 
--- ---- the lengths of the rows that are lent
-
-texts-length : (rows : List (List ℕ)) (k : ℕ) (ns : List ℕ) → length (texts rows k ns) ≡ length ns
-unfolding texts
-texts-length rows k [] = refl
-texts-length rows k (n ∷ ns) = ap suc (texts-length rows (suc k) ns)
-
-pub record Lengths (h : Held) : Type 0 where
-  pub integers : length (h .integers) ≡ 99
-  pub decimals : length (h .decimals) ≡ 99
-  pub lengths : length (h .lengths) ≡ 99
-  pub records : length (h .records) ≡ 10
-  pub entries : length (h .entries) ≡ 10
-  pub headings : length (h .headings) ≡ 9
-
-standing-lengths : {t : List ℕ} {left : ℕ} (source : Question → Answer) (h : Held) (f : Flow) → Standing t left (stateOf source h f) → Lengths h
-standing-lengths source h f s =
-    let i = s .sound in
-    record {
-      integers = i .integers;
-      decimals = i .decimals;
-      lengths = sym (texts-length (h .rows) 0 (h .lengths)) ∙ i .strings;
-      records = sym (length-map (h .records) (fetched source Records)) ∙ i .records;
-      entries = sym (length-map (h .entries) (fetched source Entries)) ∙ i .entries;
-      headings = sym (length-map (h .headings) headingIn) ∙ i .headings;
-    }
-
 -- ---- where the loop stands
 
-abbrev pub savedIn : Saved → Held → Flow → ℕ → ℕ → ℕ → Saved
-savedIn v h f left printed logged =
+abbrev pub savedIn : Saved → List ℤ → List ℕ → Flow → ℕ → ℕ → ℕ → Saved
+savedIn v numbers words f left printed logged =
     record {
       flow = f;
       left = left;
@@ -104,26 +75,26 @@ savedIn v h f left printed logged =
       printed = printed;
       asked = v .asked + logged;
       places = v .places;
-      integers = h .integers;
-      decimals = h .decimals;
-      lengths = h .lengths;
-      records = h .records;
-      entries = h .entries;
-      headings = h .headings;
+      numbers = numbers;
+      words = words;
     }
 
 -- from what v says, the lines so far led here
 pub record Going (t b : List ℕ) (v : Saved) (rows : List (List ℕ)) (T₀ : List ℕ) (h : Held) (f : Flow) (T Q : List ℕ) (left printed logged : ℕ) : Type 0 where
   pub leads : (j : ℕ) → Leads (sourceOf (storeOf v b)) (stretch (v .left - left + j) t (v .end) (stateIn v rows b)) (fresh T₀ v) (stretch j t (v .end) (stateAt (storeOf v b) h f)) (at T printed (questions Q) logged (v .places - v .asked) (f .page .number))
   pub standing : Standing t left (stateAt (storeOf v b) h f)
-  pub lengths : Lengths h
   pub rows-held : length (h .rows) ≡ 99
+  pub table-words : length (h .tables) ≡ 20
   pub text-same : length T ≡ length T₀
   pub room : printed ≤ length T
   pub spent : left ≤ v .left
   pub logged-most : logged ≤ 512
   pub places-left : logged ≤ v .places - v .asked
   pub begun : 0 < logged → left < v .left
+
+words-tables : (words : List ℕ) → length words ≡ 148 → length (tablesIn words) ≡ 20
+unfolding bank
+words-tables words e = omega (arith, e, length-take 20 (drop 128 words), length-drop 128 words)
 
 module _ (t b index T : List ℕ) (rows : List (List ℕ)) (s : Stretch) (r : RunReady t b index T rows (s .saved)) where
   abbrev v : Saved
@@ -139,12 +110,19 @@ module _ (t b index T : List ℕ) (rows : List (List ℕ)) (s : Stretch) (r : Ru
   part-is : part ≡ storeOf v b
   part-is = ap (λ (n : ℕ). take n b) (sub-zero (v .len))
 
-  pub going-start : Going t b v rows T (heldIn v rows) (v .flow) T (replicate 512 0) (v .left) (v .printed) 0
-  going-start = record {
+  -- the part of the index that has its cells
+  abbrev cells : List ℕ
+  cells = take (v .count - 0) index
+
+  cells-is : cells ≡ take (v .count) index
+  cells-is = ap (λ (n : ℕ). take n index) (sub-zero (v .count))
+
+  pub going-start : length (v .words) ≡ 148 → Going t b v rows T (heldIn v rows) (v .flow) T (replicate 512 0) (v .left) (v .printed) 0
+  going-start e = record {
     leads = λ j. let z : v .left - v .left + j ≡ j = omega arith in rw z (leads-start source (stretch j t (v .end) (stateIn v rows b)) (fresh T v));
     standing = r .standing;
-    lengths = standing-lengths source (heldIn v rows) (v .flow) (r .standing);
     rows-held = r .rows-held;
+    table-words = words-tables (v .words) e;
     text-same = refl;
     room = r .room;
     spent = omega arith;
@@ -204,18 +182,19 @@ module _ (t b index T : List ℕ) (rows : List (List ℕ)) (s : Stretch) (r : Ru
           (finish here (endOf (stateAt (storeOf v b) h f) (Halted (Refused TooManyLines) (f .line))) (rw (run-late t (v .end) left (stateAt (storeOf v b) h f) z k) (does-stop source here TooManyLines (f .line))))
 
       -- the log is full
-      pub run-full : 182 < logged → x ≡ fullAt (v .asked) Q₁ logged (savedIn v h f left printed logged) → Ran t b index T rows s T₁ (h .rows) x
+      pub run-full : (numbers : List ℤ) (words : List ℕ) → h ≡ held numbers (h .rows) words → 180 < logged → x ≡ fullAt (v .asked) Q₁ logged (savedIn v numbers words f left printed logged) → Ran t b index T rows s T₁ (h .rows) x
       unfolding fullAt
-      run-full k i = subst (Ran t b index T rows s T₁ (h .rows)) (sym i) (record {
+      run-full numbers words q k i = subst (Ran t b index T rows s T₁ (h .rows)) (sym i) (record {
         few = g .logged-most;
         place = refl;
-        on = λ _. so-far;
+        on = λ _. subst (λ (y : Held). Does source (stretch (v .left - left) t (v .end) (stateIn v rows b)) (fresh T v) here (finished (stateAt (storeOf v b) y f))) q so-far;
         ready = λ _. record {
           stored = r .stored;
           short = r .short;
           kept = r .kept;
+          counted = r .counted;
           inside = r .inside;
-          standing = g .standing;
+          standing = subst (λ (y : Held). Standing t left (stateAt (storeOf v b) y f)) q (g .standing);
           room = g .room;
           asked = asked-fit;
           rows-held = g .rows-held;
@@ -229,24 +208,25 @@ module _ (t b index T : List ℕ) (rows : List (List ℕ)) (s : Stretch) (r : Ru
         over = λ y. absurd (false≢true (sym y));
       })
 
-    module _ (z : 0 < left) (k : f .at < v .end) (few : logged ≤ 182) where
+    module _ (z : 0 < left) (k : f .at < v .end) (few : logged ≤ 180) where
       within : f .at < length t
       within = omega (arith, k, r .inside)
 
-      pub line-ready : LineReady part index (v .count) t h f T₁ printed logged
-      line-ready = subst (λ (q : List ℕ). LineReady q index (v .count) t h f T₁ printed logged) (sym part-is) (record {
-        kept = r .kept;
+      pub line-ready : LineReady part cells t h f T₁ printed logged
+      line-ready = subst (λ (q : List ℕ). LineReady q cells t h f T₁ printed logged) (sym part-is) (record {
+        kept = subst (Kept (storeOf v b)) (sym cells-is) (r .kept);
         stored = omega (arith, length-take-le (v .len) b (r .stored), r .short);
         sound = sound-more 50001 (omega (arith, g .standing .most)) (g .standing .sound);
         inside = within;
         rows = g .rows-held;
+        table-words = g .table-words;
         room = g .room;
         places = omega (arith, few);
       })
 
-      module _ (h′ : Held) (T₂ Q₂ : List ℕ) (o : Lined) (d′ : Executes (lineMeaning t (stateAt part h f)) part h f T₁ printed Q₁ logged (v .places - v .asked) h′ T₂ Q₂ o) where
-        d : Executes (lineMeaning t (stateAt (storeOf v b) h f)) (storeOf v b) h f T₁ printed Q₁ logged (v .places - v .asked) h′ T₂ Q₂ o
-        d = subst (λ (q : List ℕ). Executes (lineMeaning t (stateAt q h f)) q h f T₁ printed Q₁ logged (v .places - v .asked) h′ T₂ Q₂ o) part-is d′
+      module _ (h′ : Held) (T₂ Q₂ : List ℕ) (o : Lined) (d′ : Executes 332 (lineMeaning t (stateAt part h f)) part h f T₁ printed Q₁ logged (v .places - v .asked) h′ T₂ Q₂ o) where
+        d : Executes 332 (lineMeaning t (stateAt (storeOf v b) h f)) (storeOf v b) h f T₁ printed Q₁ logged (v .places - v .asked) h′ T₂ Q₂ o
+        d = subst (λ (q : List ℕ). Executes 332 (lineMeaning t (stateAt q h f)) q h f T₁ printed Q₁ logged (v .places - v .asked) h′ T₂ Q₂ o) part-is d′
 
         abbrev there : Place Question
         there = at T₂ (o .printed) (questions Q₂) (o .asked) (v .places - v .asked) (o .flow .page .number)
@@ -290,8 +270,8 @@ module _ (t b index T : List ℕ) (rows : List (List ℕ)) (s : Stretch) (r : Ru
                 let w : v .left - left + suc j ≡ v .left - (left - 1) + j = omega (arith, z, g .spent) in
                 leads-next (lineMeaning t (stateAt (storeOf v b) h f)) (stretch j t (v .end)) (rw (w, stretch-more t (v .end) j (stateAt (storeOf v b) h f) k) at (g .leads (suc j))) line-done;
             standing = stands;
-            lengths = standing-lengths source h′ (o .flow) stands;
-            rows-held = d .rows ∙ g .rows-held;
+            rows-held = d .rows .0 ∙ g .rows-held;
+            table-words = d .rows .1 ∙ g .table-words;
             text-same = text-next;
             room = room-kept line-done (g .room);
             spent = omega (arith, g .spent);

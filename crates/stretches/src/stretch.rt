@@ -26,18 +26,16 @@ pub fn run<'a, 'b, 'c>(
     let part = &store[0..len];
     let end = saved.end;
     let count = saved.count;
+    let whole = &index[..];
+    let cells = &whole[0..count];
     let asked = saved.asked;
     let places = saved.places - asked;
-    let mut integers = saved.integers;
-    let mut decimals = saved.decimals;
-    let mut lengths = saved.lengths;
-    let mut records = saved.records;
-    let mut entries = saved.entries;
-    let mut headings = saved.headings;
+    let mut numbers = saved.numbers;
+    let mut words = saved.words;
     let mut flow = saved.flow;
     let mut left = saved.left;
     let mut printed = saved.printed;
-    let mut words = [0u64; 512];
+    let mut log = [0u64; 512];
     let mut logged = 0usize;
     while 0 < left {
         let at = flow.at;
@@ -47,11 +45,11 @@ pub fn run<'a, 'b, 'c>(
                 flow.page.number,
                 printed,
                 asked,
-                &words,
+                &log,
                 logged,
             );
         }
-        if 182 < logged {
+        if 180 < logged {
             let next = Saved {
                 flow,
                 left,
@@ -61,30 +59,21 @@ pub fn run<'a, 'b, 'c>(
                 printed,
                 asked: asked + logged,
                 places: saved.places,
-                integers,
-                decimals,
-                lengths,
-                records,
-                entries,
-                headings,
+                numbers,
+                words,
             };
-            return ends::full(asked, &words, logged, next);
+            return ends::full(asked, &log, logged, next);
         }
         let lined = line::line(
             template,
             part,
-            index,
-            count,
-            &mut integers,
-            &mut decimals,
+            cells,
+            &mut numbers,
             strings,
-            &mut lengths,
-            &mut records,
-            &mut entries,
-            &mut headings,
+            &mut words,
             text,
             printed,
-            &mut words,
+            &mut log,
             logged,
             places,
             flow,
@@ -94,7 +83,7 @@ pub fn run<'a, 'b, 'c>(
         logged = lined.asked;
         let ended = lined.end;
         let Ended::Finished = ended else {
-            return ends::over(ended, flow.page.number, printed, asked, &words, logged);
+            return ends::over(ended, flow.page.number, printed, asked, &log, logged);
         };
         left -= 1;
     }
@@ -105,7 +94,7 @@ pub fn run<'a, 'b, 'c>(
             flow.page.number,
             printed,
             asked,
-            &words,
+            &log,
             logged,
         );
     }
@@ -114,7 +103,7 @@ pub fn run<'a, 'b, 'c>(
         flow.page.number,
         printed,
         asked,
-        &words,
+        &log,
         logged,
     )
 }

@@ -1,24 +1,22 @@
-// $BT and $ET: the open tables are a small struct by value.
-use arguments::argument::Argument;
-use coercions::taking;
+// $BT and $ET: an open table is four of the words that are lent.
+use coercions::settle;
+use coercions::settle::Taken;
 use lines::command::Optional;
 use meaning::end::Ended;
 use meaning::end::Halt;
 use meaning::refusal::Refusal;
 use numbers::sign;
-use questions::scene::Scene;
+use questions::scene::Words;
 use values::worth;
+use values::worth::Worth;
 ghost use mathlib.Core.Path.{_≡_};
-ghost use mathlib.Core.List.{[], _∷_};
+ghost use Prim.Native.Nat.{_<_};
 ghost use lib.IntN.{pos};
 ghost use lib.Signed.{ltZ};
-ghost use Rattle.arguments.specs.inner.Parameter.{parameterOf};
-ghost use Rattle.strings.specs.inner.Texts.{Sized};
-ghost use Rattle.questions.specs.inner.Hearing.{Askable};
-ghost use Rattle.coercions.specs.Settling.{settled};
+ghost use Rattle.questions.specs.inner.State.{tablesIn};
 ghost use Rattle.tables.specs.Looping as L;
 ghost use Rattle.tables.specs.Looping.{noTable, countedTo};
-ghost use Rattle.tables.specs.inner.Open.{openOf, wentIn, overIn, AtMostOpen, Closes, parameterIn, Loops, BeginsTable, EndsTable};
+ghost use Rattle.tables.specs.inner.Open.{tableIn, openOf, wentIn, overIn, AtMostOpen, Closes, Pushes, Loops, Begins, BeginsTable, EndsTable};
 
 // An open table: its counter, its n, and the line after its $BT by place and number.
 pub struct Table {
@@ -28,17 +26,11 @@ pub struct Table {
     pub line: u32,
 }
 
-pub struct Tables {
-    pub rows: [Table; 5],
-    pub depth: usize,
-}
-
-// How a line ended, the tables that are open then, whether the run goes on where the line leads, and the questions asked.
+// How a line ended, how many tables are open then, and whether the run goes on where the line leads.
 pub struct Looped {
     pub end: Ended,
-    pub tables: Tables,
+    pub depth: usize,
     pub jumps: bool,
-    pub asked: usize,
 }
 
 fn below_one(z: i64) -> bool
@@ -58,50 +50,67 @@ fn no_table() -> Table
     }
 }
 
-// The innermost table; one without passes where none is open.
-pub fn innermost(tables: Tables) -> Table
-    ensures { λ r. ⌜ r ≡ L.innermost (openOf tables) ⌝ }
+// Table i, counted from 0.
+fn table_in(words: &Words, i: usize) -> Table
+    requires { ⌜ i < 5 ⌝ }
+    ensures { λ r. ⌜ r ≡ tableIn (tablesIn (now (words .entry))) i ⌝ }
 {
-    let depth = tables.depth;
+    let k = 128 + i * 4;
+    let counter = words[k];
+    let last = words[k + 1];
+    let start = words[k + 2];
+    let line = words[k + 3];
+    Table {
+        counter: (counter % 4_294_967_296) as u32,
+        last,
+        start: start as usize,
+        line: (line % 4_294_967_296) as u32,
+    }
+}
+
+// The innermost table; one without passes where none is open.
+pub fn innermost(words: &Words, depth: usize) -> Table
+    ensures { λ r. ⌜ r ≡ L.innermost (openOf (now (words .entry)) depth) ⌝ }
+{
     if depth < 1 {
         return no_table();
     }
     let i = depth - 1;
     if i < 5 {
-        return tables.rows[i];
+        return table_in(words, i);
     }
     no_table()
 }
 
 // LOOP
-pub fn turn_of(tables: Tables) -> i64
-    ensures { λ r. ⌜ r ≡ pos (L.loop (openOf tables)) ⌝ }
+pub fn turn_of(words: &Words, depth: usize) -> i64
+    ensures { λ r. ⌜ r ≡ pos (L.loop (openOf (now (words .entry)) depth)) ⌝ }
 {
-    let table = innermost(tables);
+    let table = innermost(words, depth);
     worth::signed(table.counter)
 }
 
 // A table more.
-fn pushed(mut tables: Tables, table: Table) -> Tables
-    requires { ⌜ AtMostOpen 4 tables ⌝ }
-    ensures { λ r. ⌜ openOf r ≡ table ∷ openOf tables ⌝ }
+fn pushed(words: &mut Words, depth: usize, table: Table) -> usize
+    requires { ⌜ AtMostOpen 4 (now words) depth ⌝ }
+    ensures { λ r. ⌜ Pushes (now (words .entry)) depth table (now (words .exit)) r ⌝ }
 {
-    let depth = tables.depth;
-    tables.rows[depth] = table;
-    tables.depth = depth + 1;
-    tables
+    let k = 128 + depth * 4;
+    words[k] = table.counter as u64;
+    words[k + 1] = table.last;
+    words[k + 2] = table.start as u64;
+    words[k + 3] = table.line as u64;
+    depth + 1
 }
 
 // Without the innermost.
-fn closed(mut tables: Tables) -> Tables
-    ensures { λ r. ⌜ Closes tables r ⌝ }
+fn closed(depth: usize) -> usize
+    ensures { λ r. ⌜ Closes depth r ⌝ }
 {
-    let depth = tables.depth;
     if depth < 1 {
-        return tables;
+        return depth;
     }
-    tables.depth = depth - 1;
-    tables
+    depth - 1
 }
 
 fn again(table: Table, counter: u32) -> Table
@@ -125,35 +134,33 @@ fn exceeds(counter: u64, last: u64) -> bool
     last < counter
 }
 
-fn went(tables: Tables, jumps: bool, asked: usize) -> Looped
-    ensures { λ r. ⌜ r ≡ wentIn tables jumps asked ⌝ }
+fn went(depth: usize, jumps: bool) -> Looped
+    ensures { λ r. ⌜ r ≡ wentIn depth jumps ⌝ }
 {
     Looped {
         end: Ended::Finished,
-        tables,
+        depth,
         jumps,
-        asked,
     }
 }
 
-fn over(halt: Halt, line: u32, tables: Tables, asked: usize) -> Looped
-    ensures { λ r. ⌜ r ≡ overIn halt line tables asked ⌝ }
+fn over(refusal: Refusal, line: u32, depth: usize) -> Looped
+    ensures { λ r. ⌜ r ≡ overIn refusal line depth ⌝ }
 {
     Looped {
-        end: Ended::Halted(halt, line),
-        tables,
+        end: Ended::Halted(Halt::Refused(refusal), line),
+        depth,
         jumps: false,
-        asked,
     }
 }
 
 // $BT with its value
-fn begun(z: i64, start: usize, next: u32, number: u32, tables: Tables, asked: usize) -> Looped
-    requires { ⌜ AtMostOpen 4 tables ⌝ }
-    ensures { λ r. ⌜ Loops (settled (L.begun (openOf tables) start next z)) number asked r ⌝ }
+fn begun(z: i64, start: usize, next: u32, words: &mut Words, depth: usize) -> Looped
+    requires { ⌜ AtMostOpen 4 (now words) depth ⌝ }
+    ensures { λ r. ⌜ Begins (now (words .entry)) depth start next z (now (words .exit)) r ⌝ }
 {
     if below_one(z) {
-        return went(tables, true, asked);
+        return went(depth, true);
     }
     let last = sign::magnitude(z);
     let table = Table {
@@ -162,123 +169,66 @@ fn begun(z: i64, start: usize, next: u32, number: u32, tables: Tables, asked: us
         start,
         line: next,
     };
-    let more = pushed(tables, table);
-    went(more, false, asked)
+    let more = pushed(words, depth, table);
+    went(more, false)
 }
 
 // $ET with its value
-fn counted(k: i64, number: u32, tables: Tables, asked: usize) -> Looped
-    requires { ⌜ AtMostOpen 5 tables ⌝ }
-    ensures { λ r. ⌜ Loops (L.counted (openOf tables) k) number asked r ⌝ }
+fn counted(k: i64, number: u32, words: &mut Words, depth: usize) -> Looped
+    requires { ⌜ AtMostOpen 5 (now words) depth ⌝ }
+    ensures { λ r. ⌜ Loops (L.counted (openOf (now (words .entry)) depth) k) number (now (words .entry)) (now (words .exit)) r ⌝ }
 {
     if below_one(k) {
-        return over(Halt::Refused(Refusal::OutOfRange), number, tables, asked);
+        return over(Refusal::OutOfRange, number, depth);
     }
-    let table = innermost(tables);
-    let rest = closed(tables);
+    let table = innermost(words, depth);
+    let rest = closed(depth);
     let step = sign::magnitude(k);
     let counter = table.counter as u64 + step;
     if exceeds(counter, table.last) {
-        return went(rest, false, asked);
+        return went(rest, false);
     }
-    let more = pushed(rest, again(table, counter as u32));
-    went(more, true, asked)
+    let more = pushed(words, rest, again(table, counter as u32));
+    went(more, true)
 }
 
 // $BT: `start` and `next` are the line after it, by place and number.
-pub fn begin_table<'a>(
-    line: &'a [u8],
-    store: &'a [u8],
-    index: &'a [u16],
-    count: usize,
-    integers: &'a [i64],
-    decimals: &'a [i64],
-    strings: &'a [[u8; 16]; 99],
-    lengths: &'a [usize],
-    records: &'a [u64],
-    entries: &'a [u64],
-    scene: Scene,
-    tables: Tables,
+pub fn begin_table(
+    worth: Worth,
     start: usize,
     next: u32,
-    argument: Argument,
-    log: &mut [u64; 512],
-    asked: usize,
-    places: usize,
+    number: u32,
+    words: &mut Words,
+    depth: usize,
 ) -> Looped
-    requires { ⌜ (Askable (scene .datasource) 1 (parameterOf (argument .operand)) asked) × ((Sized (now line) (now store)) × (AtMostOpen 4 tables)) ⌝ }
-    ensures { λ r. ⌜ BeginsTable (now (line .entry)) (now (store .entry)) (now (index .entry)) count (now (integers .entry)) (now (decimals .entry)) (now (strings .entry)) (now (lengths .entry)) (now (records .entry)) (now (entries .entry)) scene tables start next argument (now (log .entry)) asked places (now (log .exit)) r ⌝ }
+    requires { ⌜ AtMostOpen 4 (now words) depth ⌝ }
+    ensures { λ r. ⌜ BeginsTable worth start next number (now (words .entry)) depth (now (words .exit)) r ⌝ }
 {
-    let v = taking::integer_value(
-        line,
-        store,
-        index,
-        count,
-        integers,
-        decimals,
-        strings,
-        lengths,
-        records,
-        entries,
-        scene,
-        argument,
-        log,
-        asked,
-        places,
-    );
-    let end = v.end;
-    match end {
-        Ended::Halted(h, l) => over(h, l, tables, v.asked),
-        Ended::Finished => begun(v.value, start, next, scene.number, tables, v.asked),
+    let taken = settle::integer_of(worth);
+    match taken {
+        Taken::Refused(e) => over(e, number, depth),
+        Taken::Value(z) => begun(z, start, next, words, depth),
     }
 }
 
 // $ET
-pub fn end_table<'a>(
-    line: &'a [u8],
-    store: &'a [u8],
-    index: &'a [u16],
-    count: usize,
-    integers: &'a [i64],
-    decimals: &'a [i64],
-    strings: &'a [[u8; 16]; 99],
-    lengths: &'a [usize],
-    records: &'a [u64],
-    entries: &'a [u64],
-    scene: Scene,
-    tables: Tables,
+pub fn end_table(
     optional: Optional,
-    log: &mut [u64; 512],
-    asked: usize,
-    places: usize,
+    worth: Worth,
+    number: u32,
+    words: &mut Words,
+    depth: usize,
 ) -> Looped
-    requires { ⌜ (Askable (scene .datasource) 1 (parameterIn optional) asked) × ((Sized (now line) (now store)) × (AtMostOpen 5 tables)) ⌝ }
-    ensures { λ r. ⌜ EndsTable (now (line .entry)) (now (store .entry)) (now (index .entry)) count (now (integers .entry)) (now (decimals .entry)) (now (strings .entry)) (now (lengths .entry)) (now (records .entry)) (now (entries .entry)) scene tables optional (now (log .entry)) asked places (now (log .exit)) r ⌝ }
+    requires { ⌜ AtMostOpen 5 (now words) depth ⌝ }
+    ensures { λ r. ⌜ EndsTable optional worth number (now (words .entry)) depth (now (words .exit)) r ⌝ }
 {
     match optional {
-        Optional::Absent => counted(1, scene.number, tables, asked),
-        Optional::Given(argument) => {
-            let v = taking::integer_value(
-                line,
-                store,
-                index,
-                count,
-                integers,
-                decimals,
-                strings,
-                lengths,
-                records,
-                entries,
-                scene,
-                argument,
-                log,
-                asked,
-                places,
-            );
-            let end = v.end;
-            match end {
-                Ended::Halted(h, l) => over(h, l, tables, v.asked),
-                Ended::Finished => counted(v.value, scene.number, tables, v.asked),
+        Optional::Absent => counted(1, number, words, depth),
+        Optional::Given(_) => {
+            let taken = settle::integer_of(worth);
+            match taken {
+                Taken::Refused(e) => over(e, number, depth),
+                Taken::Value(k) => counted(k, number, words, depth),
             }
         }
     }

@@ -6,3 +6,4 @@ pub mod Giving
 pub mod Answering
 pub mod Ranges
 pub mod Allowed
+pub mod Inputs

@@ -1,1 +1,2 @@
 pub mod Yielding
+pub mod Working

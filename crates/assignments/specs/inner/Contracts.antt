@@ -1,45 +1,54 @@
 -- What the contracts of $SETE to $SETD say.
 use mathlib.Core.Path.{_≡_}
 use mathlib.Core.List.{List}
-use Prim.Native.Nat.{ℕ}
+use Prim.Native.Nat.{ℕ, _+_, _≤_}
 use lib.IntN.{ℤ}
 use lib.ListN.{length}
 use Rattle.meaning.specs.Answer.{Answer}
 use Rattle.meaning.specs.declared.question.Question.{Question}
 use Rattle.meaning.specs.declared.end.Ended.{Ended}
-use Rattle.arguments.specs.declared.argument.Argument.{Argument}
 use Rattle.lines.specs.declared.command.Operation.{Operation}
 use Rattle.lines.specs.declared.command.Target.{Target}
 use Rattle.strings.specs.inner.Texts.{strings}
 use Rattle.questions.specs.declared.scene.Scene.{Scene}
-use Rattle.questions.specs.inner.State.{texts, machine}
+use Rattle.questions.specs.inner.State.{texts, bank, lengthsIn, Held, machine}
 use Rattle.values.specs.declared.worth.Worth as W
 use Rattle.values.specs.inner.Yielding.{meant}
-use Rattle.coercions.specs.declared.settle.Done.{Done}
-use Rattle.coercions.specs.inner.Contracts.{Concludes, Runs}
-use Rattle.assignments.specs.Setting.{setNumbered, stored, stringNew, setOf, setMeaning}
+use Rattle.coercions.specs.declared.settle.Taken.{Taken}
+use Rattle.coercions.specs.inner.Contracts.{takenOf, Concludes}
+use Rattle.assignments.specs.Setting.{setNumbered, stored, stringNew, setOf}
 
--- "SV1–SV99": a row and a length for each
-pub record Held (rows : List (List ℕ)) (lengths : List ℕ) : Type 0 where
+-- "SV1–SV99": a row for each
+pub record Rowed (rows : List (List ℕ)) : Type 0 where
   pub rows-held : length rows ≡ 99
-  pub lengths-held : length lengths ≡ 99
+
+-- the n-th of a part is x now, any other what it was, and so is every other part
+pub record Puts {A : Type 0} (l : List A) (from size n : ℕ) (x : A) (l′ : List A) : Type 0 where
+  pub own : bank from size l′ ≡ setNumbered (bank from size l) n x
+  pub below : (i k : ℕ) → i + k ≤ from → bank i k l′ ≡ bank i k l
+  pub above : (i k : ℕ) → from + size ≤ i → bank i k l′ ≡ bank i k l
+
+-- a result as the n-th of IV or FV, or the refusal
+pub record StoresNumber (numbers : List ℤ) (from n : ℕ) (t : Taken) (line : ℕ) (numbers′ : List ℤ) (end : Ended) : Type 0 where
+  pub concludes : Concludes (stored (bank from 99 numbers) n (takenOf t)) line (bank from 99 numbers′) end
+  pub below : (i k : ℕ) → i + k ≤ from → bank i k numbers′ ≡ bank i k numbers
+  pub above : (i k : ℕ) → from + 99 ≤ i → bank i k numbers′ ≡ bank i k numbers
 
 -- SVn is s now, any other what it was
-pub record PutsString (rows : List (List ℕ)) (lengths : List ℕ) (n : ℕ) (s : List ℕ) (rows′ : List (List ℕ)) (lengths′ : List ℕ) : Type 0 where
-  pub put : texts rows′ 0 lengths′ ≡ setNumbered (texts rows 0 lengths) n s
-  pub held : Held rows′ lengths′
+pub record PutsString (rows : List (List ℕ)) (words : List ℕ) (n : ℕ) (s : List ℕ) (rows′ : List (List ℕ)) (words′ : List ℕ) : Type 0 where
+  pub put : texts rows′ 0 (lengthsIn words′) ≡ setNumbered (texts rows 0 (lengthsIn words)) n s
+  pub held : Rowed rows′
+  pub above : (i k : ℕ) → 99 ≤ i → bank i k words′ ≡ bank i k words
 
 -- the string of a value as SVn, or the refusal
-pub record StoresString (line store : List ℕ) (rows : List (List ℕ)) (lengths : List ℕ) (n number : ℕ) (w : W.Worth) (rows′ : List (List ℕ)) (lengths′ : List ℕ) (end : Ended) : Type 0 where
-  pub concludes : Concludes (stored (texts rows 0 lengths) n (stringNew (meant (strings line store rows) w))) number (texts rows′ 0 lengths′) end
-  pub held : Held rows′ lengths′
+pub record StoresString (line store : List ℕ) (rows : List (List ℕ)) (words : List ℕ) (n number : ℕ) (w : W.Worth) (rows′ : List (List ℕ)) (words′ : List ℕ) (end : Ended) : Type 0 where
+  pub concludes : Concludes (stored (texts rows 0 (lengthsIn words)) n (stringNew (meant (strings line store rows) w))) number (texts rows′ 0 (lengthsIn words′)) end
+  pub held : Rowed rows′
+  pub above : (i k : ℕ) → 99 ≤ i → bank i k words′ ≡ bank i k words
 
--- a value given to a variable of either kind
-pub record Assigns (line store : List ℕ) (integers decimals : List ℤ) (rows : List (List ℕ)) (lengths : List ℕ) (number : ℕ) (o : Operation) (t : Target) (w : W.Worth) (integers′ decimals′ : List ℤ) (rows′ : List (List ℕ)) (lengths′ : List ℕ) (end : Ended) : Type 0 where
-  pub concludes : (source : Question → Answer) (records entries : List ℕ) (scene : Scene) → Concludes (setOf (machine source integers decimals rows lengths records entries scene) o t (meant (strings line store rows) w)) number (machine source integers′ decimals′ rows′ lengths′ records entries scene) end
-  pub held : Held rows′ lengths′
-
--- What `set_variable` says, by all that it is handed and hands back.
-pub record SetsVariable (line store index : List ℕ) (count : ℕ) (integers decimals : List ℤ) (rows : List (List ℕ)) (lengths records entries : List ℕ) (scene : Scene) (o : Operation) (t : Target) (x : Argument) (log : List ℕ) (a p : ℕ) (integers′ decimals′ : List ℤ) (rows′ : List (List ℕ)) (lengths′ log′ : List ℕ) (r : Done) : Type 0 where
-  pub runs : Runs store index count (λ source. setMeaning (machine source integers decimals rows lengths records entries scene) line (scene .number) o t x) (λ source. machine source integers′ decimals′ rows′ lengths′ records entries scene) 1 log a p log′ (r .asked) (r .end)
-  pub held : Held rows′ lengths′
+-- a value given to a variable of any kind: what `assigned` says, by all that it is handed and hands back
+pub record Assigns (line store : List ℕ) (vars : Held) (number : ℕ) (o : Operation) (t : Target) (w : W.Worth) (vars′ : Held) (end : Ended) : Type 0 where
+  pub concludes : (source : Question → Answer) (scene : Scene) → Concludes (setOf (machine source vars scene) o t (meant (strings line store (vars .rows)) w)) number (machine source vars′ scene) end
+  pub held : Rowed (vars′ .rows)
+  pub headings : vars′ .headings ≡ vars .headings
+  pub tables : vars′ .tables ≡ vars .tables

@@ -3,6 +3,7 @@ use mathlib.Core.Path.{_≡_}
 use mathlib.Core.List.{List}
 use Prim.Native.Nat.{ℕ, _+_, _≤_}
 use lib.IntN.{ℤ}
+use lib.ListN.{length}
 use Rattle.meaning.specs.Answer.{Answer}
 use Rattle.meaning.specs.Meaning.{Meaning}
 use Rattle.meaning.specs.Number.{endOf}
@@ -14,12 +15,9 @@ use Rattle.meaning.specs.declared.refusal.Refusal.{Refusal}
 use Rattle.numbers.specs.declared.Quantity.{Quantity}
 use Rattle.cells.specs.Cell.{Cell}
 use Rattle.cells.specs.inner.Index.{Ready}
-use Rattle.arguments.specs.declared.argument.Argument.{Argument}
 use Rattle.strings.specs.inner.Texts.{Strings, textOf}
-use Rattle.questions.specs.declared.scene.Scene.{Scene}
 use Rattle.questions.specs.inner.Word.{questions}
 use Rattle.questions.specs.Source.{answers}
-use Rattle.questions.specs.inner.State.{machine}
 use Rattle.values.specs.declared.worth.Worth as W
 use Rattle.values.specs.Worth as D
 use Rattle.values.specs.inner.Yielding.{meant}
@@ -29,8 +27,7 @@ use Rattle.coercions.specs.declared.settle.Amount.{Amount}
 use Rattle.coercions.specs.declared.settle.Amount.the-variants as A
 use Rattle.coercions.specs.declared.settle.Phrase.{Phrase}
 use Rattle.coercions.specs.declared.settle.Phrase.the-variants as P
-use Rattle.coercions.specs.declared.taking.Counted.{Counted}
-use Rattle.coercions.specs.Settling.{Settled, settled, against, quantityFrom, stringFrom, integerMeaning}
+use Rattle.coercions.specs.Settling.{Settled, settled, against, quantityFrom, stringFrom}
 
 -- a result or why there is none, as the code has it
 abbrev pub takenOf : Taken → Settled ℤ
@@ -66,10 +63,6 @@ pub record Concludes {A : Type 0} (x : Settled A) (line : ℕ) (after : A) (end 
 
 -- A line that only asks, over the store and its index: from a log filled up to a, with p places in all, t led to log′ and to
 -- what stands there after it, whatever the text is and however many pages there are.
-pub record Runs {A : Type 0} (b index : List ℕ) (count : ℕ) (t : (Question → Answer) → Meaning A) (after : (Question → Answer) → A) (most : ℕ) (log : List ℕ) (a p : ℕ) (log′ : List ℕ) (a′ : ℕ) (end : Ended) : Type 0 where
-  pub does : (n : ℕ) (cs : List Cell) → Ready b n index count cs → (text : List ℕ) (m g : ℕ) → Does (answers b n) (t (answers b n)) (at text m (questions log) a p g) (at text m (questions log′) a′ p g) (endOf (after (answers b n)) end)
+pub record Runs {A : Type 0} (b index : List ℕ) (t : (Question → Answer) → Meaning A) (after : (Question → Answer) → A) (most : ℕ) (log : List ℕ) (a p : ℕ) (log′ : List ℕ) (a′ : ℕ) (end : Ended) : Type 0 where
+  pub does : (n : ℕ) (cs : List Cell) → Ready b n index (length index) cs → (text : List ℕ) (m g : ℕ) → Does (answers b n) (t (answers b n)) (at text m (questions log) a p g) (at text m (questions log′) a′ p g) (endOf (after (answers b n)) end)
   pub few : a′ ≤ a + most
-
--- What `integer_value` says, by all that it is handed and hands back.
-pub record TakesIntegerValue (line store index : List ℕ) (count : ℕ) (integers decimals : List ℤ) (rows : List (List ℕ)) (lengths records entries : List ℕ) (scene : Scene) (x : Argument) (log : List ℕ) (a p : ℕ) (log′ : List ℕ) (r : Counted) : Type 0 where
-  pub runs : Runs store index count (λ source. integerMeaning (machine source integers decimals rows lengths records entries scene) line (scene .number) x) (λ source. r .value) 1 log a p log′ (r .asked) (r .end)

@@ -2,7 +2,6 @@
 use mathlib.Core.Path.{_≡_}
 use mathlib.Core.List.{List}
 use Prim.Native.Nat.{ℕ, _+_, _≤_, _<_}
-use lib.IntN.{ℤ}
 use lib.ListN.{length}
 use Rattle.cells.specs.Cell.{Cell}
 use Rattle.cells.specs.inner.Index as I
@@ -16,7 +15,7 @@ use Rattle.questions.specs.declared.scene.Scene.{Scene}
 use Rattle.questions.specs.inner.Word.{questions}
 use Rattle.questions.specs.Machine.{Machine}
 use Rattle.questions.specs.Source.{answers}
-use Rattle.questions.specs.inner.State.{machine}
+use Rattle.questions.specs.inner.State.{Held, machine}
 use Rattle.arguments.specs.declared.argument.Argument.{Argument}
 use Rattle.lines.specs.declared.command.Line.{Line}
 use Rattle.lines.specs.declared.command.Line.the-variants.{BeginTable}
@@ -25,7 +24,7 @@ use Rattle.lines.proofs.Accepted as parsed
 use Rattle.control.specs.inner.Going.{sceneOf}
 use Rattle.control.specs.declared.state.Flow.{Flow}
 use Rattle.control.specs.declared.state.Lined.{Lined}
-use Rattle.control.specs.inner.Held.{Held, stateOf}
+use Rattle.control.specs.inner.Held.{stateOf}
 use Rattle.control.specs.State.{State}
 use Rattle.control.specs.inner.Sound.{Fit, Sound}
 
@@ -34,44 +33,44 @@ abbrev pub sourceOf : List ℕ → Question → Answer
 sourceOf b q = answers b (length b) q
 
 -- the index serves the store
-pub record Kept (b index : List ℕ) (count : ℕ) : Type 0 where
+pub record Kept (b index : List ℕ) : Type 0 where
   pub cells : List Cell
-  pub ready : I.Ready b (length b) index count cells
+  pub ready : I.Ready b (length b) index (length index) cells
 
 abbrev pub stateAt : List ℕ → Held → Flow → State
 stateAt b h f = stateOf (sourceOf b) h f
 
 -- the machine as the arguments of a line see it
 abbrev pub machineIn : List ℕ → Held → Scene → Machine
-machineIn b h s = machine (sourceOf b) (h .integers) (h .decimals) (h .rows) (h .lengths) (h .records) (h .entries) s
+machineIn b h s = machine (sourceOf b) h s
 
--- From the flow f, with a text filled up to u and a log up to a, m led to r, and to h′ in the lent rows.
-pub record Executes (m : Meaning State) (b : List ℕ) (h : Held) (f : Flow) (T : List ℕ) (u : ℕ) (log : List ℕ) (a p : ℕ) (h′ : Held) (T′ log′ : List ℕ) (r : Lined) : Type 0 where
+-- as many rows
+abbrev pub SameRows : Held → Held → Type 0
+SameRows h h′ = (length (h′ .rows) ≡ length (h .rows)) × (length (h′ .tables) ≡ length (h .tables))
+
+-- From the flow f, with a text filled up to u and a log up to a, m led to r, with `most` questions at most, and to h′ in the lent rows.
+pub record Executes (most : ℕ) (m : Meaning State) (b : List ℕ) (h : Held) (f : Flow) (T : List ℕ) (u : ℕ) (log : List ℕ) (a p : ℕ) (h′ : Held) (T′ log′ : List ℕ) (r : Lined) : Type 0 where
   pub does : Does (sourceOf b) m (at T u (questions log) a p (f .page .number)) (at T′ (r .printed) (questions log′) (r .asked) p (r .flow .page .number)) (endOf (stateAt b h′ (r .flow)) (r .end))
-  pub few : r .asked ≤ a + 330
-  pub rows : length (h′ .rows) ≡ length (h .rows)
-
--- the rows as they are lent
-abbrev pub held : List ℤ → List ℤ → List (List ℕ) → List ℕ → List ℕ → List ℕ → List ℕ → Held
-held integers decimals rows lengths records entries headings =
-    record { integers = integers; decimals = decimals; rows = rows; lengths = lengths; records = records; entries = entries; headings = headings }
+  pub few : r .asked ≤ a + most
+  pub rows : SameRows h h′
 
 -- What a line requires: a store in form with its index, a state that holds between lines, room in the log for all that a line
 -- may ask.
-pub record LineReady (b index : List ℕ) (count : ℕ) (t : List ℕ) (h : Held) (f : Flow) (T : List ℕ) (u a : ℕ) : Type 0 where
-  pub kept : Kept b index count
+pub record LineReady (b index : List ℕ) (t : List ℕ) (h : Held) (f : Flow) (T : List ℕ) (u a : ℕ) : Type 0 where
+  pub kept : Kept b index
   pub stored : length b ≤ 65536
   pub sound : Sound t 50001 (stateAt b h f)
   pub inside : f .at < length t
   pub rows : length (h .rows) ≡ 99
+  pub table-words : length (h .tables) ≡ 20
   pub room : u ≤ length T
-  pub places : a + 330 ≤ 512
+  pub places : a + 332 ≤ 512
 
--- What a line in its form requires, behind it.
-pub record FormReady (body b index : List ℕ) (count : ℕ) (t : List ℕ) (h : Held) (scene : Scene) (start : ℕ) (f : Flow) (form : Line) (T : List ℕ) (u a : ℕ) : Type 0 where
-  pub kept : Kept b index count
+-- What a line in its form requires, behind it and its arguments.
+pub record FormReady (body b index : List ℕ) (t : List ℕ) (h : Held) (scene : Scene) (start : ℕ) (f : Flow) (form : Line) (T : List ℕ) (u a : ℕ) : Type 0 where
+  pub kept : Kept b index
   pub stored : length b ≤ 65536
-  pub scened : scene ≡ sceneOf f (scene .number)
+  pub scened : scene ≡ sceneOf (h .tables) f (scene .number)
   pub parsed : parsed.Sound body form
   pub short : length body ≤ 132
   pub template : length t ≤ 32768
@@ -79,13 +78,14 @@ pub record FormReady (body b index : List ℕ) (count : ℕ) (t : List ℕ) (h :
   pub numbered : (1 ≤ scene .number) × (scene .number ≤ 32769)
   pub few : f .line ≤ 65536
   pub datasource : f .datasource ≤ 35
-  pub tables : f .tables .depth ≤ 5
-  pub room-for-table : (x : Argument) → form ≡ BeginTable x → f .tables .depth ≤ 4
+  pub tables : f .depth ≤ 5
+  pub room-for-table : (x : Argument) → form ≡ BeginTable x → f .depth ≤ 4
   pub page : f .page .number ≤ 50001
   pub row : f .page .line ≤ 61
   pub integers : length (h .integers) ≡ 99
   pub decimals : length (h .decimals) ≡ 99
   pub rows : length (h .rows) ≡ 99
+  pub table-words : length (h .tables) ≡ 20
   pub lengths : length (h .lengths) ≡ 99
   pub records : length (h .records) ≡ 10
   pub entries : length (h .entries) ≡ 10

@@ -8,9 +8,8 @@ use Rattle.meaning.specs.declared.end.Ended.{Ended}
 use Rattle.shapes.specs.declared.seek.Sought.{Sought}
 use Rattle.shapes.specs.Seek.{skipped}
 use Rattle.questions.specs.declared.scene.Scene.{Scene}
-use Rattle.tables.specs.declared.table.Tables.{Tables}
 use Rattle.tables.specs.Looping.{loop, innermost}
-use Rattle.tables.specs.inner.Open.{openOf}
+use Rattle.tables.specs.inner.Open.{opened}
 use Rattle.pages.specs.declared.page.Page.{Page}
 use Rattle.control.specs.declared.state.Flow.{Flow}
 use Rattle.control.specs.declared.state.Lined.{Lined}
@@ -18,27 +17,27 @@ use Rattle.control.specs.declared.state.Lined.{Lined}
 abbrev pub endedIn : Ended → Flow → ℕ → ℕ → Lined
 endedIn e f u a = record { end = e; flow = f; printed = u; asked = a }
 
--- what a line with a number is executed in
-abbrev pub sceneOf : Flow → ℕ → Scene
-sceneOf f l = record { datasource = f .datasource; page = f .page .number; row = f .page .line; number = l; turn = pos (loop (openOf (f .tables))) }
+-- what a line with a number is executed in; ws are the words of the open tables
+abbrev pub sceneOf : List ℕ → Flow → ℕ → Scene
+sceneOf ws f l = record { datasource = f .datasource; page = f .page .number; row = f .page .line; number = l; turn = pos (loop (opened ws (f .depth))) }
 
 abbrev pub placedAt : Flow → ℕ → ℕ → Flow
-placedAt f at line = record { at = at; line = line; datasource = f .datasource; feeds = f .feeds; page = f .page; tables = f .tables }
+placedAt f at line = record { at = at; line = line; datasource = f .datasource; feeds = f .feeds; page = f .page; depth = f .depth }
 
 abbrev pub datasourceIn : Flow → ℕ → Flow
-datasourceIn f d = record { at = f .at; line = f .line; datasource = d; feeds = f .feeds; page = f .page; tables = f .tables }
+datasourceIn f d = record { at = f .at; line = f .line; datasource = d; feeds = f .feeds; page = f .page; depth = f .depth }
 
-abbrev pub tablesIn : Flow → Tables → Flow
-tablesIn f ts = record { at = f .at; line = f .line; datasource = f .datasource; feeds = f .feeds; page = f .page; tables = ts }
+abbrev pub depthIn : Flow → ℕ → Flow
+depthIn f d = record { at = f .at; line = f .line; datasource = f .datasource; feeds = f .feeds; page = f .page; depth = d }
 
 abbrev pub feedsIn : Flow → Bool → Flow
-feedsIn f x = record { at = f .at; line = f .line; datasource = f .datasource; feeds = x; page = f .page; tables = f .tables }
+feedsIn f x = record { at = f .at; line = f .line; datasource = f .datasource; feeds = x; page = f .page; depth = f .depth }
 
 abbrev pub pageIn : Flow → Page → Flow
-pageIn f p = record { at = f .at; line = f .line; datasource = f .datasource; feeds = f .feeds; page = p; tables = f .tables }
+pageIn f p = record { at = f .at; line = f .line; datasource = f .datasource; feeds = f .feeds; page = p; depth = f .depth }
 
 abbrev pub jumpedIn : List ℕ → Flow → Sought → Flow
 jumpedIn t f q = placedAt f (f .at + skipped (drop (f .at) t) q .bytes) (f .line + skipped (drop (f .at) t) q .lines)
 
-abbrev pub againIn : Flow → Flow
-againIn f = placedAt f (innermost (openOf (f .tables)) .start) (innermost (openOf (f .tables)) .line)
+abbrev pub againIn : List ℕ → Flow → Flow
+againIn ws f = placedAt f (innermost (opened ws (f .depth)) .start) (innermost (opened ws (f .depth)) .line)

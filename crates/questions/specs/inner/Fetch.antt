@@ -5,6 +5,7 @@ use mathlib.Core.List.{List}
 use Prim.Native.Nat.{ℕ, _+_, _≤_}
 use lib.Dec.{leb}
 use lib.IntN.{ℤ, pos, negsuc}
+use lib.ListN.{length}
 use Rattle.meaning.specs.Answer.{Answer}
 use Rattle.meaning.specs.Tree.{stop}
 use Rattle.meaning.specs.Meaning.{Meaning, asksEach}
@@ -21,7 +22,7 @@ use Rattle.questions.specs.declared.fetch.Along.{Along}
 use Rattle.questions.specs.declared.fetch.Fetched.{Fetched}
 use Rattle.questions.specs.declared.scene.Scene.{Scene}
 use Rattle.questions.specs.inner.Word.{questions}
-use Rattle.questions.specs.inner.State.{fetched, machine}
+use Rattle.questions.specs.inner.State.{fetched, held, machine}
 use Rattle.questions.specs.Source.{answers}
 use Rattle.questions.specs.Fetching.{elementQuestion, elementQuestions, firstOf, fetchMeaning, element}
 
@@ -42,8 +43,8 @@ pub record Fetches (t : (Question → Answer) → Meaning (List Answer)) (along 
 pub record FetchAt (line d : ℕ) (along : Along) (c r e n : ℕ) (log : List ℕ) (a p : ℕ) (log′ : List ℕ) (v : Fetched) : Type 0 where
   pub fetches : Fetches (λ source. fetchAt line d along c r e n) along log a p log′ v
 
-pub record FetchValue (integers : List ℤ) (scene : Scene) (along : Along) (c : ℕ) (i j k : Index) (log : List ℕ) (a p : ℕ) (log′ : List ℕ) (v : Fetched) : Type 0 where
-  pub fetches : (decimals : List ℤ) (rows : List (List ℕ)) (lengths records entries : List ℕ) → Fetches (λ source. fetchMeaning (machine source integers decimals rows lengths records entries scene) (scene .number) along c i j k) along log a p log′ v
+pub record FetchValue (numbers : List ℤ) (scene : Scene) (along : Along) (c : ℕ) (i j k : Index) (log : List ℕ) (a p : ℕ) (log′ : List ℕ) (v : Fetched) : Type 0 where
+  pub fetches : (rows : List (List ℕ)) (words : List ℕ) → Fetches (λ source. fetchMeaning (machine source (held numbers rows words) scene) (scene .number) along c i j k) along log a p log′ v
 
 -- What such a call requires: a datasource and a parameter within their limits, and 64 places in the log.
 pub record Fetchable (d c a : ℕ) : Type 0 where
@@ -57,5 +58,5 @@ turnOf (pos n) = n
 turnOf (negsuc n) = 0
 
 -- r is the element that a counter names of what was fetched
-pub record Recalls (b index : List ℕ) (count : ℕ) (along : Along) (f : ℕ) (counter : ℤ) (r : Answered) : Type 0 where
-  pub recalls : (n : ℕ) (cs : List Cell) → Ready b n index count cs → C.meant b r ≡ element (fetched (answers b n) along f) counter
+pub record Recalls (b index : List ℕ) (along : Along) (f : ℕ) (counter : ℤ) (r : Answered) : Type 0 where
+  pub recalls : (n : ℕ) (cs : List Cell) → Ready b n index (length index) cs → C.meant b r ≡ element (fetched (answers b n) along f) counter

@@ -4,6 +4,7 @@ use mathlib.Core.List.{List}
 use Prim.Native.Nat.{ℕ, _+_, _≤_, _<_}
 use lib.Dec.{leb}
 use lib.IntN.{ℤ, pos, negsuc}
+use lib.ListN.{length}
 use Rattle.meaning.specs.Answer.{Answer}
 use Rattle.meaning.specs.Tree.{stop}
 use Rattle.meaning.specs.Meaning.{Meaning}
@@ -30,8 +31,8 @@ cellAt line d kind p r e =
 
 -- A call that only asks, over the store and its index: from a log filled up to a, with p places in all, t led to log′ and
 -- was answered by r, whatever the text is and however many pages there are.
-pub record Hears (b index : List ℕ) (count : ℕ) (t : Meaning Answer) (log : List ℕ) (a p : ℕ) (log′ : List ℕ) (r : Heard) : Type 0 where
-  pub does : (n : ℕ) (cs : List Cell) → Ready b n index count cs → (text : List ℕ) (m g : ℕ) → Does (answers b n) t (at text m (questions log) a p g) (at text m (questions log′) (r .asked) p g) (endOf (C.meant b (r .answer)) (r .end))
+pub record Hears (b index : List ℕ) (t : Meaning Answer) (log : List ℕ) (a p : ℕ) (log′ : List ℕ) (r : Heard) : Type 0 where
+  pub does : (n : ℕ) (cs : List Cell) → Ready b n index (length index) cs → (text : List ℕ) (m g : ℕ) → Does (answers b n) t (at text m (questions log) a p g) (at text m (questions log′) (r .asked) p g) (endOf (C.meant b (r .answer)) (r .end))
   pub few : r .asked ≤ a + 1
 
 -- What a call that may ask one question requires: a datasource and a parameter within their limits, and a place in the log.

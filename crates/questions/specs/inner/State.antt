@@ -2,7 +2,7 @@
 use mathlib.Core.List.{List, [], _∷_, map}
 use Prim.Native.Nat.{ℕ, zero, suc, _+_, _/_, _%_}
 use lib.IntN.{ℤ}
-use lib.ListN.{take}
+use lib.ListN.{take, drop}
 use Rattle.meaning.specs.Answer.{Answer}
 use Rattle.meaning.specs.declared.question.Question.{Question}
 use Rattle.strings.specs.inner.Texts.{rowOf}
@@ -37,16 +37,67 @@ wordsFrom step w (suc n) = w ∷ wordsFrom step (w + step) n
 unfoldable pub fetched : (Question → Answer) → Along → ℕ → List Answer
 fetched source along f = map source (questions (wordsFrom (stepOf along) (firstWord f) (fetchCount f)))
 
--- the machine that the code's state stands for
-abbrev pub machine : (Question → Answer) → List ℤ → List ℤ → List (List ℕ) → List ℕ → List ℕ → List ℕ → Scene → Machine
-machine source integers decimals rows lengths records entries s =
+-- a part of a row: n from a place on
+unfoldable pub bank : {A : Type 0} → ℕ → ℕ → List A → List A
+bank from n l = take n (drop from l)
+
+-- the registers between two lines: IV and FV; SV by its bytes and lengths; R, T and headings, each as one number;
+-- the open tables, each as four
+pub record Held : Type 0 where
+  pub integers : List ℤ
+  pub decimals : List ℤ
+  pub rows : List (List ℕ)
+  pub lengths : List ℕ
+  pub records : List ℕ
+  pub entries : List ℕ
+  pub headings : List ℕ
+  pub tables : List ℕ
+
+-- The rows that are lent: numbers are IV, then FV; words are the lengths of SV, then R, T, the headings and the open tables.
+abbrev pub integersIn : List ℤ → List ℤ
+integersIn numbers = bank 0 99 numbers
+
+abbrev pub decimalsIn : List ℤ → List ℤ
+decimalsIn numbers = bank 99 99 numbers
+
+abbrev pub lengthsIn : List ℕ → List ℕ
+lengthsIn words = bank 0 99 words
+
+abbrev pub recordsIn : List ℕ → List ℕ
+recordsIn words = bank 99 10 words
+
+abbrev pub entriesIn : List ℕ → List ℕ
+entriesIn words = bank 109 10 words
+
+abbrev pub headingsIn : List ℕ → List ℕ
+headingsIn words = bank 119 9 words
+
+abbrev pub tablesIn : List ℕ → List ℕ
+tablesIn words = bank 128 20 words
+
+abbrev pub held : List ℤ → List (List ℕ) → List ℕ → Held
+held numbers rows words =
     record {
-      integers = integers;
-      decimals = decimals;
-      strings = texts rows 0 lengths;
+      integers = integersIn numbers;
+      decimals = decimalsIn numbers;
+      rows = rows;
+      lengths = lengthsIn words;
+      records = recordsIn words;
+      entries = entriesIn words;
+      headings = headingsIn words;
+      tables = tablesIn words;
+    }
+
+-- the machine that the code's state stands for
+abbrev pub machine : (Question → Answer) → Held → Scene → Machine
+machine source vars s =
+    record {
+      integers = vars .integers;
+      decimals = vars .decimals;
+      strings = texts (vars .rows) 0 (vars .lengths);
       counter = s .turn;
-      records = map (fetched source Records) records;
-      entries = map (fetched source Entries) entries;
+      records = map (fetched source Records) (vars .records);
+      entries = map (fetched source Entries) (vars .entries);
       datasource = s .datasource;
       page = s .page;
       row = s .row;

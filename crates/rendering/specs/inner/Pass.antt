@@ -20,7 +20,7 @@ use Rattle.questions.specs.declared.scene.Scene.{Scene}
 use Rattle.questions.specs.inner.Word.{questions}
 use Rattle.questions.specs.Machine.{Machine}
 use Rattle.questions.specs.Source.{answers}
-use Rattle.questions.specs.inner.State.{machine}
+use Rattle.questions.specs.inner.State.{Held, held, machine}
 use Rattle.values.specs.declared.worth.Worth as C
 use Rattle.values.specs.declared.worth.Worth.the-variants as W
 use Rattle.values.specs.Worth.{Worth}
@@ -52,40 +52,22 @@ orWrong w W.Wrong = true
 orWrong w (W.Number q) = w
 orWrong w (W.Text t) = w
 
--- all that a line reads: the store and its index, the variables, what was fetched
+-- all that a line reads: the store and its index, the registers
 pub record Lent : Type 0 where
   pub store : List ℕ
   pub index : List ℕ
-  pub count : ℕ
-  pub integers : List ℤ
-  pub decimals : List ℤ
-  pub rows : List (List ℕ)
-  pub lengths : List ℕ
-  pub records : List ℕ
-  pub entries : List ℕ
+  pub vars : Held
 
-abbrev pub lent : List ℕ → List ℕ → ℕ → List ℤ → List ℤ → List (List ℕ) → List ℕ → List ℕ → List ℕ → Lent
-lent store index count integers decimals rows lengths records entries =
-    record {
-      store = store;
-      index = index;
-      count = count;
-      integers = integers;
-      decimals = decimals;
-      rows = rows;
-      lengths = lengths;
-      records = records;
-      entries = entries;
-    }
+abbrev pub lent : List ℕ → List ℕ → List ℤ → List (List ℕ) → List ℕ → Lent
+lent store index numbers rows words = record { store = store; index = index; vars = held numbers rows words }
 
 -- the machine that it stands for, with a source of answers
 abbrev pub machineOf : Lent → Scene → (Question → Answer) → Machine
-machineOf x s source =
-    machine source (x .integers) (x .decimals) (x .rows) (x .lengths) (x .records) (x .entries) s
+machineOf x s source = machine source (x .vars) s
 
 -- something said of the answers that the store gives, where the index is that of its cells
 abbrev pub Sourced : Lent → ((Question → Answer) → Type 0) → Type 0
-Sourced x P = (n : ℕ) (cs : List Cell) → Ready (x .store) n (x .index) (x .count) cs → P (answers (x .store) n)
+Sourced x P = (n : ℕ) (cs : List Cell) → Ready (x .store) n (x .index) (length (x .index)) cs → P (answers (x .store) n)
 
 -- What a line requires: its text has a form and fits, there are places in the log for all its fields, and limits that the
 -- checks of the template and of the store give.

@@ -12,22 +12,14 @@ use Rattle.meaning.specs.declared.question.Question.{Question}
 use Rattle.runs.specs.declared.state.Saved.{Saved}
 use Rattle.runs.specs.declared.state.Stretch.{Stretch}
 use Rattle.runs.specs.declared.Report.{Report}
-use Rattle.control.specs.inner.Held.{Held, stateOf}
+use Rattle.questions.specs.inner.State.{Held, held}
+use Rattle.control.specs.inner.Held.{stateOf}
 use Rattle.control.specs.inner.Executing.{Kept}
 use Rattle.runs.specs.Report.{startOf, Outcome, textIn, reportOf, reportIn}
 
 -- what is saved between two stretches, beside the rows of SV
 abbrev pub heldIn : Saved → List (List ℕ) → Held
-heldIn v rows =
-    record {
-      integers = v .integers;
-      decimals = v .decimals;
-      rows = rows;
-      lengths = v .lengths;
-      records = v .records;
-      entries = v .entries;
-      headings = v .headings;
-    }
+heldIn v rows = held (v .numbers) rows (v .words)
 
 -- o is a refusal of the whole call, and r says so: nothing is printed, nothing asked
 pub record Untouched (o : Outcome) (r : Report) : Type 0 where
@@ -50,4 +42,5 @@ pub record Begun (t name b : List ℕ) (n places : ℕ) (index : List ℕ) (r : 
   pub len : r .more ≡ true → r .saved .len ≡ n
   pub stored : r .more ≡ true → n ≤ length b
   pub short : r .more ≡ true → n ≤ 65536
-  pub kept : r .more ≡ true → Kept (take n b) index (r .saved .count)
+  pub kept : r .more ≡ true → Kept (take n b) (take (r .saved .count) index)
+  pub counted : r .more ≡ true → r .saved .count ≤ length index

@@ -5,7 +5,6 @@ use Prim.Native.Nat.{ℕ, _+_}
 use lib.IntN.{pos}
 use lib.ListN.{replicate}
 use Rattle.template.specs.declared.Run.{Run}
-use Rattle.tables.specs.Looping.{noTable}
 use Rattle.meaning.specs.Number.{refusalNumber, numberOf, lineOf, endOf}
 use Rattle.meaning.specs.declared.refusal.Refusal.{Refusal}
 use Rattle.meaning.specs.declared.end.Ended.{Ended}
@@ -28,7 +27,7 @@ startFlow r =
       datasource = 1;
       feeds = true;
       page = newPage;
-      tables = record { rows = replicate 5 noTable; depth = 0 };
+      depth = 0;
     }
 
 -- nothing printed, nothing asked, every variable blank
@@ -43,12 +42,8 @@ startSaved r len count places =
       printed = 0;
       asked = 0;
       places = places;
-      integers = replicate 99 (pos 0);
-      decimals = replicate 99 (pos 0);
-      lengths = replicate 99 0;
-      records = replicate 10 0;
-      entries = replicate 10 0;
-      headings = replicate 9 0;
+      numbers = replicate 198 (pos 0);
+      words = replicate 148 0;
     }
 
 abbrev pub emptyReport : ℕ → ℕ → Report

@@ -44,7 +44,8 @@ pub record Standing (t : List ℕ) (left : ℕ) (s : State) : Type 0 where
 pub record RunReady (t b index T : List ℕ) (rows : List (List ℕ)) (v : Saved) : Type 0 where
   pub stored : v .len ≤ length b
   pub short : v .len ≤ 65536
-  pub kept : Kept (storeOf v b) index (v .count)
+  pub kept : Kept (storeOf v b) (take (v .count) index)
+  pub counted : v .count ≤ length index
   pub inside : v .end ≤ length t
   pub standing : Standing t (v .left) (stateIn v rows b)
   pub room : v .printed ≤ length T

@@ -1,63 +1,95 @@
--- What the code holds of the open tables, and what its contracts say.
+-- The words that stand for the open tables, and what its contracts say.
 use mathlib.Core.Path.{_≡_}
 use mathlib.Core.Bool.{Bool, false}
 use mathlib.Core.List.{List, [], _∷_}
-use Prim.Native.Nat.{ℕ, zero, suc, _≤_}
-use lib.IntN.{ℤ}
-use lib.ListN.{getD, drop}
-use Rattle.meaning.specs.declared.end.Halt.{Halt}
+use Prim.Native.Nat.{ℕ, zero, suc, _+_, _*_, _%_, _≤_}
+use lib.IntN.{ℤ, pos}
+use lib.ListN.{length, getD, drop}
+use Rattle.meaning.specs.declared.refusal.Refusal.{Refusal}
+use Rattle.meaning.specs.declared.end.Halt.the-variants.{Refused}
 use Rattle.meaning.specs.declared.end.Ended.the-variants.{Finished, Halted}
-use Rattle.arguments.specs.declared.argument.Argument.{Argument}
 use Rattle.lines.specs.declared.command.Optional.{Optional}
 use Rattle.lines.specs.declared.command.Optional.the-variants.{Given, Absent}
-use Rattle.questions.specs.declared.scene.Scene.{Scene}
-use Rattle.questions.specs.inner.State.{machine}
-use Rattle.arguments.specs.inner.Parameter.{parameterOf}
 use Rattle.tables.specs.declared.table.Table.{Table}
-use Rattle.tables.specs.declared.table.Tables.{Tables}
 use Rattle.tables.specs.declared.table.Looped.{Looped}
-use Rattle.coercions.specs.Settling.{Settled}
-use Rattle.coercions.specs.inner.Contracts.{Concludes, Runs}
-use Rattle.tables.specs.Looping.{Looping, looping, beginMeaning, noTable, endMeaning}
+use Rattle.questions.specs.inner.State.{bank, tablesIn}
+use Rattle.strings.specs.inner.Texts.{Strings}
+use Rattle.values.specs.declared.worth.Worth as W
+use Rattle.values.specs.Worth.{Worth}
+use Rattle.values.specs.inner.Yielding.{meant}
+use Rattle.coercions.specs.Settling.{Settled, settled, andThen, integerFrom}
+use Rattle.coercions.specs.inner.Contracts.{Concludes}
+use Rattle.tables.specs.Looping.{Looping, looping, begun, noTable, counted}
 
-unfoldable pub opened : List Table → ℕ → List Table
-opened ts zero = []
-opened ts (suc d) = getD ts d noTable ∷ opened ts d
+-- table i, counted from 0: its counter, its n, and the line after its $BT by place and number
+abbrev pub tableIn : List ℕ → ℕ → Table
+tableIn ws i =
+    record {
+      counter = getD ws (i * 4) 0 % 4294967296;
+      last = getD ws (i * 4 + 1) 0;
+      start = getD ws (i * 4 + 2) 0;
+      line = getD ws (i * 4 + 3) 0 % 4294967296;
+    }
 
-abbrev pub openOf : Tables → List Table
-openOf t = opened (t .rows) (t .depth)
+-- so many are open: the innermost first
+unfoldable pub opened : List ℕ → ℕ → List Table
+opened ws zero = []
+opened ws (suc d) = tableIn ws d ∷ opened ws d
 
-abbrev pub loopingOf : Looped → Looping
-loopingOf r = looping (openOf (r .tables)) (r .jumps)
+abbrev pub openOf : List ℕ → ℕ → List Table
+openOf words d = opened (tablesIn words) d
 
-abbrev pub wentIn : Tables → Bool → ℕ → Looped
-wentIn t b a = record { end = Finished; tables = t; jumps = b; asked = a }
+abbrev pub loopingOf : List ℕ → Looped → Looping
+loopingOf words r = looping (openOf words (r .depth)) (r .jumps)
 
-abbrev pub overIn : Halt → ℕ → Tables → ℕ → Looped
-overIn h line t a = record { end = Halted h line; tables = t; jumps = false; asked = a }
+abbrev pub wentIn : ℕ → Bool → Looped
+wentIn d b = record { end = Finished; depth = d; jumps = b }
+
+abbrev pub overIn : Refusal → ℕ → ℕ → Looped
+overIn e line d = record { end = Halted (Refused e) line; depth = d; jumps = false }
 
 -- What the calls require: so many tables are open at most.
-pub record AtMostOpen (n : ℕ) (t : Tables) : Type 0 where
-  pub few : t .depth ≤ n
+pub record AtMostOpen (n : ℕ) (words : List ℕ) (d : ℕ) : Type 0 where
+  pub few : d ≤ n
+  pub row : 148 ≤ length words
 
 -- a table is closed, where one is open
-pub record Closes (t r : Tables) : Type 0 where
-  pub rest : openOf r ≡ drop 1 (openOf t)
-  pub few : (n : ℕ) → t .depth ≤ suc n → r .depth ≤ n
+pub record Closes (d r : ℕ) : Type 0 where
+  pub rest : (ws : List ℕ) → opened ws r ≡ drop 1 (opened ws d)
+  pub few : (n : ℕ) → d ≤ suc n → r ≤ n
 
--- the parameter of an argument that may be absent, 1 where there is none
-unfoldable pub parameterIn : Optional → ℕ
-parameterIn Absent = 1
-parameterIn (Given a) = parameterOf (a .operand)
+-- no other register is set
+pub record Stays (words words′ : List ℕ) : Type 0 where
+  pub others : (i k : ℕ) → i + k ≤ 128 → bank i k words′ ≡ bank i k words
+  pub same : length words′ ≡ length words
+
+-- a table more
+pub record Pushes (words : List ℕ) (d : ℕ) (t : Table) (words′ : List ℕ) (r : ℕ) : Type 0 where
+  pub more : openOf words′ r ≡ t ∷ openOf words d
+  pub rest : openOf words′ d ≡ openOf words d
+  pub stays : Stays words words′
 
 -- a line that neither asks nor prints
-pub record Loops (x : Settled Looping) (line a : ℕ) (r : Looped) : Type 0 where
-  pub concludes : Concludes x line (loopingOf r) (r .end)
-  pub asked : r .asked ≡ a
+pub record Loops (x : Settled Looping) (line : ℕ) (words words′ : List ℕ) (r : Looped) : Type 0 where
+  pub concludes : Concludes x line (loopingOf words′ r) (r .end)
+  pub stays : Stays words words′
 
--- What `begin_table` and `end_table` say, by all that they are handed and hand back.
-pub record BeginsTable (line store index : List ℕ) (count : ℕ) (integers decimals : List ℤ) (rows : List (List ℕ)) (lengths records entries : List ℕ) (scene : Scene) (tables : Tables) (start next : ℕ) (x : Argument) (log : List ℕ) (a p : ℕ) (log′ : List ℕ) (r : Looped) : Type 0 where
-  pub runs : Runs store index count (λ source. beginMeaning (machine source integers decimals rows lengths records entries scene) line (scene .number) (openOf tables) start next x) (λ source. loopingOf r) 1 log a p log′ (r .asked) (r .end)
+pub record Begins (words : List ℕ) (d start next : ℕ) (z : ℤ) (words′ : List ℕ) (r : Looped) : Type 0 where
+  pub loops : (line : ℕ) → Loops (settled (begun (openOf words d) start next z)) line words words′ r
+  pub rest : openOf words′ d ≡ openOf words d
 
-pub record EndsTable (line store index : List ℕ) (count : ℕ) (integers decimals : List ℤ) (rows : List (List ℕ)) (lengths records entries : List ℕ) (scene : Scene) (tables : Tables) (k : Optional) (log : List ℕ) (a p : ℕ) (log′ : List ℕ) (r : Looped) : Type 0 where
-  pub runs : Runs store index count (λ source. endMeaning (machine source integers decimals rows lengths records entries scene) line (scene .number) (openOf tables) k) (λ source. loopingOf r) 1 log a p log′ (r .asked) (r .end)
+-- $BT and $ET with the values of their arguments
+abbrev pub beginFrom : List Table → ℕ → ℕ → Worth → Settled Looping
+beginFrom ts start next w = andThen (integerFrom w) (λ z. settled (begun ts start next z))
+
+unfoldable pub endFrom : List Table → Optional → Worth → Settled Looping
+endFrom ts Absent w = counted ts (pos 1)
+endFrom ts (Given a) w = andThen (integerFrom w) (λ k. counted ts k)
+
+-- What `begin_table` and `end_table` say, wherever strings lie.
+pub record BeginsTable (w : W.Worth) (start next line : ℕ) (words : List ℕ) (d : ℕ) (words′ : List ℕ) (r : Looped) : Type 0 where
+  pub loops : (s : Strings) → Loops (beginFrom (openOf words d) start next (meant s w)) line words words′ r
+  pub rest : openOf words′ d ≡ openOf words d
+
+pub record EndsTable (k : Optional) (w : W.Worth) (line : ℕ) (words : List ℕ) (d : ℕ) (words′ : List ℕ) (r : Looped) : Type 0 where
+  pub loops : (s : Strings) → Loops (endFrom (openOf words d) k (meant s w)) line words words′ r

@@ -2,7 +2,7 @@
 use mathlib.Core.Path.{_≡_}
 use mathlib.Core.List.{List}
 use Prim.Native.Nat.{ℕ, _+_, _≤_}
-use lib.IntN.{ℤ}
+use lib.ListN.{length}
 use Rattle.meaning.specs.Answer.{Answer}
 use Rattle.meaning.specs.Meaning.{Meaning}
 use Rattle.meaning.specs.Number.{endOf}
@@ -19,7 +19,7 @@ use Rattle.questions.specs.declared.question.Heard.{Heard}
 use Rattle.questions.specs.declared.scene.Scene.{Scene}
 use Rattle.questions.specs.inner.Word.{questions}
 use Rattle.questions.specs.Source.{answers}
-use Rattle.questions.specs.inner.State.{machine}
+use Rattle.questions.specs.inner.State.{Held, machine}
 use Rattle.values.specs.declared.worth.Worth as D
 use Rattle.values.specs.declared.worth.Worth.the-variants as W
 use Rattle.values.specs.declared.worth.Valued.{Valued}
@@ -34,8 +34,8 @@ meant s (W.Number q) = number q
 meant s (W.Text t) = string (textOf s t)
 
 -- The same as `Hears` of crates/questions, for what an argument is worth; t may speak of answers of the store that were fetched before.
-pub record Yields (s : Strings) (index : List ℕ) (count : ℕ) (t : (Question → Answer) → Meaning Worth) (log : List ℕ) (a p : ℕ) (log′ : List ℕ) (r : Valued) : Type 0 where
-  pub does : (n : ℕ) (cs : List Cell) → Ready (s .store) n index count cs → (text : List ℕ) (m g : ℕ) → Does (answers (s .store) n) (t (answers (s .store) n)) (at text m (questions log) a p g) (at text m (questions log′) (r .asked) p g) (endOf (meant s (r .worth)) (r .end))
+pub record Yields (s : Strings) (index : List ℕ) (t : (Question → Answer) → Meaning Worth) (log : List ℕ) (a p : ℕ) (log′ : List ℕ) (r : Valued) : Type 0 where
+  pub does : (n : ℕ) (cs : List Cell) → Ready (s .store) n index (length index) cs → (text : List ℕ) (m g : ℕ) → Does (answers (s .store) n) (t (answers (s .store) n)) (at text m (questions log) a p g) (at text m (questions log′) (r .asked) p g) (endOf (meant s (r .worth)) (r .end))
   pub few : r .asked ≤ a + 1
 
 -- r stands for w, wherever strings lie; r stands for an answer of the code
@@ -52,8 +52,8 @@ pub record ValuedOf (h : Heard) (r : Valued) : Type 0 where
   pub asked : r .asked ≡ h .asked
 
 -- What `operand_value` and `argument_value` say, by all that they are handed and hand back.
-pub record OperandValue (line store index : List ℕ) (count : ℕ) (integers decimals : List ℤ) (rows : List (List ℕ)) (lengths records entries : List ℕ) (scene : Scene) (kind : ℕ) (o : Operand) (log : List ℕ) (a p : ℕ) (log′ : List ℕ) (r : Valued) : Type 0 where
-  pub yields : Yields (strings line store rows) index count (λ source. operandMeaning (machine source integers decimals rows lengths records entries scene) line (scene .number) kind o) log a p log′ r
+pub record OperandValue (line store index : List ℕ) (vars : Held) (scene : Scene) (kind : ℕ) (o : Operand) (log : List ℕ) (a p : ℕ) (log′ : List ℕ) (r : Valued) : Type 0 where
+  pub yields : Yields (strings line store (vars .rows)) index (λ source. operandMeaning (machine source vars scene) line (scene .number) kind o) log a p log′ r
 
-pub record ArgumentValue (line store index : List ℕ) (count : ℕ) (integers decimals : List ℤ) (rows : List (List ℕ)) (lengths records entries : List ℕ) (scene : Scene) (x : Argument) (log : List ℕ) (a p : ℕ) (log′ : List ℕ) (r : Valued) : Type 0 where
-  pub yields : Yields (strings line store rows) index count (λ source. argumentMeaning (machine source integers decimals rows lengths records entries scene) line (scene .number) x) log a p log′ r
+pub record ArgumentValue (line store index : List ℕ) (vars : Held) (scene : Scene) (x : Argument) (log : List ℕ) (a p : ℕ) (log′ : List ℕ) (r : Valued) : Type 0 where
+  pub yields : Yields (strings line store (vars .rows)) index (λ source. argumentMeaning (machine source vars scene) line (scene .number) x) log a p log′ r

@@ -13,20 +13,14 @@ mul-row c = search needs
 element-set-from-row : tie.Need-element-set-from-row
 element-set-from-row c = search needs
 
-mul-lengths : tie.Need-mul-lengths
-mul-lengths c = search needs
-
-slice-write-lengths : tie.Need-slice-write-lengths
-slice-write-lengths c = search needs
-
-same-length : tie.Need-same-length
-same-length c = search needs
-
 returns-2 : tie.Need-returns-2
-returns-2 c = string-in _ _ _ _ _ (c .before .before .pre) (c .before .if1 .left) (c .if2 .taken)
+returns-2 c = string-in _ _ _ _ _ (c .before .before .before .before .pre) (c .before .before .before .if1 .left) (c .before .before .if2 .taken) _ (c .put-word .ensures)
 
 returns-3 : tie.Need-returns-3
 returns-3 c = string-past _ _ _ (c .before .before .args .row) (c .before .before .args .count) (c .before .before .pre) (c .before .if1 .left) (c .if2 .left)
+
+put-word-requires : tie.Need-put-word-requires
+put-word-requires c κs = search needs
 
 pub put-spec : {M : Type 1} → statement M
 put-spec =
@@ -35,8 +29,6 @@ put-spec =
     returns
     mul-row
     element-set-from-row
-    mul-lengths
-    slice-write-lengths
-    same-length
+    put-word-requires
     returns-2
     returns-3)

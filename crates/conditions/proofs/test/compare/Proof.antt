@@ -1,54 +1,50 @@
--- One of the arguments ended the run, or their values are compared.
-use Rattle.conditions.proofs.Tests.{askable-next, compare-over, compare-over-second, compare-follows}
+-- 10 over both, then strings or numbers.
+use Rattle.conditions.proofs.Tests.{compared-first, compared-second, compared-strings, compared-numbers}
 use borrow.Author.Needs.{needs}
 use Rattle.conditions.proofs.test.compare.Statement.{statement}
 use Rattle.conditions.proofs.test.compare.Tie as tie
 
-argument-value-requires : tie.Need-argument-value-requires
-argument-value-requires c κs = search needs
-
-enum-known-end : tie.Need-enum-known-end
-enum-known-end c = search needs
-
-enum-told : tie.Need-enum-told
-enum-told c = search needs
-
-argument-value-requires-2 : tie.Need-argument-value-requires-2
-argument-value-requires-2 c κs = let s = c .before .before .before .before .before .before .before .before .before .before .before in (askable-next _ _ _ _ _ (s .pre .1 .0) (c .before .before .before .argument-value .ensures .yields .few), s .pre .1 .1)
-
-enum-known-over : tie.Need-enum-known-over
-enum-known-over c = search needs
-
-enum-told-2 : tie.Need-enum-told-2
-enum-told-2 c = search needs
-
-both-judged-requires : tie.Need-both-judged-requires
-both-judged-requires c κs = search needs
-
-concluded-requires : tie.Need-concluded-requires
-concluded-requires c κs = search needs
+lacks-requires : tie.Need-lacks-requires
+lacks-requires c κs = search needs
 
 returns : tie.Need-returns
-returns c = compare-over _ _ _ _ _ _ _ _ _ _ _ _ _ _ _ _ _ (c .before .before .before .argument-value .ensures) _ _ _ _ _ (c .before .end .given .1)
+returns c = compared-first _ _ _ _ _ (c .before .lacks .ensures) (c .if1 .taken)
+
+lacks-requires-2 : tie.Need-lacks-requires-2
+lacks-requires-2 c κs = search needs
 
 returns-2 : tie.Need-returns-2
-returns-2 c = compare-over-second _ _ _ _ _ _ _ _ _ _ _ _ _ _ _ _ _ (c .before .before .before .before .before .before .before .argument-value .ensures) _ _ (c .before .before .before .before .before .enum-told .given .1) _ _ (c .before .before .before .argument-value2 .ensures) _ _ _ (c .before .over .given .1)
+returns-2 c = compared-second _ _ _ _ _ (c .before .before .before .lacks .ensures) (c .before .before .if1 .left) _ (c .before .lacks2 .ensures) (c .if2 .taken)
+
+textual-requires : tie.Need-textual-requires
+textual-requires c κs = search needs
+
+ignoring-requires : tie.Need-ignoring-requires
+ignoring-requires c κs = search needs
+
+strings-judged-requires : tie.Need-strings-judged-requires
+strings-judged-requires c κs = search needs
 
 returns-3 : tie.Need-returns-3
-returns-3 c = compare-follows _ _ _ _ _ _ _ _ _ _ _ _ _ _ _ _ _ (c .before .before .before .before .before .before .before .before .argument-value .ensures) _ _ (c .before .before .before .before .before .before .enum-told .given .1) _ _ (c .before .before .before .before .argument-value2 .ensures) (c .before .before .enum-told2 .given .1) (c .before .both-judged .result) (c .before .both-judged .ensures) _ (c .concluded .ensures .0) (c .concluded .ensures .1)
+returns-3 c = compared-strings _ _ _ _ _ (c .before .before .before .before .before .before .before .lacks .ensures) (c .before .before .before .before .before .before .if1 .left) _ (c .before .before .before .before .before .lacks2 .ensures) (c .before .before .before .before .if2 .left) _ (c .before .before .before .textual .ensures) (c .strings-judged .result) (c .before .before .if3 .taken) _ (c .before .ignoring .ensures) (c .strings-judged .ensures)
+
+numbers-judged-requires : tie.Need-numbers-judged-requires
+numbers-judged-requires c κs = search needs
+
+returns-4 : tie.Need-returns-4
+returns-4 c = compared-numbers _ _ _ _ _ (c .before .before .before .before .before .before .lacks .ensures) (c .before .before .before .before .before .if1 .left) _ (c .before .before .before .before .lacks2 .ensures) (c .before .before .before .if2 .left) _ (c .before .before .textual .ensures) (c .numbers-judged .result) (c .before .if3 .left) (c .numbers-judged .ensures)
 
 pub compare-spec : {M : Type 1} → statement M
 compare-spec =
     tie.close
     (tie.spec
-    argument-value-requires
-    enum-known-end
-    enum-told
-    argument-value-requires-2
-    enum-known-over
-    enum-told-2
-    both-judged-requires
-    concluded-requires
+    lacks-requires
     returns
+    lacks-requires-2
     returns-2
-    returns-3)
+    textual-requires
+    ignoring-requires
+    strings-judged-requires
+    returns-3
+    numbers-judged-requires
+    returns-4)

@@ -6,7 +6,7 @@ use Rattle.control.proofs.arms.begun.Reads as reads
 use Rattle.control.proofs.arms.begun.Lts as lts
 use Rattle.control.proofs.arms.went.Reads as went-reads
 use Rattle.control.proofs.flow.jumped.Reads as jumped-reads
-use Rattle.control.proofs.flow.with_tables.Reads as with-tables-reads
+use Rattle.control.proofs.flow.with_depth.Reads as with-depth-reads
 
 enum-told : tie.Need-enum-told
 enum-told c = search needs
@@ -24,16 +24,16 @@ went-requires : tie.Need-went-requires
 went-requires c κs = search needs
 
 returns-2 : tie.Need-returns-2
-returns-2 c = begun-skipped _ _ _ _ _ (c .before .before .before .enum-told .given .1) _ (c .before .before .if1 .taken) (c .before .jumped .ensures) (c .went .ensures)
+returns-2 c = begun-skipped _ _ _ _ _ _ (c .before .before .before .enum-told .given .1) _ (c .before .before .if1 .taken) (c .before .jumped .ensures) (c .went .ensures)
 
-with-tables-requires : tie.Need-with-tables-requires
-with-tables-requires c κs = search needs
+with-depth-requires : tie.Need-with-depth-requires
+with-depth-requires c κs = search needs
 
 went-requires-2 : tie.Need-went-requires-2
 went-requires-2 c κs = search needs
 
 returns-3 : tie.Need-returns-3
-returns-3 c = begun-opened _ _ _ _ _ (c .before .before .before .before .enum-told .given .1) _ (c .before .before .before .if1 .left) (c .before .with-tables .ensures) (c .went2 .ensures)
+returns-3 c = begun-opened _ _ _ _ _ _ (c .before .before .before .enum-told .given .1) _ (c .before .before .if1 .left) (c .before .with-depth .ensures) (c .went2 .ensures)
 
 pub begun-spec : {M : Type 1} → statement M
 begun-spec =
@@ -45,6 +45,6 @@ begun-spec =
     jumped-requires
     went-requires
     returns-2
-    with-tables-requires
+    with-depth-requires
     went-requires-2
     returns-3)

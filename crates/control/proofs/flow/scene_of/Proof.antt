@@ -14,7 +14,7 @@ turn-of-requires : tie.Need-turn-of-requires
 turn-of-requires c κs = search needs
 
 returns : tie.Need-returns
-returns c = let f : SFits w64 (c .turn-of .result) = search needs in scene-is (c .before .before .before .args .flow) (c .before .before .before .args .number) _ (toZ-ofZ w64 (c .turn-of .result) f ∙ c .turn-of .ensures)
+returns c = let f : SFits w64 (c .turn-of .result) = search needs in scene-is _ (c .before .before .args .flow) (c .before .before .args .number) _ (toZ-ofZ w64 (c .turn-of .result) f ∙ c .turn-of .ensures)
 
 pub scene-of-spec : {M : Type 1} → statement M
 scene-of-spec = tie.close (tie.spec turn-of-requires returns)

@@ -4,15 +4,16 @@ use Rattle.pages.specs.Page.{highestOf}
 use native.Mathlib.Omega.{arith}
 use Prim.Native.Nat.{_≤_}
 use mathlib.Core.Path.{_≡_, refl, sym, _∙_}
+use Rattle.questions.specs.inner.State.{headingsIn}
 use borrow.Author.Needs.{needs}
 use Rattle.pages.proofs.step.highest.Statement.{statement}
 use Rattle.pages.proofs.step.highest.Tie as tie
 
 abbrev Inv-loop : tie.InvT-loop
-Inv-loop headings k₀ k = (highestOf (headingsOf headings) 9 ≡ highestOf (headingsOf headings) k) × (k ≤ 9)
+Inv-loop words k₀ k = (highestOf (headingsOf (headingsIn words)) 9 ≡ highestOf (headingsOf (headingsIn words)) k) × (k ≤ 9)
 
 abbrev μ-loop : tie.MeasureT-loop
-μ-loop headings k₀ k = k
+μ-loop words k₀ k = k
 
 loop-holds : tie.Need-loop-holds Inv-loop μ-loop
 loop-holds c = (refl, omega arith)
@@ -27,7 +28,7 @@ returns : tie.Need-returns Inv-loop μ-loop
 returns c =
     let l = c .before .before .before .before .loop .inv in
     let e = c .before .before .heading-at .ensures in
-    (sym (l .0 ∙ highest-here (headingsOf (c .before .before .before .before .before .before .args .headings .now)) _ (c .before .before .before .loop-test .taken) (rw e at (c .if1 .taken))), l .1)
+    (sym (l .0 ∙ highest-here (headingsOf (headingsIn (c .before .before .before .before .before .args .words .now))) _ (c .before .before .before .loop-test .taken) (rw e at (c .if1 .taken))), l .1)
 
 sub-k : tie.Need-sub-k Inv-loop μ-loop
 sub-k c = search needs
@@ -39,7 +40,7 @@ loop-again : tie.Need-loop-again Inv-loop μ-loop
 loop-again c =
     let l = c .before .before .before .before .loop .inv in
     let e = c .before .before .heading-at .ensures in
-    (l .0 ∙ highest-below (headingsOf (c .before .before .before .before .before .before .args .headings .now)) _ (c .before .before .before .loop-test .taken) (rw e at (c .if1 .left)), omega arith)
+    (l .0 ∙ highest-below (headingsOf (headingsIn (c .before .before .before .before .before .args .words .now))) _ (c .before .before .before .loop-test .taken) (rw e at (c .if1 .left)), omega arith)
 
 returns-2 : tie.Need-returns-2 Inv-loop μ-loop
 returns-2 c = let l = c .before .loop .inv in (sym (l .0 ∙ highest-none _ _ (c .loop-test .left)), omega arith)

@@ -1,5 +1,6 @@
 use borrow.Author.Needs.{needs}
 use Rattle.pages.proofs.Stepping.{InHeads, heads-begin, head-ready, head-same, head-next, head-over, last-ready, heads-last}
+use Rattle.questions.specs.inner.State.{headingsIn}
 use Rattle.pages.specs.inner.Packed.{headingsOf}
 use Rattle.rendering.specs.inner.Pass.{lent}
 use Prim.Native.Nat.{_-_}
@@ -7,15 +8,15 @@ use Rattle.pages.proofs.step.say_heads.Statement.{statement}
 use Rattle.pages.proofs.step.say_heads.Tie as tie
 
 abbrev Inv-loop : tie.InvT-loop
-Inv-loop headings most template store index count integers decimals strings lengths records entries scene log₀ asked places text₀ printed k₀ top₀ heard₀ filled₀ log text k top heard filled =
-    InHeads (lent store index count integers decimals strings lengths records entries) scene template (headingsOf headings) most top₀ text₀ printed log₀ asked places k top text filled log heard
+Inv-loop most template store index numbers strings words scene log₀ asked places text₀ printed k₀ top₀ heard₀ filled₀ log text k top heard filled =
+    InHeads (lent store index numbers strings words) scene template (headingsOf (headingsIn words)) most top₀ text₀ printed log₀ asked places k top text filled log heard
 
 abbrev μ-loop : tie.MeasureT-loop
-μ-loop headings most template store index count integers decimals strings lengths records entries scene log₀ asked places text₀ printed k₀ top₀ heard₀ filled₀ log text k top heard filled =
+μ-loop most template store index numbers strings words scene log₀ asked places text₀ printed k₀ top₀ heard₀ filled₀ log text k top heard filled =
     most - k
 
 loop-holds : tie.Need-loop-holds Inv-loop μ-loop
-loop-holds c = heads-begin _ (c .before .before .before .before .before .before .before .before .args .scene) _ _ _ _ _ _ _ _ _ (c .before .before .before .before .before .before .before .before .pre)
+loop-holds c = heads-begin _ (c .before .before .before .before .args .scene) _ _ _ _ _ _ _ _ _ (c .before .before .before .before .pre)
 
 heading-at-requires : tie.Need-heading-at-requires Inv-loop μ-loop
 heading-at-requires c κs = search needs

@@ -16,16 +16,16 @@ element-write-log c = search needs
 answer-requires : tie.Need-answer-requires
 answer-requires c κs = search needs
 
-add-t12 : tie.Need-add-t12
-add-t12 c = search needs
+add-t11 : tie.Need-add-t11
+add-t11 c = search needs
 
 returns : tie.Need-returns
-returns c = hears _ _ _ _ _ _ _ _ _ _ (c .before .before .if1 .taken) (c .before .packed .ensures) (c .before .before .before .before .before .pre .0) (c .answer .ensures)
+returns c = hears _ _ _ _ _ _ _ _ _ (c .before .before .if1 .taken) (c .before .packed .ensures) (c .before .before .before .before .before .pre .0) (c .answer .ensures)
 
 returns-2 : tie.Need-returns-2
-returns-2 c = hears-full _ _ _ _ _ _ _ _ (c .if1 .left)
+returns-2 c = hears-full _ _ _ _ _ _ _ (c .if1 .left)
 
 pub ask-spec : {M : Type 1} → statement M
 ask-spec =
     tie.close
-    (tie.spec packed-requires mul-log element-write-log answer-requires add-t12 returns returns-2)
+    (tie.spec packed-requires mul-log element-write-log answer-requires add-t11 returns returns-2)

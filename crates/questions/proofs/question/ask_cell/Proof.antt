@@ -5,19 +5,19 @@ use Rattle.questions.proofs.question.ask_cell.Statement.{statement}
 use Rattle.questions.proofs.question.ask_cell.Tie as tie
 
 returns : tie.Need-returns
-returns c = record-outside _ _ _ _ _ _ _ _ _ _ _ _ (c .if1 .taken)
+returns c = record-outside _ _ _ _ _ _ _ _ _ _ _ (c .if1 .taken)
 
 returns-2 : tie.Need-returns-2
-returns-2 c = entry-outside _ _ _ _ _ _ _ _ _ _ _ _ (c .before .if1 .left) (c .if2 .taken)
+returns-2 c = entry-outside _ _ _ _ _ _ _ _ _ _ _ (c .before .if1 .left) (c .if2 .taken)
 
-cast-t23 : tie.Need-cast-t23
-cast-t23 c = search needs
+cast-t22 : tie.Need-cast-t22
+cast-t22 c = search needs
 
 ask-requires : tie.Need-ask-requires
 ask-requires c κs = search needs
 
 returns-3 : tie.Need-returns-3
-returns-3 c = cell-inside _ _ _ _ _ _ _ _ _ _ _ _ _ _ (c .before .before .before .if1 .left) (c .before .before .if2 .left) (c .ask .ensures)
+returns-3 c = cell-inside _ _ _ _ _ _ _ _ _ _ _ _ _ (c .before .before .before .if1 .left) (c .before .before .if2 .left) (c .ask .ensures)
 
 pub ask-cell-spec : {M : Type 1} → statement M
-ask-cell-spec = tie.close (tie.spec returns returns-2 cast-t23 ask-requires returns-3)
+ask-cell-spec = tie.close (tie.spec returns returns-2 cast-t22 ask-requires returns-3)

@@ -23,8 +23,8 @@ cast-result c = search needs
 enum-known-i-2 : tie.Need-enum-known-i-2
 enum-known-i-2 c = search needs
 
-numbered-requires : tie.Need-numbered-requires
-numbered-requires c κs = search needs
+integer-requires : tie.Need-integer-requires
+integer-requires c κs = search needs
 
 place-of-requires : tie.Need-place-of-requires
 place-of-requires c κs = search needs
@@ -40,7 +40,7 @@ unfolding indexNumber placeOf
 returns-2 c = rw (c .before .before .i .given .1, le-leb _ _ (c .if1 .left))
 
 returns-3 : tie.Need-returns-3
-returns-3 c = let f : SFits w64 (c .before .numbered .result) = search needs in place-variable _ _ _ _ _ (c .place-of .ensures) _ _ (c .before .before .before .i2 .given .1) (toZ-ofZ w64 _ f) (c .before .numbered .ensures)
+returns-3 c = let f : SFits w64 (c .before .integer .result) = search needs in place-variable _ _ _ _ _ (c .place-of .ensures) _ _ (c .before .before .before .i2 .given .1) (toZ-ofZ w64 _ f) (c .before .integer .ensures)
 
 returns-4 : tie.Need-returns-4
 returns-4 c = let f : SFits w64 (c .before .before .before .args .turn) = search needs in place-loop _ _ _ _ _ (c .place-of2 .ensures) (c .before .enum-told .given .1) (toZ-ofZ w64 _ f)
@@ -53,7 +53,7 @@ index-place-spec =
     returns
     cast-result
     enum-known-i-2
-    numbered-requires
+    integer-requires
     place-of-requires
     enum-told
     place-of-requires-2

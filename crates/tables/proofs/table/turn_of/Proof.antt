@@ -1,6 +1,5 @@
 -- The counter of the innermost table.
 use Rattle.tables.proofs.Tabling.{loop-is}
-use Rattle.tables.specs.inner.Open.{openOf}
 use lib.IntN.{pos}
 use mir.ValLaws.{toZ-ofZ}
 use mir.Val.{SFits}
@@ -17,7 +16,7 @@ signed-requires : tie.Need-signed-requires
 signed-requires c κs = search needs
 
 returns : tie.Need-returns
-returns c = let f : SFits w64 (c .signed .result) = search needs in toZ-ofZ w64 _ f ∙ c .signed .ensures ∙ ap (λ t. pos (t .counter)) (c .before .innermost .ensures) ∙ ap pos (loop-is (openOf (c .before .before .args .tables)))
+returns c = let f : SFits w64 (c .signed .result) = search needs in toZ-ofZ w64 _ f ∙ c .signed .ensures ∙ ap (λ t. pos (t .counter)) (c .before .innermost .ensures) ∙ ap pos (loop-is _)
 
 pub turn-of-spec : {M : Type 1} → statement M
 turn-of-spec = tie.close (tie.spec innermost-requires signed-requires returns)

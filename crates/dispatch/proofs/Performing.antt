@@ -1,0 +1,376 @@
+-- A line by its form and values: what each call of `execute` requires, and that it does what the definition says.
+use mathlib.Core.Path.{_≡_, refl, sym, ap, _∙_, subst}
+use mathlib.Core.Bool.{Bool, true, false}
+use mathlib.Core.List.{List, [], _∷_, map}
+use Prim.Native.Nat.{ℕ, zero, suc, _+_, _*_, _-_, _≤_}
+use native.Mathlib.Omega.{arith}
+use lib.IntN.{ℤ, pos}
+use lib.Signed.{ltZ}
+use lib.ListN.{length, take, drop, replicate, length-take, length-drop}
+use Rattle.arguments.specs.declared.argument.Argument.{Argument}
+use Rattle.arguments.specs.declared.index.Index.{Index}
+use Rattle.lines.specs.declared.command.Comparison.{Comparison}
+use Rattle.lines.specs.declared.command.Operation.{Operation}
+use Rattle.lines.specs.declared.command.Target.{Target}
+use Rattle.lines.specs.declared.command.Fetch.{Fetch}
+use Rattle.lines.specs.declared.command.Optional.{Optional}
+use Rattle.lines.specs.declared.command.Optional.the-variants.{Given, Absent}
+use Rattle.lines.specs.declared.command.Line.{Line}
+use Rattle.lines.specs.declared.command.Line.the-variants as form
+use Rattle.lines.proofs.Accepted as parsed
+use Rattle.shapes.specs.declared.seek.Sought.the-variants.{TestEnd, TableEnd}
+use Rattle.texts.proofs.FieldLaws.{fields-few}
+use Rattle.meaning.specs.Each.{Each}
+use Rattle.meaning.specs.Tree.{done, bind}
+use Rattle.meaning.specs.Place.{at, Does}
+use Rattle.meaning.specs.Number.{endOf}
+use Rattle.meaning.specs.declared.end.Ended.{Ended}
+use Rattle.meaning.specs.declared.end.Ended.the-variants.{Finished, Halted}
+use Rattle.meaning.proofs.Doing.{then-does, then-over, does-done, does-stop}
+use Rattle.strings.specs.inner.Texts.{Strings, strings}
+use Rattle.questions.specs.declared.scene.Scene.{Scene}
+use Rattle.questions.specs.declared.fetch.Along.the-variants.{Records, Entries}
+use Rattle.questions.specs.Indexes.{indexNumber}
+use Rattle.questions.specs.inner.Word.{questions}
+use Rattle.questions.specs.inner.Fetch.{Fetchable}
+use Rattle.questions.specs.inner.State.{texts, fetched, bank, integersIn, decimalsIn, lengthsIn, recordsIn, entriesIn, headingsIn, tablesIn, Held, held, machine}
+use Rattle.values.specs.declared.worth.Worth as W
+use Rattle.values.specs.Worth.{Worth}
+use Rattle.values.specs.inner.Yielding.{meant}
+use Rattle.values.specs.inner.Working.{Worths, worths}
+use Rattle.coercions.specs.declared.settle.Done.{Done}
+use Rattle.coercions.specs.declared.settle.Taken.{Taken}
+use Rattle.coercions.specs.declared.settle.Taken.the-variants as K
+use Rattle.coercions.specs.Settling.{concluded, integerFrom}
+use Rattle.coercions.specs.inner.Contracts.{takenOf, Takes}
+use Rattle.assignments.specs.Setting.{setOf}
+use Rattle.assignments.specs.inner.Contracts.{Rowed, Assigns}
+use Rattle.conditions.specs.declared.test.Judged.{Judged}
+use Rattle.conditions.specs.Testing.{compared}
+use Rattle.conditions.specs.inner.Contracts.{judgedOf, JudgesZero}
+use Rattle.tables.specs.declared.table.Looped.{Looped}
+use Rattle.tables.specs.inner.Open.{opened, openOf, loopingOf, AtMostOpen, Stays, beginFrom, endFrom, BeginsTable, EndsTable}
+use Rattle.commands.specs.declared.datasource.Selected.{Selected}
+use Rattle.commands.specs.Selecting.{datasourceFrom, datasourceMeaning}
+use Rattle.commands.specs.Fetching.{recordsMeaning, entriesMeaning}
+use Rattle.commands.specs.inner.Selects.{Selects}
+use Rattle.commands.specs.inner.Fetches.{TakesRecords, TakesEntries}
+use Rattle.commands.proofs.Clearing.{zeros-bank, zeros-behind, texts-cleared, fetched-cleared}
+use Rattle.rendering.specs.inner.Pass.{lent}
+use Rattle.pages.specs.declared.heading.Heading.{Heading}
+use Rattle.pages.specs.declared.step.Paged.{Paged}
+use Rattle.pages.specs.Heading.{noHeading}
+use Rattle.pages.specs.inner.Packed.{headingIn, headingsOf, Small}
+use Rattle.pages.specs.Page.{headLine, headFrom, highestOf, breakMeaning, lineStep}
+use Rattle.pages.specs.inner.Paging.{AllFit, headFields, TurnReady, StepReady, Steps}
+use Rattle.pages.proofs.Turning.{highest-most}
+use Rattle.control.specs.declared.state.Flow.{Flow}
+use Rattle.control.specs.declared.state.Lined.{Lined}
+use Rattle.control.specs.State.{State, seen, withMachine, withDatasource, withTables, withPage, cleared}
+use Rattle.control.specs.Line.{jumped, branched, tableBegun, tableEnded, breaking, breakingFor, headed, formMeaning}
+use Rattle.control.specs.inner.Sound.{Fit}
+use Rattle.control.specs.inner.Going.{endedIn, datasourceIn, depthIn, feedsIn, pageIn, jumpedIn, againIn}
+use Rattle.control.specs.inner.Executing.{sourceOf, stateAt, machineIn, SameRows, Executes, FormReady}
+use Rattle.control.specs.inner.Arms.{Jumpable, Follows, settledIn, branchedIn, begunIn, overIn, Clears, Heads, BreaksLine, PagesLine}
+use Rattle.control.specs.inner.Forms.{newPageWith, formWith}
+use Rattle.control.proofs.Commanding.{command, went-executes, concludes-executes, settles-executes}
+use Rattle.dispatch.specs.inner.Performing.{NewPages, PagesFor}
+
+all-fit : (t : List ℕ) (hs : List Heading) (n : ℕ) → Each (Fit t) hs → AllFit t (take n hs)
+all-fit t hs zero e = tt
+all-fit t [] (suc n) e = tt
+all-fit t (x ∷ hs) (suc n) e = (e .0 .fits, all-fit t hs n (e .1))
+
+few-fields : (t : List ℕ) (hs : List Heading) (n : ℕ) → Each (Fit t) hs → headFields t (take n hs) ≤ 33 * n
+few-fields t hs zero e = omega arith
+few-fields t [] (suc n) e = omega arith
+few-fields t (x ∷ hs) (suc n) e = omega (arith, fields-few (headLine t x) (headFrom x) (e .0 .short), few-fields t hs n (e .1))
+
+headings-cleared : (n : ℕ) → headingsOf (replicate n 0) ≡ replicate n noHeading
+unfolding headingIn
+headings-cleared zero = refl
+headings-cleared (suc n) = ap (λ (l : List Heading). noHeading ∷ l) (headings-cleared n)
+
+-- a part that is full ends inside its row
+bank-full : {A : Type 0} (l : List A) (i k : ℕ) → length (bank i k l) ≡ k → 1 ≤ k → i + k ≤ length l
+unfolding bank
+bank-full l i k e h = omega (arith, e, length-take k (drop i l), length-drop i l)
+
+bank-long : {A : Type 0} (l l′ : List A) (i k : ℕ) → length l′ ≡ length l → length (bank i k l′) ≡ length (bank i k l)
+unfolding bank
+bank-long l l′ i k e = omega (arith, e, length-take k (drop i l), length-drop i l, length-take k (drop i l′), length-drop i l′)
+
+-- ---- $NP
+
+pub page-always : (k : Optional) (w : W.Worth) (l : ℕ) (f : Flow) (T : List ℕ) (u a : ℕ) (T′ : List ℕ) (r : Lined) → k ≡ Absent → BreaksLine l f T u a T′ r → NewPages k w l f T u a T′ r
+page-always k w l f T u a T′ r e d = record { always = λ _. d; given = λ x q. absurd (let z : _≡_ {A = ℕ} 0 1 = cc in omega arith); kept = d .kept }
+
+pub page-given : (k : Optional) (w : W.Worth) (l : ℕ) (f : Flow) (T : List ℕ) (u a : ℕ) (T′ : List ℕ) (r : Lined) (x : Argument) (t : Taken) → k ≡ Given x → Takes integerFrom w t → PagesLine t l f T u a T′ r → NewPages k w l f T u a T′ r
+page-given k w l f T u a T′ r x t e d p = record { always = λ q. absurd (let z : _≡_ {A = ℕ} 0 1 = cc in omega arith); given = λ _ _. record { taken = t; takes = d; pages = p }; kept = p .kept }
+
+-- ---- the calls of `execute`
+
+module _ {body b index t : List ℕ} (numbers : List ℤ) (rows : List (List ℕ)) (words : List ℕ) {scene : Scene} {start : ℕ} {f : Flow} {line : Line} {T : List ℕ} {u a : ℕ} (k : FormReady body b index t (held numbers rows words) scene start f line T u a) where
+  abbrev h : Held
+  h = held numbers rows words
+
+  abbrev s : State
+  s = stateAt b h f
+
+  abbrev S : Strings
+  S = strings body b rows
+
+  seen-same : machineIn b h scene ≡ seen s
+  seen-same = ap (machineIn b h) (k .scened)
+
+  source-same : scene .datasource ≡ f .datasource
+  source-same = ap (λ (x : Scene). x .datasource) (k .scened)
+
+  sound : (l : Line) → line ≡ l → parsed.Sound body l
+  sound l e = subst (parsed.Sound body) e (k .parsed)
+
+  pub jumpable : Jumpable t f
+  jumpable = record { short = omega (arith, k .template); few = omega (arith, k .few) }
+
+  pub section-ready : (198 ≤ length numbers) × (128 ≤ length words)
+  section-ready = (bank-full numbers 99 99 (k .decimals) (omega arith), bank-full words 119 9 (k .headings) (omega arith))
+
+  pub set-ready : Rowed rows
+  set-ready = record { rows-held = k .rows }
+
+  fetchable : (n : ℕ) → n ≤ 65535 → Fetchable (scene .datasource) n a
+  fetchable n e = record { datasource = omega (arith, source-same, k .datasource); parameter = e; place = omega (arith, k .places) }
+
+  pub records-ready : (x : Fetch) → line ≡ form.Records x → Fetchable (scene .datasource) (x .parameter) a
+  records-ready x e = fetchable (x .parameter) (sound (form.Records x) e)
+
+  pub entries-ready : (x : Fetch) → line ≡ form.Entries x → Fetchable (scene .datasource) (x .parameter) a
+  entries-ready x e = fetchable (x .parameter) (sound (form.Entries x) e)
+
+  pub heading-small : (n from : ℕ) → line ≡ form.Heading n from → Small (record { start = start; length = length body; from = from; number = scene .number })
+  heading-small n from e = record { start = omega (arith, k .placed); length = omega (arith, k .short); from = omega (arith, sound (form.Heading n from) e .1, k .short); number = omega (arith, k .numbered .1) }
+
+  tables-row : 148 ≤ length words
+  tables-row = bank-full words 128 20 (k .table-words) (omega arith)
+
+  pub begin-ready : (x : Argument) → line ≡ form.BeginTable x → AtMostOpen 4 words (f .depth)
+  begin-ready x e = record { few = k .room-for-table x e; row = tables-row }
+
+  pub end-ready : AtMostOpen 5 words (f .depth)
+  end-ready = record { few = k .tables; row = tables-row }
+
+  pub turn-ready : TurnReady (f .page) T u
+  turn-ready = record { room = k .room; number = omega (arith, k .page); row = k .row }
+
+  abbrev hs : List Heading
+  hs = headingsOf (headingsIn words)
+
+  pub step-ready : line ≡ form.Text → StepReady (lent b index numbers rows words) scene t hs body (f .page) a T u
+  step-ready e = record {
+    heads = all-fit t hs (highestOf hs 9) (k .heads);
+    fits = sound form.Text e;
+    short-template = omega (arith, k .template);
+    short-line = omega (arith, k .short);
+    short-store = k .stored;
+    datasource = omega (arith, source-same, k .datasource);
+    logged = omega (arith, k .places, few-fields t hs (highestOf hs 9) (k .heads), highest-most hs 9, fields-few body 0 (k .short));
+    room = k .room;
+    row = k .row;
+    number = omega (arith, k .page);
+  }
+
+  -- ---- what they do
+
+  branch-same : (holds : Bool) → stateAt b h (branchedIn t f holds) ≡ branched t s holds
+  unfolding branched
+  branch-same true = refl
+  branch-same false = refl
+
+  branch-page : (holds : Bool) → branchedIn t f holds .page ≡ f .page
+  branch-page true = refl
+  branch-page false = refl
+
+  -- the tables as a command left them
+  tables-same : (ws : List ℕ) (g : Flow) → Stays words ws → stateAt b (held numbers rows ws) g ≡ withTables (stateAt b h g) (openOf ws (g .depth))
+  tables-same ws g d =
+      let l : lengthsIn ws ≡ lengthsIn words = d .others 0 99 (omega arith) in
+      let m : recordsIn ws ≡ recordsIn words = d .others 99 10 (omega arith) in
+      let o : entriesIn ws ≡ entriesIn words = d .others 109 10 (omega arith) in
+      let q : headingsIn ws ≡ headingsIn words = d .others 119 9 (omega arith) in
+      λ z. record { at = g .at; line = g .line; integers = integersIn numbers; decimals = decimalsIn numbers; strings = texts rows 0 (l z); records = map (fetched (sourceOf b) Records) (m z); entries = map (fetched (sourceOf b) Entries) (o z); datasource = g .datasource; tables = openOf ws (g .depth); headings = headingsOf (q z); feeds = g .feeds; page = g .page }
+
+  begun-same : (ws : List ℕ) (x : Looped) → Stays words ws → openOf ws (f .depth) ≡ openOf words (f .depth) → stateAt b (held numbers rows ws) (begunIn t f x) ≡ tableBegun t s (loopingOf ws x)
+  unfolding tableBegun
+  begun-same ws x d e = go (x .jumps) refl
+    where
+      go : (q : Bool) → x .jumps ≡ q → stateAt b (held numbers rows ws) (begunIn t f x) ≡ tableBegun t s (loopingOf ws x)
+      go true q = rw q (tables-same ws (jumpedIn t f TableEnd) d ∙ ap (withTables (stateAt b h (jumpedIn t f TableEnd))) e)
+      go false q = rw q (tables-same ws (depthIn f (x .depth)) d)
+
+  ended-same : (ws : List ℕ) (x : Looped) → Stays words ws → stateAt b (held numbers rows ws) (overIn (tablesIn ws) f x) ≡ tableEnded s (loopingOf ws x)
+  unfolding tableEnded
+  ended-same ws x d = go (x .jumps) refl
+    where
+      go : (q : Bool) → x .jumps ≡ q → stateAt b (held numbers rows ws) (overIn (tablesIn ws) f x) ≡ tableEnded s (loopingOf ws x)
+      go true q = rw q (tables-same ws (againIn (tablesIn ws) (depthIn f (x .depth))) d)
+      go false q = rw q (tables-same ws (depthIn f (x .depth)) d)
+
+  heads-same : (ws : List ℕ) (n : ℕ) (x : Heading) (r : Lined) → Heads words n x f u a ws r → stateAt b (held numbers rows ws) f ≡ headed s n x
+  heads-same ws n x r d =
+      let y : tablesIn ws ≡ tablesIn words = d .tables in
+      let l : lengthsIn ws ≡ lengthsIn words = d .others 0 99 (omega arith) in
+      let m : recordsIn ws ≡ recordsIn words = d .others 99 10 (omega arith) in
+      let o : entriesIn ws ≡ entriesIn words = d .others 109 10 (omega arith) in
+      λ z. record { at = f .at; line = f .line; integers = integersIn numbers; decimals = decimalsIn numbers; strings = texts rows 0 (l z); records = map (fetched (sourceOf b) Records) (m z); entries = map (fetched (sourceOf b) Entries) (o z); datasource = f .datasource; tables = opened (y z) (f .depth); headings = d .set z; feeds = f .feeds; page = f .page }
+
+  -- R, T and the variables as a command left them, with the headings as they were
+  machine-same : (h′ : Held) → h′ .headings ≡ h .headings → h′ .tables ≡ h .tables → stateAt b h′ f ≡ withMachine s (machineIn b h′ scene)
+  machine-same h′ e y = λ z. record { at = f .at; line = f .line; integers = h′ .integers; decimals = h′ .decimals; strings = texts (h′ .rows) 0 (h′ .lengths); records = map (fetched (sourceOf b) Records) (h′ .records); entries = map (fetched (sourceOf b) Entries) (h′ .entries); datasource = f .datasource; tables = opened (y z) (f .depth); headings = headingsOf (e z); feeds = f .feeds; page = f .page }
+
+  module _ (log : List ℕ) (p : ℕ) (v : Worths) where
+    abbrev With : List ℕ → List ℕ → Held → Lined → Type 0
+    With T′ log′ h′ r = Executes 330 (formWith t start (scene .number) body s line v) b h f T u log a p h′ T′ log′ r
+
+    pub went-line : (r : Lined) (l : Line) → line ≡ l → formWith t start (scene .number) body s l v ≡ done s → r ≡ endedIn Finished f u a → With T log h r
+    went-line r l e q i = rw (e, q) (went-executes b h h f f T u log a p r s i refl refl (refl, refl))
+
+    pub else-line : (r : Lined) → line ≡ form.Else → r ≡ endedIn Finished (jumpedIn t f TestEnd) u a → With T log h r
+    unfolding formWith formMeaning
+    else-line r e i = rw e (went-executes b h h f (jumpedIn t f TestEnd) T u log a p r (jumped t s TestEnd) i refl refl (refl, refl))
+
+    pub no-form-feed-line : (r : Lined) (g : Flow) → line ≡ form.NoFormFeed → g ≡ feedsIn f false → r ≡ endedIn Finished g u a → With T log h r
+    unfolding formWith formMeaning
+    no-form-feed-line r g e q i = rw e (went-executes b h h f (feedsIn f false) T u log a p r (stateAt b h (feedsIn f false)) (i ∙ ap (λ (x : Flow). endedIn Finished x u a) q) refl refl (refl, refl))
+
+    selects-is : (y : Index) → datasourceMeaning (machineIn b h scene) (scene .number) y ≡ concluded (scene .number) (datasourceFrom (indexNumber (integersIn numbers) (scene .turn) y))
+    unfolding datasourceMeaning
+    selects-is y = refl
+
+    pub datasource-line : (r : Lined) (x : Selected) (y : Index) → line ≡ form.Datasource y → Selects numbers scene y x → Follows (x .end) f (datasourceIn f (x .datasource)) u a r → With T log h r
+    unfolding formWith formMeaning
+    datasource-line r x y e d w =
+        rw (e, ← seen-same, selects-is y) (concludes-executes b h h f T u log a p r (refl, refl) (datasourceFrom (indexNumber (integersIn numbers) (scene .turn) y)) (scene .number) (x .datasource) (x .end) (datasourceIn f (x .datasource)) (withDatasource s) (d .concludes) w refl)
+
+    pub text-line : (T′ log′ : List ℕ) (r : Lined) (x : Paged) → line ≡ form.Text → Steps (lent b index numbers rows words) scene t hs (f .feeds) body (f .page) T u log a p T′ log′ x → r ≡ endedIn (x .end) (pageIn f (x .page)) (x .printed) (x .asked) → With T′ log′ h r
+    unfolding formWith formMeaning
+    text-line T′ log′ r x e d i = rw (e, ← seen-same, i) (record { does = go (x .end) refl; few = omega (arith, d .few, few-fields t hs (highestOf hs 9) (k .heads), highest-most hs 9, fields-few body 0 (k .short)); rows = (refl, refl) })
+      where
+        did : Does (sourceOf b) (lineStep (machineIn b h scene) t (scene .number) (f .feeds) hs body (f .page)) (at T u (questions log) a p (f .page .number)) (at T′ (x .printed) (questions log′) (x .asked) p (x .page .number)) (endOf (x .page) (x .end))
+        did = d .moves .does (length b) (k .kept .cells) (k .kept .ready)
+
+        go : (q : Ended) → x .end ≡ q → Does (sourceOf b) (bind (lineStep (machineIn b h scene) t (scene .number) (f .feeds) hs body (f .page)) (λ y. done (withPage s y))) (at T u (questions log) a p (f .page .number)) (at T′ (x .printed) (questions log′) (x .asked) p (x .page .number)) (endOf (stateAt b h (pageIn f (x .page))) (x .end))
+        go Finished q = rw q (then-does (λ y. done (withPage s y)) (rw q at did) (does-done (sourceOf b) (at T′ (x .printed) (questions log′) (x .asked) p (x .page .number)) (withPage s (x .page))))
+        go (Halted c l) q = rw q (then-over (λ y. done (withPage s y)) (rw q at did))
+
+    pub heading-line : (ws : List ℕ) (r : Lined) (n from : ℕ) → line ≡ form.Heading n from → Heads words n (record { start = start; length = length body; from = from; number = scene .number }) f u a ws r → With T log (held numbers rows ws) r
+    unfolding formWith formMeaning
+    heading-line ws r n from e x = rw e (went-executes b h (held numbers rows ws) f f T u log a p r (headed s n (record { start = start; length = length body; from = from; number = scene .number })) (x .went) refl (heads-same ws n _ r x) (refl, ap length (x .tables)))
+
+    pub no-heading-line : (ws : List ℕ) (r : Lined) (n : ℕ) → line ≡ form.NoHeading n → Heads words n noHeading f u a ws r → With T log (held numbers rows ws) r
+    unfolding formWith formMeaning
+    no-heading-line ws r n e x = rw e (went-executes b h (held numbers rows ws) f f T u log a p r (headed s n noHeading) (x .went) refl (heads-same ws n _ r x) (refl, ap length (x .tables)))
+
+    pub records-line : (ws log′ : List ℕ) (r : Lined) (x : Done) (y : Fetch) → line ≡ form.Records y → TakesRecords numbers words scene y log a p ws log′ x → r ≡ endedIn (x .end) f u (x .asked) → With T log′ (held numbers rows ws) r
+    unfolding formWith formMeaning
+    records-line ws log′ r x y e d i =
+        rw (e, ← seen-same) (command (k .kept) h (held numbers rows ws) f f T u log a p log′ r (refl, ap length (d .takes .tables)) (λ source. recordsMeaning (machine source h scene) (scene .number) y) (λ source. machine source (held numbers rows ws) scene) (withMachine s) 64 (x .asked) (x .end) (d .takes .runs b index rows) (omega arith) (rw i (record { end-same = refl; printed = refl; asked = refl; page = refl; goes = λ _. refl })) (machine-same (held numbers rows ws) (d .takes .headings) (d .takes .tables)))
+
+    pub entries-line : (ws log′ : List ℕ) (r : Lined) (x : Done) (y : Fetch) → line ≡ form.Entries y → TakesEntries numbers words scene y log a p ws log′ x → r ≡ endedIn (x .end) f u (x .asked) → With T log′ (held numbers rows ws) r
+    unfolding formWith formMeaning
+    entries-line ws log′ r x y e d i =
+        rw (e, ← seen-same) (command (k .kept) h (held numbers rows ws) f f T u log a p log′ r (refl, ap length (d .takes .tables)) (λ source. entriesMeaning (machine source h scene) (scene .number) y) (λ source. machine source (held numbers rows ws) scene) (withMachine s) 64 (x .asked) (x .end) (d .takes .runs b index rows) (omega arith) (rw i (record { end-same = refl; printed = refl; asked = refl; page = refl; goes = λ _. refl })) (machine-same (held numbers rows ws) (d .takes .headings) (d .takes .tables)))
+
+    pub section-line : (numbers′ : List ℤ) (words′ : List ℕ) (r : Lined) (x y : ℕ) → line ≡ form.Section x y → Clears numbers words f u a numbers′ words′ r → With T log (held numbers′ rows words′) r
+    unfolding formWith formMeaning
+    section-line numbers′ words′ r x y e c =
+        rw e (went-executes b h (held numbers′ rows words′) f (feedsIn f true) T u log a p r (cleared s) (c .went) refl same (refl, ap length (ap (bank 128 20) (c .words-zero) ∙ zeros-behind 0 words 128 20)))
+      where
+        numbers-zero : (i n : ℕ) → i + n ≤ 198 → bank i n numbers′ ≡ replicate n (pos 0)
+        numbers-zero i n l = ap (bank i n) (c .numbers-zero) ∙ zeros-bank (pos 0) (drop 198 numbers) i n 198 l
+
+        words-zero : (i n : ℕ) → i + n ≤ 128 → bank i n words′ ≡ replicate n 0
+        words-zero i n l = ap (bank i n) (c .words-zero) ∙ zeros-bank 0 (drop 128 words) i n 128 l
+
+        same : stateAt b (held numbers′ rows words′) (feedsIn f true) ≡ cleared s
+        same =
+            let i : integersIn numbers′ ≡ replicate 99 (pos 0) = numbers-zero 0 99 (omega arith) in
+            let j : decimalsIn numbers′ ≡ replicate 99 (pos 0) = numbers-zero 99 99 (omega arith) in
+            let l : texts rows 0 (lengthsIn words′) ≡ replicate 99 [] = ap (texts rows 0) (words-zero 0 99 (omega arith)) ∙ texts-cleared rows 0 99 in
+            let m : map (fetched (sourceOf b) Records) (recordsIn words′) ≡ replicate 10 [] = ap (map (fetched (sourceOf b) Records)) (words-zero 99 10 (omega arith)) ∙ fetched-cleared (sourceOf b) Records 10 in
+            let o : map (fetched (sourceOf b) Entries) (entriesIn words′) ≡ replicate 10 [] = ap (map (fetched (sourceOf b) Entries)) (words-zero 109 10 (omega arith)) ∙ fetched-cleared (sourceOf b) Entries 10 in
+            let y : tablesIn words′ ≡ tablesIn words = ap (bank 128 20) (c .words-zero) ∙ zeros-behind 0 words 128 20 in
+            let q : headingsOf (headingsIn words′) ≡ replicate 9 noHeading = ap headingsOf (words-zero 119 9 (omega arith)) ∙ headings-cleared 9 in
+            λ z. record { at = f .at; line = f .line; integers = i z; decimals = j z; strings = l z; records = m z; entries = o z; datasource = f .datasource; tables = opened (y z) (f .depth); headings = q z; feeds = true; page = f .page }
+
+  -- ---- with the values of the arguments
+
+  module _ (log : List ℕ) (p : ℕ) (w : W.Worth) (q : Worth) where
+    abbrev Valued : List ℕ → Held → Lined → Type 0
+    Valued T′ h′ r = Executes 330 (formWith t start (scene .number) body s line (worths (meant S w) q)) b h f T u log a p h′ T′ log r
+
+    pub set-line : (h′ : Held) (r : Lined) (end : Ended) (o : Operation) (x : Target) (y : Argument) → line ≡ form.Set o x y → Assigns body b h (scene .number) o x w h′ end → r ≡ endedIn end f u a → Valued T h′ r
+    unfolding formWith
+    set-line h′ r end o x y e d i =
+        rw (e, ← seen-same) (concludes-executes b h h′ f T u log a p r (d .held .rows-held ∙ sym (k .rows), ap length (d .tables)) (setOf (machineIn b h scene) o x (meant S w)) (scene .number) (machineIn b h′ scene) end f (withMachine s) (d .concludes (sourceOf b) scene) (rw i (record { end-same = refl; printed = refl; asked = refl; page = refl; goes = λ _. refl })) (machine-same h′ (d .headings) (d .tables)))
+
+    pub if-zero-line : (r : Lined) (j : Judged) (y : Argument) → line ≡ form.IfZero y → JudgesZero true w j → r ≡ settledIn (scene .number) f u a (branchedIn t f) (judgedOf j) → Valued T h r
+    unfolding formWith
+    if-zero-line r j y e d i = rw (e, ← (d .same S)) (settles-executes b h h f T u log a p r (refl, refl) (judgedOf j) (scene .number) (branchedIn t f) (branched t s) i branch-page branch-same)
+
+    pub if-non-zero-line : (r : Lined) (j : Judged) (y : Argument) → line ≡ form.IfNonZero y → JudgesZero false w j → r ≡ settledIn (scene .number) f u a (branchedIn t f) (judgedOf j) → Valued T h r
+    unfolding formWith
+    if-non-zero-line r j y e d i = rw (e, ← (d .same S)) (settles-executes b h h f T u log a p r (refl, refl) (judgedOf j) (scene .number) (branchedIn t f) (branched t s) i branch-page branch-same)
+
+    pub compare-line : (r : Lined) (j : Judged) (c : Comparison) (x y : Argument) → line ≡ form.Compare c x y → judgedOf j ≡ compared c (meant S w) q → r ≡ settledIn (scene .number) f u a (branchedIn t f) (judgedOf j) → Valued T h r
+    unfolding formWith
+    compare-line r j c x y e d i = rw (e, ← d) (settles-executes b h h f T u log a p r (refl, refl) (judgedOf j) (scene .number) (branchedIn t f) (branched t s) i branch-page branch-same)
+
+    pub begin-line : (ws : List ℕ) (r : Lined) (x : Looped) (y : Argument) → line ≡ form.BeginTable y → BeginsTable w (f .at) (f .line) (scene .number) words (f .depth) ws x → Follows (x .end) f (begunIn t f x) u a r → Valued T (held numbers rows ws) r
+    unfolding formWith
+    begin-line ws r x y e d i =
+        let g = d .loops S .stays in
+        rw e (concludes-executes b h (held numbers rows ws) f T u log a p r (refl, bank-long words ws 128 20 (g .same)) (beginFrom (openOf words (f .depth)) (f .at) (f .line) (meant S w)) (scene .number) (loopingOf ws x) (x .end) (begunIn t f x) (tableBegun t s) (d .loops S .concludes) i (begun-same ws x g (d .rest)))
+
+    pub end-line : (ws : List ℕ) (r : Lined) (x : Looped) (y : Optional) → line ≡ form.EndTable y → EndsTable y w (scene .number) words (f .depth) ws x → Follows (x .end) f (overIn (tablesIn ws) f x) u a r → Valued T (held numbers rows ws) r
+    unfolding formWith
+    end-line ws r x y e d i =
+        let g = d .loops S .stays in
+        rw e (concludes-executes b h (held numbers rows ws) f T u log a p r (refl, bank-long words ws 128 20 (g .same)) (endFrom (openOf words (f .depth)) y (meant S w)) (scene .number) (loopingOf ws x) (x .end) (overIn (tablesIn ws) f x) (tableEnded s) (d .loops S .concludes) i (ended-same ws x g))
+
+    breaks-does : (T′ : List ℕ) (r : Lined) → BreaksLine (scene .number) f T u a T′ r → Executes 330 (breaking (scene .number) s) b h f T u log a p h T′ log r
+    unfolding breaking
+    breaks-does T′ r d = record { does = rw (d .asked) (go (r .end) refl); few = omega (arith, d .asked); rows = (refl, refl) }
+      where
+        did : Does (sourceOf b) (breakMeaning (scene .number) (f .feeds) (f .page)) (at T u (questions log) a p (f .page .number)) (at T′ (r .printed) (questions log) a p (r .flow .page .number)) (endOf (r .flow .page) (r .end))
+        did = d .does (sourceOf b) (questions log) a p
+
+        stands : stateAt b h (r .flow) ≡ withPage s (r .flow .page)
+        stands = ap (stateAt b h) (d .flow)
+
+        go : (z : Ended) → r .end ≡ z → Does (sourceOf b) (bind (breakMeaning (scene .number) (f .feeds) (f .page)) (λ x. done (withPage s x))) (at T u (questions log) a p (f .page .number)) (at T′ (r .printed) (questions log) a p (r .flow .page .number)) (endOf (stateAt b h (r .flow)) (r .end))
+        go Finished z = rw (z, stands) (then-does (λ x. done (withPage s x)) (rw z at did) (does-done (sourceOf b) (at T′ (r .printed) (questions log) a p (r .flow .page .number)) (withPage s (r .flow .page))))
+        go (Halted c l) z = rw z (then-over (λ x. done (withPage s x)) (rw z at did))
+
+    page-does : (T′ : List ℕ) (r : Lined) → PagesFor w (scene .number) f T u a T′ r → Executes 330 (bind (concluded (scene .number) (integerFrom (meant S w))) (breakingFor (scene .number) s)) b h f T u log a p h T′ log r
+    unfolding breakingFor
+    page-does T′ r d = rw (← (d .takes .same S)) (by (d .taken) refl)
+      where
+        by : (z : Taken) → d .taken ≡ z → Executes 330 (bind (concluded (scene .number) (takenOf (d .taken))) (breakingFor (scene .number) s)) b h f T u log a p h T′ log r
+        by (K.Refused x) z =
+            let y = d .pages .refused x z in
+            rw (z, y .0, y .1) (record { does = does-stop (sourceOf b) (at T u (questions log) a p (f .page .number)) x (scene .number); few = omega arith; rows = (refl, refl) })
+        by (K.Value n) z = rw z (choose (ltZ (pos (61 - f .page .line)) n) refl)
+          where
+            choose : (c : Bool) → ltZ (pos (61 - f .page .line)) n ≡ c → Executes 330 (breakingFor (scene .number) s n) b h f T u log a p h T′ log r
+            choose true c = rw c (breaks-does T′ r (d .pages .breaks n z c))
+            choose false c =
+                let y = d .pages .stays n z c in
+                rw (c, y .0, y .1) (record { does = does-done (sourceOf b) (at T u (questions log) a p (f .page .number)) s; few = omega arith; rows = (refl, refl) })
+
+    pub new-page-line : (T′ : List ℕ) (r : Lined) (y : Optional) → line ≡ form.NewPage y → NewPages y w (scene .number) f T u a T′ r → Valued T′ h r
+    unfolding formWith newPageWith
+    new-page-line T′ r y e d = rw e (by y refl)
+      where
+        by : (z : Optional) → y ≡ z → Executes 330 (newPageWith (scene .number) s y (meant S w)) b h f T u log a p h T′ log r
+        by Absent z = rw z (breaks-does T′ r (d .always z))
+        by (Given x) z = rw z (page-does T′ r (d .given x z))
