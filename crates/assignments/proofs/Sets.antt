@@ -17,9 +17,8 @@ use Rattle.lines.specs.declared.command.Operation.{Operation}
 use Rattle.lines.specs.declared.command.Target.{Target}
 use Rattle.lines.specs.declared.command.Target.the-variants.{IntegerTarget, DecimalTarget, StringTarget}
 use Rattle.strings.specs.inner.Texts.{Strings, strings}
-use Rattle.questions.specs.declared.scene.Scene.{Scene}
-use Rattle.questions.specs.Machine.{Machine, numbered}
-use Rattle.questions.specs.inner.State.{texts, bank, integersIn, decimalsIn, lengthsIn, held, machine}
+use Rattle.questions.specs.Machine.{Variables, numbered}
+use Rattle.questions.specs.inner.State.{texts, bank, integersIn, decimalsIn, lengthsIn, held, variablesOf}
 use Rattle.values.specs.declared.worth.Worth.{Worth}
 use Rattle.values.specs.Worth as D
 use Rattle.values.specs.inner.Yielding.{meant}
@@ -102,13 +101,13 @@ module _ (line store : List ℕ) (numbers : List ℤ) (rows : List (List ℕ)) (
   abbrev Here : Strings
   Here = strings line store rows
 
-  abbrev Now : (Question → Answer) → Scene → Machine
-  Now source sc = machine source (held numbers rows words) sc
+  abbrev Now : (Question → Answer) → Variables
+  Now source = variablesOf source (held numbers rows words)
 
   pub assigned-integer : t ≡ IntegerTarget n → (a : ℤ) → a ≡ numbered (pos 0) (integersIn numbers) n → (taken : Taken) → Takes (integerNew o a) w taken → (numbers′ : List ℤ) → StoresNumber numbers 0 n taken number numbers′ end → Assigns line store (held numbers rows words) number o t w (held numbers′ rows words) end
   unfolding setOf
   assigned-integer h a e taken d numbers′ k = record {
-    concludes = λ source sc. rw (h, ← e, ← (d .same Here), k .above 99 99 (omega arith)) (concludes-in (withIntegers (Now source sc)) (stored (integersIn numbers) n (takenOf taken)) number (integersIn numbers′) end (k .concludes));
+    concludes = λ source. rw (h, ← e, ← (d .same Here), k .above 99 99 (omega arith)) (concludes-in (withIntegers (Now source)) (stored (integersIn numbers) n (takenOf taken)) number (integersIn numbers′) end (k .concludes));
     held = r;
     headings = refl;
     tables = refl;
@@ -117,7 +116,7 @@ module _ (line store : List ℕ) (numbers : List ℤ) (rows : List (List ℕ)) (
   pub assigned-decimal : t ≡ DecimalTarget n → (a : ℤ) → a ≡ numbered (pos 0) (decimalsIn numbers) n → (taken : Taken) → Takes (decimalNew o a) w taken → (numbers′ : List ℤ) → StoresNumber numbers 99 n taken number numbers′ end → Assigns line store (held numbers rows words) number o t w (held numbers′ rows words) end
   unfolding setOf
   assigned-decimal h a e taken d numbers′ k = record {
-    concludes = λ source sc. rw (h, ← e, ← (d .same Here), k .below 0 99 (omega arith)) (concludes-in (withDecimals (Now source sc)) (stored (decimalsIn numbers) n (takenOf taken)) number (decimalsIn numbers′) end (k .concludes));
+    concludes = λ source. rw (h, ← e, ← (d .same Here), k .below 0 99 (omega arith)) (concludes-in (withDecimals (Now source)) (stored (decimalsIn numbers) n (takenOf taken)) number (decimalsIn numbers′) end (k .concludes));
     held = r;
     headings = refl;
     tables = refl;
@@ -126,7 +125,7 @@ module _ (line store : List ℕ) (numbers : List ℤ) (rows : List (List ℕ)) (
   pub assigned-string : t ≡ StringTarget n → (rows′ : List (List ℕ)) (words′ : List ℕ) → StoresString line store rows words n number w rows′ words′ end → Assigns line store (held numbers rows words) number o t w (held numbers rows′ words′) end
   unfolding setOf
   assigned-string h rows′ words′ d = record {
-    concludes = λ source sc. rw (h, d .above 99 10 (omega arith), d .above 109 10 (omega arith)) (concludes-in (withStrings (Now source sc)) (stored (texts rows 0 (lengthsIn words)) n (stringNew (meant Here w))) number (texts rows′ 0 (lengthsIn words′)) end (d .concludes));
+    concludes = λ source. rw (h, d .above 99 10 (omega arith), d .above 109 10 (omega arith)) (concludes-in (withStrings (Now source)) (stored (texts rows 0 (lengthsIn words)) n (stringNew (meant Here w))) number (texts rows′ 0 (lengthsIn words′)) end (d .concludes));
     held = d .held;
     headings = d .above 119 9 (omega arith);
     tables = d .above 128 20 (omega arith);

@@ -3,7 +3,6 @@ use mathlib.Core.List.{List}
 use Prim.Native.Nat.{ℕ, zero, suc}
 use lib.IntN.{ℤ, pos}
 use lib.ListN.{set, take}
-use Rattle.meaning.specs.Tree.{bind}
 use Rattle.meaning.specs.Meaning.{Meaning}
 use Rattle.numbers.specs.Range.{integerLimit, decimalLimit}
 use Rattle.numbers.specs.Outcome.{Outcome, success}
@@ -13,10 +12,9 @@ use Rattle.lines.specs.declared.command.Operation.{Operation}
 use Rattle.lines.specs.declared.command.Operation.the-variants.{Assign, Add, Subtract, Multiply, Divide}
 use Rattle.lines.specs.declared.command.Target.{Target}
 use Rattle.lines.specs.declared.command.Target.the-variants.{IntegerTarget, DecimalTarget, StringTarget}
-use Rattle.questions.specs.Machine.{Machine, numbered}
+use Rattle.questions.specs.Machine.{Variables, Machine, numbered}
 use Rattle.values.specs.Worth.{Worth}
-use Rattle.values.specs.Meanings.{argumentMeaning}
-use Rattle.coercions.specs.Settling.{Settled, settled, andThen, concluded, integerFrom, decimalFrom, stringFrom, resultOf}
+use Rattle.coercions.specs.Settling.{Settled, settled, andThen, fromOne, integerFrom, decimalFrom, stringFrom, resultOf}
 
 -- "set, add, subtract, multiply, divide"; "IV takes an integer and divides toward zero"
 unfoldable pub integerOutcome : Operation → ℤ → ℤ → Outcome
@@ -58,23 +56,23 @@ decimalNew o a = newFrom decimalFrom (decimalOutcome o a)
 unfoldable pub stringNew : Worth → Settled (List ℕ)
 stringNew w = andThen (stringFrom w) (λ s. settled (take 16 s))
 
-abbrev pub withIntegers : Machine → List ℤ → Machine
-withIntegers m vs = record { integers = vs; decimals = m .decimals; strings = m .strings; counter = m .counter; records = m .records; entries = m .entries; datasource = m .datasource; page = m .page; row = m .row }
+abbrev pub withIntegers : Variables → List ℤ → Variables
+withIntegers v l = record { integers = l; decimals = v .decimals; strings = v .strings; records = v .records; entries = v .entries }
 
-abbrev pub withDecimals : Machine → List ℤ → Machine
-withDecimals m vs = record { integers = m .integers; decimals = vs; strings = m .strings; counter = m .counter; records = m .records; entries = m .entries; datasource = m .datasource; page = m .page; row = m .row }
+abbrev pub withDecimals : Variables → List ℤ → Variables
+withDecimals v l = record { integers = v .integers; decimals = l; strings = v .strings; records = v .records; entries = v .entries }
 
-abbrev pub withStrings : Machine → List (List ℕ) → Machine
-withStrings m vs = record { integers = m .integers; decimals = m .decimals; strings = vs; counter = m .counter; records = m .records; entries = m .entries; datasource = m .datasource; page = m .page; row = m .row }
+abbrev pub withStrings : Variables → List (List ℕ) → Variables
+withStrings v l = record { integers = v .integers; decimals = v .decimals; strings = l; records = v .records; entries = v .entries }
 
 -- a string's word is $SETE: "after another word than $SETE it is 3"
-unfoldable pub setOf : Machine → Operation → Target → Worth → Settled Machine
-setOf m o (IntegerTarget n) w =
-    andThen (stored (m .integers) n (integerNew o (numbered (pos 0) (m .integers) n) w)) (λ vs. settled (withIntegers m vs))
-setOf m o (DecimalTarget n) w =
-    andThen (stored (m .decimals) n (decimalNew o (numbered (pos 0) (m .decimals) n) w)) (λ vs. settled (withDecimals m vs))
-setOf m o (StringTarget n) w = andThen (stored (m .strings) n (stringNew w)) (λ vs. settled (withStrings m vs))
+unfoldable pub setOf : Variables → Operation → Target → Worth → Settled Variables
+setOf v o (IntegerTarget n) w =
+    andThen (stored (v .integers) n (integerNew o (numbered (pos 0) (v .integers) n) w)) (λ l. settled (withIntegers v l))
+setOf v o (DecimalTarget n) w =
+    andThen (stored (v .decimals) n (decimalNew o (numbered (pos 0) (v .decimals) n) w)) (λ l. settled (withDecimals v l))
+setOf v o (StringTarget n) w = andThen (stored (v .strings) n (stringNew w)) (λ l. settled (withStrings v l))
 
 -- the line s, whose number is `line`
-unfoldable pub setMeaning : Machine → List ℕ → ℕ → Operation → Target → Argument → Meaning Machine
-setMeaning m s line o t a = bind (argumentMeaning m s line a) (λ w. concluded line (setOf m o t w))
+unfoldable pub setMeaning : Machine → List ℕ → ℕ → Operation → Target → Argument → Meaning Variables
+setMeaning m s line o t a = fromOne m s line a (setOf (m .variables) o t)

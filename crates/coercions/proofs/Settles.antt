@@ -1,11 +1,7 @@
 -- What commands take from values: one law for each return of the code.
 use mathlib.Core.Path.{_≡_, ap, _∙_}
-use Prim.Native.Nat.{ℕ}
 use lib.IntN.{ℤ}
-use Rattle.meaning.specs.declared.refusal.Refusal.{Refusal}
 use Rattle.meaning.specs.declared.refusal.Refusal.the-variants as R
-use Rattle.meaning.specs.declared.end.Halt.the-variants as H
-use Rattle.meaning.specs.declared.end.Ended.the-variants.{Finished, Halted}
 use Rattle.numbers.specs.declared.Number.{Number}
 use Rattle.numbers.specs.declared.Number.the-variants as N
 use Rattle.numbers.specs.declared.Quantity.{Quantity}

@@ -64,6 +64,14 @@ millionthsOf (Decimal m) = settled m
 unfoldable pub decimalFrom : Worth → Settled ℤ
 decimalFrom w = andThen (quantityFrom w) millionthsOf
 
--- "$BT, $ET and $NP take integers": such an argument of the line s, whose number is `line`
+-- "Within a line: arguments left to right, 8 then 9 each; then 10 to 14": what follows from the value of one argument of the
+-- line s, whose number is `line`, and from the values of two
+abbrev pub fromOne : {A : Type 0} → Machine → List ℕ → ℕ → Argument → (Worth → Settled A) → Meaning A
+fromOne m s line a f = bind (argumentMeaning m s line a) (λ v. concluded line (f v))
+
+abbrev pub fromTwo : {A : Type 0} → Machine → List ℕ → ℕ → Argument → Argument → (Worth → Worth → Settled A) → Meaning A
+fromTwo m s line a b f = bind (argumentMeaning m s line a) (λ v. fromOne m s line b (f v))
+
+-- "$BT, $ET and $NP take integers"
 unfoldable pub integerMeaning : Machine → List ℕ → ℕ → Argument → Meaning ℤ
-integerMeaning m s line a = bind (argumentMeaning m s line a) (λ w. concluded line (integerFrom w))
+integerMeaning m s line a = fromOne m s line a integerFrom

@@ -4,7 +4,6 @@ use mathlib.Core.List.{List}
 use Prim.Native.Nat.{ℕ}
 use lib.IntN.{pos}
 use Rattle.meaning.specs.Tree.{done, bind}
-use Rattle.meaning.specs.Meaning.{Meaning}
 use Rattle.meaning.proofs.Questions.{asks-then}
 use Rattle.cells.proofs.Limits.{AnswerWithin}
 use Rattle.arguments.specs.declared.argument.Argument.{Argument}
@@ -44,7 +43,7 @@ module _ (m : Machine) (d : Between 1 35 (m .datasource)) (line : ℕ) where
 
     pub set-asks : (o : Operation) (t : Target) (a : Argument) → ArgumentWithin s a → AsksAllowed (setMeaning m s line o t a)
     unfolding setMeaning
-    set-asks o t a b = followed a (setOf m o t) b
+    set-asks o t a b = followed a (setOf (m .variables) o t) b
 
     pub integer-asks : (a : Argument) → ArgumentWithin s a → AsksAllowed (integerMeaning m s line a)
     unfolding integerMeaning
@@ -73,13 +72,13 @@ module _ (m : Machine) (d : Between 1 35 (m .datasource)) (line : ℕ) where
   pub records-asks : (f : Fetch) → FetchWithin f → AsksAllowed (recordsMeaning m line f)
   unfolding recordsMeaning
   records-asks f b =
-      asks-then AnswerWithin Allowed (fetchMeaning m line Records (f .parameter) (f .first) (f .second) (f .count)) (λ l. done (withRecords m (setNumbered (m .records) (f .number) l))) (fetch-asks m line Records (f .parameter) (f .first) (f .second) (f .count) d (b .parameter)) (λ l. tt)
+      asks-then AnswerWithin Allowed (fetchMeaning m line Records (f .parameter) (f .first) (f .second) (f .count)) (λ l. done (withRecords (m .variables) (setNumbered (m .variables .records) (f .number) l))) (fetch-asks m line Records (f .parameter) (f .first) (f .second) (f .count) d (b .parameter)) (λ l. tt)
 
   pub entries-asks : (f : Fetch) → FetchWithin f → AsksAllowed (entriesMeaning m line f)
   unfolding entriesMeaning
   entries-asks f b =
-      asks-then AnswerWithin Allowed (fetchMeaning m line Entries (f .parameter) (f .first) (f .second) (f .count)) (λ l. done (withEntries m (setNumbered (m .entries) (f .number) l))) (fetch-asks m line Entries (f .parameter) (f .first) (f .second) (f .count) d (b .parameter)) (λ l. tt)
+      asks-then AnswerWithin Allowed (fetchMeaning m line Entries (f .parameter) (f .first) (f .second) (f .count)) (λ l. done (withEntries (m .variables) (setNumbered (m .variables .entries) (f .number) l))) (fetch-asks m line Entries (f .parameter) (f .first) (f .second) (f .count) d (b .parameter)) (λ l. tt)
 
 pub datasource-asks : (m : Machine) (line : ℕ) (i : Index) → AsksAllowed (datasourceMeaning m line i)
 unfolding datasourceMeaning
-datasource-asks m line i = concluded-asks line (datasourceFrom (indexNumber (m .integers) (m .counter) i))
+datasource-asks m line i = concluded-asks line (datasourceFrom (indexNumber (m .variables .integers) (m .counter) i))

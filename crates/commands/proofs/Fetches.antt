@@ -18,10 +18,10 @@ use Rattle.questions.specs.declared.scene.Scene.{Scene}
 use Rattle.questions.specs.declared.fetch.Fetched.{Fetched}
 use Rattle.questions.specs.declared.fetch.Along.{Along}
 use Rattle.questions.specs.declared.fetch.Along.the-variants.{Records, Entries}
-use Rattle.questions.specs.Machine.{Machine}
+use Rattle.questions.specs.Machine.{Variables}
 use Rattle.questions.specs.inner.Fetch.{Fetches, FetchValue}
 use Rattle.questions.specs.Source.{answers}
-use Rattle.questions.specs.inner.State.{fetched, recordsIn, entriesIn, held, machine}
+use Rattle.questions.specs.inner.State.{fetched, recordsIn, entriesIn, held, machine, variablesOf}
 use Rattle.questions.specs.inner.Word.{questions}
 use Rattle.assignments.specs.Setting.{setNumbered}
 use Rattle.assignments.specs.inner.Contracts.{Puts}
@@ -30,8 +30,8 @@ use Rattle.commands.specs.Fetching.{withRecords, withEntries, recordsMea
 use Rattle.commands.specs.inner.Fetches.{TakesRecords, TakesEntries}
 
 -- A fetch that led to v, and the machine with what it fetched.
-module _ (b index : List ℕ) (t : (Question → Answer) → Meaning (List Answer)) (along : Along) (put : (Question → Answer) → List Answer → Machine) (after : (Question → Answer) → Machine) (log : List ℕ) (a p : ℕ) (log′ : List ℕ) (v : Fetched) (d : Fetches t along log a p log′ v) where
-  abbrev Line : (Question → Answer) → Meaning Machine
+module _ (b index : List ℕ) (t : (Question → Answer) → Meaning (List Answer)) (along : Along) (put : (Question → Answer) → List Answer → Variables) (after : (Question → Answer) → Variables) (log : List ℕ) (a p : ℕ) (log′ : List ℕ) (v : Fetched) (d : Fetches t along log a p log′ v) where
+  abbrev Line : (Question → Answer) → Meaning Variables
   Line source = bind (t source) (λ l. done (put source l))
 
   over : (h : Halt) (l : ℕ) → v .end ≡ Halted h l → Runs b index Line after 64 log a p log′ (v .asked) (Halted h l)
@@ -58,7 +58,7 @@ module _ (numbers : List ℤ) (words : List ℕ) (sc : Scene) (f : Fetch) (log :
     unfolding recordsMeaning
     records-over h l e = record {
       takes = record {
-        runs = λ b index rows. let now : (Question → Answer) → Machine = λ source. machine source (held numbers rows words) sc in over b index _ Records (λ source x. withRecords (now source) (setNumbered (now source .records) (f .number) x)) now log a p log′ v (d .fetches rows words) h l e;
+        runs = λ b index rows. let now : (Question → Answer) → Variables = λ source. variablesOf source (held numbers rows words) in over b index _ Records (λ source x. withRecords (now source) (setNumbered (now source .records) (f .number) x)) now log a p log′ v (d .fetches rows words) h l e;
         headings = refl;
         tables = refl;
       };
@@ -68,7 +68,7 @@ module _ (numbers : List ℤ) (words : List ℕ) (sc : Scene) (f : Fetch) (log :
     unfolding recordsMeaning
     records-follow words′ e k = record {
       takes = record {
-        runs = λ b index rows. let now : (Question → Answer) → Machine = λ source. machine source (held numbers rows words) sc in follows b index _ Records (λ source x. withRecords (now source) (setNumbered (now source .records) (f .number) x)) (λ source. machine source (held numbers rows words′) sc) log a p log′ v (d .fetches rows words) e (λ source. rw (k .below 0 99 (omega arith), k .above 109 10 (omega arith)) (ap (withRecords (now source)) (ap (map (fetched source Records)) (k .own) ∙ kept source Records (recordsIn words) (f .number) (v .fetched))));
+        runs = λ b index rows. let now : (Question → Answer) → Variables = λ source. variablesOf source (held numbers rows words) in follows b index _ Records (λ source x. withRecords (now source) (setNumbered (now source .records) (f .number) x)) (λ source. variablesOf source (held numbers rows words′)) log a p log′ v (d .fetches rows words) e (λ source. rw (k .below 0 99 (omega arith), k .above 109 10 (omega arith)) (ap (withRecords (now source)) (ap (map (fetched source Records)) (k .own) ∙ kept source Records (recordsIn words) (f .number) (v .fetched))));
         headings = k .above 119 9 (omega arith);
         tables = k .above 128 20 (omega arith);
       };
@@ -79,7 +79,7 @@ module _ (numbers : List ℤ) (words : List ℕ) (sc : Scene) (f : Fetch) (log :
     unfolding entriesMeaning
     entries-over h l e = record {
       takes = record {
-        runs = λ b index rows. let now : (Question → Answer) → Machine = λ source. machine source (held numbers rows words) sc in over b index _ Entries (λ source x. withEntries (now source) (setNumbered (now source .entries) (f .number) x)) now log a p log′ v (d .fetches rows words) h l e;
+        runs = λ b index rows. let now : (Question → Answer) → Variables = λ source. variablesOf source (held numbers rows words) in over b index _ Entries (λ source x. withEntries (now source) (setNumbered (now source .entries) (f .number) x)) now log a p log′ v (d .fetches rows words) h l e;
         headings = refl;
         tables = refl;
       };
@@ -89,7 +89,7 @@ module _ (numbers : List ℤ) (words : List ℕ) (sc : Scene) (f : Fetch) (log :
     unfolding entriesMeaning
     entries-follow words′ e k = record {
       takes = record {
-        runs = λ b index rows. let now : (Question → Answer) → Machine = λ source. machine source (held numbers rows words) sc in follows b index _ Entries (λ source x. withEntries (now source) (setNumbered (now source .entries) (f .number) x)) (λ source. machine source (held numbers rows words′) sc) log a p log′ v (d .fetches rows words) e (λ source. rw (k .below 0 99 (omega arith), k .below 99 10 (omega arith)) (ap (withEntries (now source)) (ap (map (fetched source Entries)) (k .own) ∙ kept source Entries (entriesIn words) (f .number) (v .fetched))));
+        runs = λ b index rows. let now : (Question → Answer) → Variables = λ source. variablesOf source (held numbers rows words) in follows b index _ Entries (λ source x. withEntries (now source) (setNumbered (now source .entries) (f .number) x)) (λ source. variablesOf source (held numbers rows words′)) log a p log′ v (d .fetches rows words) e (λ source. rw (k .below 0 99 (omega arith), k .below 99 10 (omega arith)) (ap (withEntries (now source)) (ap (map (fetched source Entries)) (k .own) ∙ kept source Entries (entriesIn words) (f .number) (v .fetched))));
         headings = k .above 119 9 (omega arith);
         tables = k .above 128 20 (omega arith);
       };

@@ -22,7 +22,7 @@ use Rattle.lines.specs.declared.command.Optional.the-variants.{Given, Absent}
 use Rattle.lines.specs.declared.command.Target.{Target}
 use Rattle.lines.specs.declared.command.Target.the-variants.{IntegerTarget, DecimalTarget, StringTarget}
 use Rattle.questions.specs.declared.fetch.Along.the-variants.{Records, Entries}
-use Rattle.questions.specs.Machine.{Machine}
+use Rattle.questions.specs.Machine.{Machine, Variables}
 use Rattle.questions.specs.Indexes.{indexNumber}
 use Rattle.questions.specs.Fetching.{fetchMeaning}
 use Rattle.values.specs.Worth.{Worth}
@@ -77,17 +77,13 @@ module _ (m : Machine) (s : List ℕ) (line : ℕ) where
 
 -- ---- variables
 
--- a machine with as many variables as m, and its counters, page and datasource
-pub record Shaped (m m′ : Machine) : Type 0 where
-  pub integers : length (m′ .integers) ≡ length (m .integers)
-  pub decimals : length (m′ .decimals) ≡ length (m .decimals)
-  pub strings : length (m′ .strings) ≡ length (m .strings)
-  pub records : length (m′ .records) ≡ length (m .records)
-  pub entries : length (m′ .entries) ≡ length (m .entries)
-  pub counter : m′ .counter ≡ m .counter
-  pub datasource : m′ .datasource ≡ m .datasource
-  pub page : m′ .page ≡ m .page
-  pub row : m′ .row ≡ m .row
+-- as many variables
+pub record Shaped (v v′ : Variables) : Type 0 where
+  pub integers : length (v′ .integers) ≡ length (v .integers)
+  pub decimals : length (v′ .decimals) ≡ length (v .decimals)
+  pub strings : length (v′ .strings) ≡ length (v .strings)
+  pub records : length (v′ .records) ≡ length (v .records)
+  pub entries : length (v′ .entries) ≡ length (v .entries)
 
 pub numbered-length : {A : Type 0} (l : List A) (n : ℕ) (x : A) → length (setNumbered l n x) ≡ length l
 unfolding setNumbered
@@ -100,31 +96,31 @@ unfolding stored
 stored-length l n (settled x) = numbered-length l n x
 stored-length l n (against e) = tt
 
-set-shapes : (m : Machine) (o : Operation) (t : Target) (w : Worth) → Whenever (setOf m o t w) (Shaped m)
+set-shapes : (v : Variables) (o : Operation) (t : Target) (w : Worth) → Whenever (setOf v o t w) (Shaped v)
 unfolding setOf
-set-shapes m o (IntegerTarget n) w =
-    whenever-then (stored (m .integers) n _) _ (λ l. length l ≡ length (m .integers)) (Shaped m) (stored-length (m .integers) n _) (λ l h. record { integers = h; decimals = refl; strings = refl; records = refl; entries = refl; counter = refl; datasource = refl; page = refl; row = refl })
-set-shapes m o (DecimalTarget n) w =
-    whenever-then (stored (m .decimals) n _) _ (λ l. length l ≡ length (m .decimals)) (Shaped m) (stored-length (m .decimals) n _) (λ l h. record { integers = refl; decimals = h; strings = refl; records = refl; entries = refl; counter = refl; datasource = refl; page = refl; row = refl })
-set-shapes m o (StringTarget n) w =
-    whenever-then (stored (m .strings) n _) _ (λ l. length l ≡ length (m .strings)) (Shaped m) (stored-length (m .strings) n _) (λ l h. record { integers = refl; decimals = refl; strings = h; records = refl; entries = refl; counter = refl; datasource = refl; page = refl; row = refl })
+set-shapes v o (IntegerTarget n) w =
+    whenever-then (stored (v .integers) n _) _ (λ l. length l ≡ length (v .integers)) (Shaped v) (stored-length (v .integers) n _) (λ l h. record { integers = h; decimals = refl; strings = refl; records = refl; entries = refl })
+set-shapes v o (DecimalTarget n) w =
+    whenever-then (stored (v .decimals) n _) _ (λ l. length l ≡ length (v .decimals)) (Shaped v) (stored-length (v .decimals) n _) (λ l h. record { integers = refl; decimals = h; strings = refl; records = refl; entries = refl })
+set-shapes v o (StringTarget n) w =
+    whenever-then (stored (v .strings) n _) _ (λ l. length l ≡ length (v .strings)) (Shaped v) (stored-length (v .strings) n _) (λ l h. record { integers = refl; decimals = refl; strings = h; records = refl; entries = refl })
 
-pub set-gives : (m : Machine) (s : List ℕ) (line : ℕ) (o : Operation) (t : Target) (a : Argument) → Gives (setMeaning m s line o t a) (Shaped m)
+pub set-gives : (m : Machine) (s : List ℕ) (line : ℕ) (o : Operation) (t : Target) (a : Argument) → Gives (setMeaning m s line o t a) (Shaped (m .variables))
 unfolding setMeaning
-set-gives m s line o t a = followed m s line a (setOf m o t) (Shaped m) (λ w. set-shapes m o t w)
+set-gives m s line o t a = followed m s line a (setOf (m .variables) o t) (Shaped (m .variables)) (λ w. set-shapes (m .variables) o t w)
 
 -- ---- $REC and $TBL
 
 module _ (m : Machine) (line : ℕ) (f : Fetch) where
-  pub records-gives : Gives (recordsMeaning m line f) (Shaped m)
+  pub records-gives : Gives (recordsMeaning m line f) (Shaped (m .variables))
   unfolding recordsMeaning
   records-gives =
-      gives-bind (fetchMeaning m line Records (f .parameter) (f .first) (f .second) (f .count)) (λ l. done (withRecords m (setNumbered (m .records) (f .number) l))) Anything (Shaped m) (fetch-gives m line Records (f .parameter) (f .first) (f .second) (f .count)) (λ l h. record { integers = refl; decimals = refl; strings = refl; records = numbered-length (m .records) (f .number) l; entries = refl; counter = refl; datasource = refl; page = refl; row = refl })
+      gives-bind (fetchMeaning m line Records (f .parameter) (f .first) (f .second) (f .count)) (λ l. done (withRecords (m .variables) (setNumbered (m .variables .records) (f .number) l))) Anything (Shaped (m .variables)) (fetch-gives m line Records (f .parameter) (f .first) (f .second) (f .count)) (λ l h. record { integers = refl; decimals = refl; strings = refl; records = numbered-length (m .variables .records) (f .number) l; entries = refl })
 
-  pub entries-gives : Gives (entriesMeaning m line f) (Shaped m)
+  pub entries-gives : Gives (entriesMeaning m line f) (Shaped (m .variables))
   unfolding entriesMeaning
   entries-gives =
-      gives-bind (fetchMeaning m line Entries (f .parameter) (f .first) (f .second) (f .count)) (λ l. done (withEntries m (setNumbered (m .entries) (f .number) l))) Anything (Shaped m) (fetch-gives m line Entries (f .parameter) (f .first) (f .second) (f .count)) (λ l h. record { integers = refl; decimals = refl; strings = refl; records = refl; entries = numbered-length (m .entries) (f .number) l; counter = refl; datasource = refl; page = refl; row = refl })
+      gives-bind (fetchMeaning m line Entries (f .parameter) (f .first) (f .second) (f .count)) (λ l. done (withEntries (m .variables) (setNumbered (m .variables .entries) (f .number) l))) Anything (Shaped (m .variables)) (fetch-gives m line Entries (f .parameter) (f .first) (f .second) (f .count)) (λ l h. record { integers = refl; decimals = refl; strings = refl; records = refl; entries = numbered-length (m .variables .entries) (f .number) l })
 
 -- ---- tables
 
@@ -225,4 +221,4 @@ from-selectable (pos n) = by (leb 1 n) refl (leb n 35) refl
 
 pub datasource-gives : (m : Machine) (line : ℕ) (i : Index) → Gives (datasourceMeaning m line i) Selectable
 unfolding datasourceMeaning
-datasource-gives m line i = gives-concluded line (datasourceFrom (indexNumber (m .integers) (m .counter) i)) Selectable (from-selectable (indexNumber (m .integers) (m .counter) i))
+datasource-gives m line i = gives-concluded line (datasourceFrom (indexNumber (m .variables .integers) (m .counter) i)) Selectable (from-selectable (indexNumber (m .variables .integers) (m .counter) i))

@@ -2,14 +2,13 @@
 -- SV takes is not cut, and a variable that is set is one of the machine's.
 use mathlib.Core.Path.{_≡_, refl, ap, subst, _∙_}
 use mathlib.Core.List.{List, [], _∷_}
-use Prim.Native.Nat.{ℕ, zero, suc, _+_, _≤_}
+use Prim.Native.Nat.{ℕ, zero, suc, _≤_}
 use native.Mathlib.Omega.{arith}
 use lib.IntN.{ℤ, pos, natAbs}
 use lib.ListN.{length, set, take}
 use lib.Seq.{take-all, getD-set-same}
 use Rattle.meaning.specs.Each.{Each}
-use Rattle.meaning.specs.Answer.{Answer}
-use Rattle.meaning.specs.Tree.{done, stop, ask, print, bind}
+use Rattle.meaning.specs.Tree.{done, stop, ask, print}
 use Rattle.meaning.specs.Meaning.{Meaning}
 use Rattle.meaning.proofs.Yielding.{Yields, yields-bind, yields-more}
 use Rattle.numbers.specs.declared.Quantity.{Quantity}
@@ -29,18 +28,18 @@ use Rattle.lines.specs.declared.command.Optional.{Optional}
 use Rattle.lines.specs.declared.command.Target.{Target}
 use Rattle.lines.specs.declared.command.Target.the-variants.{IntegerTarget, DecimalTarget, StringTarget}
 use Rattle.questions.specs.declared.fetch.Along.the-variants.{Records, Entries}
-use Rattle.questions.specs.Machine.{Machine, numbered}
+use Rattle.questions.specs.Machine.{Machine, numbered, Variables}
 use Rattle.questions.specs.Fetching.{fetchMeaning}
 use Rattle.values.specs.Worth.{Worth, missing, wrong, number, string}
 use Rattle.values.specs.Meanings.{argumentMeaning}
 use Rattle.values.proofs.Giving.{Gives}
 use Rattle.values.proofs.Ranges as R
-use Rattle.values.proofs.Ranges.{IntegerWithin, DecimalWithin, Short, WorthWithin, MachineWithin, argument-within, fetch-within}
+use Rattle.values.proofs.Ranges.{IntegerWithin, DecimalWithin, Short, WorthWithin, MachineWithin, argument-within, fetch-within, All, VariablesWithin}
 use Rattle.tables.specs.declared.table.Table.{Table}
 use Rattle.coercions.specs.Settling.{Settled, settled, against, concluded, integerFrom, quantityFrom, stringFrom, resultOf, millionthsOf, decimalFrom, integerMeaning}
 use Rattle.assignments.specs.Setting.{integerOutcome, decimalOutcome, setNumbered, stored, newFrom, integerNew, decimalNew, stringNew, setOf, setMeaning}
 use Rattle.commands.specs.Fetching.{withRecords, withEntries, recordsMeaning, entriesMeaning}
-use Rattle.tables.specs.Looping.{Looping, begun, beginMeaning, endMeaning}
+use Rattle.tables.specs.Looping.{begun, beginMeaning, endMeaning}
 use Rattle.commands.proofs.Giving.{Whenever, whenever-then, numbered-length, Counting, end-gives, Bounded, begun-bounded, counting-bounded}
 
 -- what a tree that only asks gives, it yields
@@ -148,20 +147,20 @@ Held {A} l n = (d x : A) → numbered d (setNumbered l n x) n ≡ x
 pub held : {A : Type 0} (l : List A) (c n : ℕ) → length l ≡ c → Between 1 c n → Held l n
 held l c n e h = λ d x. set-there d l n x (record { least = h .least; most = omega (arith, h .most) })
 
-abbrev pub TargetThere : Machine → Target → Type 0
-TargetThere m (IntegerTarget n) = Held (m .integers) n
-TargetThere m (DecimalTarget n) = Held (m .decimals) n
-TargetThere m (StringTarget n) = Held (m .strings) n
+abbrev pub TargetThere : Variables → Target → Type 0
+TargetThere v (IntegerTarget n) = Held (v .integers) n
+TargetThere v (DecimalTarget n) = Held (v .decimals) n
+TargetThere v (StringTarget n) = Held (v .strings) n
 
--- A variable that a parsed line sets is one of the machine's.
-pub target-there : (m : Machine) → MachineWithin m → (t : Target) → TargetWithin t → TargetThere m t
-target-there m h (IntegerTarget n) b = held (m .integers) 99 n (h .integer-count) b
-target-there m h (DecimalTarget n) b = held (m .decimals) 99 n (h .decimal-count) b
-target-there m h (StringTarget n) b = held (m .strings) 99 n (h .string-count) b
+-- A variable that a parsed line sets is one that there is.
+pub target-there : (v : Variables) → VariablesWithin v → (t : Target) → TargetWithin t → TargetThere v t
+target-there v h (IntegerTarget n) b = held (v .integers) 99 n (h .integers .count) b
+target-there v h (DecimalTarget n) b = held (v .decimals) 99 n (h .decimals .count) b
+target-there v h (StringTarget n) b = held (v .strings) 99 n (h .strings .count) b
 
 -- So is what $REC and $TBL fill.
-pub fetch-there : (m : Machine) → MachineWithin m → (f : Fetch) → FetchWithin f → Held (m .records) (f .number) × Held (m .entries) (f .number)
-fetch-there m h f b = (held (m .records) 10 (f .number) (h .record-count) (b .number), held (m .entries) 10 (f .number) (h .entry-count) (b .number))
+pub fetch-there : (v : Variables) → VariablesWithin v → (f : Fetch) → FetchWithin f → Held (v .records) (f .number) × Held (v .entries) (f .number)
+fetch-there v h f b = (held (v .records) 10 (f .number) (h .records .count) (b .number), held (v .entries) 10 (f .number) (h .entries .count) (b .number))
 
 set-each : {A : Type 0} (P : A → Type 0) (l : List A) (k : ℕ) (x : A) → P x → Each P l → Each P (set l k x)
 set-each P [] k x p h = tt
@@ -173,40 +172,39 @@ unfolding setNumbered
 numbered-each P l zero x p h = h
 numbered-each P l (suc k) x p h = set-each P l k x p h
 
--- c of them, each with P
-record All {A : Type 0} (P : A → Type 0) (c : ℕ) (l : List A) : Type 0 where
-  each : Each P l
-  count : length l ≡ c
+numbered-all : {A : Type 0} (P : A → Type 0) (c : ℕ) (l : List A) (n : ℕ) (x : A) → P x → All P c l → All P c (setNumbered l n x)
+numbered-all P c l n x p h = record { each = numbered-each P l n x p (h .each); count = numbered-length l n x ∙ h .count }
 
-stored-all : {A : Type 0} (P : A → Type 0) (c : ℕ) (l : List A) (n : ℕ) (x : Settled A) → Each P l → length l ≡ c → Whenever x P → Whenever (stored l n x) (All P c)
+stored-all : {A : Type 0} (P : A → Type 0) (c : ℕ) (l : List A) (n : ℕ) (x : Settled A) → All P c l → Whenever x P → Whenever (stored l n x) (All P c)
 unfolding stored
-stored-all P c l n (settled x) h e p = record { each = numbered-each P l n x p h; count = numbered-length l n x ∙ e }
-stored-all P c l n (against r) h e p = tt
+stored-all P c l n (settled x) h p = numbered-all P c l n x p h
+stored-all P c l n (against r) h p = tt
 
-module _ (m : Machine) (h : MachineWithin m) where
-  set-of : (o : Operation) (t : Target) (w : Worth) → WorthWithin w → Whenever (setOf m o t w) MachineWithin
+module _ (v : Variables) (h : VariablesWithin v) where
+  set-of : (o : Operation) (t : Target) (w : Worth) → WorthWithin w → Whenever (setOf v o t w) VariablesWithin
   unfolding setOf
   set-of o (IntegerTarget n) w k =
-      whenever-then (stored (m .integers) n (integerNew o (numbered (pos 0) (m .integers) n) w)) _ (All IntegerWithin 99) MachineWithin (stored-all IntegerWithin 99 (m .integers) n _ (h .integers) (h .integer-count) (integer-new o _ w k)) (λ l a. record { integers = a .each; decimals = h .decimals; strings = h .strings; records = h .records; entries = h .entries; counter = h .counter; page = h .page; row = h .row; integer-count = a .count; decimal-count = h .decimal-count; string-count = h .string-count; record-count = h .record-count; entry-count = h .entry-count })
+      whenever-then (stored (v .integers) n (integerNew o (numbered (pos 0) (v .integers) n) w)) _ (All IntegerWithin 99) VariablesWithin (stored-all IntegerWithin 99 (v .integers) n _ (h .integers) (integer-new o _ w k)) (λ l a. record { integers = a; decimals = h .decimals; strings = h .strings; records = h .records; entries = h .entries })
   set-of o (DecimalTarget n) w k =
-      whenever-then (stored (m .decimals) n (decimalNew o (numbered (pos 0) (m .decimals) n) w)) _ (All DecimalWithin 99) MachineWithin (stored-all DecimalWithin 99 (m .decimals) n _ (h .decimals) (h .decimal-count) (decimal-new o _ w k)) (λ l a. record { integers = h .integers; decimals = a .each; strings = h .strings; records = h .records; entries = h .entries; counter = h .counter; page = h .page; row = h .row; integer-count = h .integer-count; decimal-count = a .count; string-count = h .string-count; record-count = h .record-count; entry-count = h .entry-count })
+      whenever-then (stored (v .decimals) n (decimalNew o (numbered (pos 0) (v .decimals) n) w)) _ (All DecimalWithin 99) VariablesWithin (stored-all DecimalWithin 99 (v .decimals) n _ (h .decimals) (decimal-new o _ w k)) (λ l a. record { integers = h .integers; decimals = a; strings = h .strings; records = h .records; entries = h .entries })
   set-of o (StringTarget n) w k =
-      whenever-then (stored (m .strings) n (stringNew w)) _ (All Short 99) MachineWithin (stored-all Short 99 (m .strings) n (stringNew w) (h .strings) (h .string-count) (string-new w k)) (λ l a. record { integers = h .integers; decimals = h .decimals; strings = a .each; records = h .records; entries = h .entries; counter = h .counter; page = h .page; row = h .row; integer-count = h .integer-count; decimal-count = h .decimal-count; string-count = a .count; record-count = h .record-count; entry-count = h .entry-count })
+      whenever-then (stored (v .strings) n (stringNew w)) _ (All Short 99) VariablesWithin (stored-all Short 99 (v .strings) n (stringNew w) (h .strings) (string-new w k)) (λ l a. record { integers = h .integers; decimals = h .decimals; strings = a; records = h .records; entries = h .entries })
 
   -- What an operation is done with is in range: `operands` refuses nothing.
-  pub integer-operands : (n : ℕ) (w : Worth) → WorthWithin w → Whenever (integerFrom w) (Inside integerLimit (numbered (pos 0) (m .integers) n))
-  integer-operands n w k = whenever-more (integerFrom w) IntegerWithin (Inside integerLimit (numbered (pos 0) (m .integers) n)) (integer-from w k) (λ b i. record { left = R.numbered-each IntegerWithin (pos 0) (m .integers) n (omega arith) (h .integers); right = i })
+  pub integer-operands : (n : ℕ) (w : Worth) → WorthWithin w → Whenever (integerFrom w) (Inside integerLimit (numbered (pos 0) (v .integers) n))
+  integer-operands n w k = whenever-more (integerFrom w) IntegerWithin (Inside integerLimit (numbered (pos 0) (v .integers) n)) (integer-from w k) (λ b i. record { left = R.numbered-each IntegerWithin (pos 0) (v .integers) n (omega arith) (h .integers .each); right = i })
 
-  pub decimal-operands : (n : ℕ) (w : Worth) → WorthWithin w → Whenever (decimalFrom w) (Inside decimalLimit (numbered (pos 0) (m .decimals) n))
-  decimal-operands n w k = whenever-more (decimalFrom w) DecimalWithin (Inside decimalLimit (numbered (pos 0) (m .decimals) n)) (decimal-from w k) (λ b i. record { left = R.numbered-each DecimalWithin (pos 0) (m .decimals) n (omega arith) (h .decimals); right = i })
+  pub decimal-operands : (n : ℕ) (w : Worth) → WorthWithin w → Whenever (decimalFrom w) (Inside decimalLimit (numbered (pos 0) (v .decimals) n))
+  decimal-operands n w k = whenever-more (decimalFrom w) DecimalWithin (Inside decimalLimit (numbered (pos 0) (v .decimals) n)) (decimal-from w k) (λ b i. record { left = R.numbered-each DecimalWithin (pos 0) (v .decimals) n (omega arith) (h .decimals .each); right = i })
 
+module _ (m : Machine) (h : MachineWithin m) where
   module _ (line : ℕ) where
     module _ (s : List ℕ) where
       -- $SETE to $SETD
-      pub set-within : (o : Operation) (t : Target) (a : Argument) → ArgumentWithin s a → Yields AnswerWithin (setMeaning m s line o t a) MachineWithin
+      pub set-within : (o : Operation) (t : Target) (a : Argument) → ArgumentWithin s a → Yields AnswerWithin (setMeaning m s line o t a) VariablesWithin
       unfolding setMeaning
       set-within o t a b =
-          yields-bind AnswerWithin (argumentMeaning m s line a) (λ w. concluded line (setOf m o t w)) WorthWithin MachineWithin (argument-within m line h s a b) (λ w k. yields-concluded line (setOf m o t w) MachineWithin (set-of o t w k))
+          yields-bind AnswerWithin (argumentMeaning m s line a) (λ w. concluded line (setOf (m .variables) o t w)) WorthWithin VariablesWithin (argument-within m line h s a b) (λ w k. yields-concluded line (setOf (m .variables) o t w) VariablesWithin (set-of (m .variables) (h .variables) o t w k))
 
       -- What SV takes of a parsed line's argument is taken whole.
       pub string-taken : (a : Argument) → ArgumentWithin s a → Yields AnswerWithin (argumentMeaning m s line a) (λ w. stringNew w ≡ stringFrom w)
@@ -224,15 +222,15 @@ module _ (m : Machine) (h : MachineWithin m) where
           yields-bind AnswerWithin (integerMeaning m s line a) (λ n. done (begun ts start next n)) IntegerWithin (λ x. Each Bounded (x .tables)) (integer-within a b) (λ n i. begun-bounded ts start next n i k)
 
     -- $REC and $TBL
-    pub records-within : (f : Fetch) → Yields AnswerWithin (recordsMeaning m line f) MachineWithin
+    pub records-within : (f : Fetch) → Yields AnswerWithin (recordsMeaning m line f) VariablesWithin
     unfolding recordsMeaning
     records-within f =
-        yields-bind AnswerWithin (fetchMeaning m line Records (f .parameter) (f .first) (f .second) (f .count)) (λ l. done (withRecords m (setNumbered (m .records) (f .number) l))) (Each AnswerWithin) MachineWithin (fetch-within m line Records (f .parameter) (f .first) (f .second) (f .count)) (λ l k. record { integers = h .integers; decimals = h .decimals; strings = h .strings; records = numbered-each (Each AnswerWithin) (m .records) (f .number) l k (h .records); entries = h .entries; counter = h .counter; page = h .page; row = h .row; integer-count = h .integer-count; decimal-count = h .decimal-count; string-count = h .string-count; record-count = numbered-length (m .records) (f .number) l ∙ h .record-count; entry-count = h .entry-count })
+        yields-bind AnswerWithin (fetchMeaning m line Records (f .parameter) (f .first) (f .second) (f .count)) (λ l. done (withRecords (m .variables) (setNumbered (m .variables .records) (f .number) l))) (Each AnswerWithin) VariablesWithin (fetch-within m line Records (f .parameter) (f .first) (f .second) (f .count)) (λ l k. record { integers = h .variables .integers; decimals = h .variables .decimals; strings = h .variables .strings; records = numbered-all (Each AnswerWithin) 10 (m .variables .records) (f .number) l k (h .variables .records); entries = h .variables .entries })
 
-    pub entries-within : (f : Fetch) → Yields AnswerWithin (entriesMeaning m line f) MachineWithin
+    pub entries-within : (f : Fetch) → Yields AnswerWithin (entriesMeaning m line f) VariablesWithin
     unfolding entriesMeaning
     entries-within f =
-        yields-bind AnswerWithin (fetchMeaning m line Entries (f .parameter) (f .first) (f .second) (f .count)) (λ l. done (withEntries m (setNumbered (m .entries) (f .number) l))) (Each AnswerWithin) MachineWithin (fetch-within m line Entries (f .parameter) (f .first) (f .second) (f .count)) (λ l k. record { integers = h .integers; decimals = h .decimals; strings = h .strings; records = h .records; entries = numbered-each (Each AnswerWithin) (m .entries) (f .number) l k (h .entries); counter = h .counter; page = h .page; row = h .row; integer-count = h .integer-count; decimal-count = h .decimal-count; string-count = h .string-count; record-count = h .record-count; entry-count = numbered-length (m .entries) (f .number) l ∙ h .entry-count })
+        yields-bind AnswerWithin (fetchMeaning m line Entries (f .parameter) (f .first) (f .second) (f .count)) (λ l. done (withEntries (m .variables) (setNumbered (m .variables .entries) (f .number) l))) (Each AnswerWithin) VariablesWithin (fetch-within m line Entries (f .parameter) (f .first) (f .second) (f .count)) (λ l k. record { integers = h .variables .integers; decimals = h .variables .decimals; strings = h .variables .strings; records = h .variables .records; entries = numbered-all (Each AnswerWithin) 10 (m .variables .entries) (f .number) l k (h .variables .entries) })
 
 -- $ET: counters stay within their limits, whatever k is.
 pub end-within : (m : Machine) (s : List ℕ) (line : ℕ) (ts : List Table) (o : Optional) → Each Bounded ts → Yields AnswerWithin (endMeaning m s line ts o) (λ x. Each Bounded (x .tables))

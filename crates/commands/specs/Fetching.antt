@@ -6,22 +6,22 @@ use Rattle.meaning.specs.Tree.{done, bind}
 use Rattle.meaning.specs.Meaning.{Meaning}
 use Rattle.lines.specs.declared.command.Fetch.{Fetch}
 use Rattle.questions.specs.declared.fetch.Along.the-variants.{Records, Entries}
-use Rattle.questions.specs.Machine.{Machine}
+use Rattle.questions.specs.Machine.{Variables, Machine}
 use Rattle.questions.specs.Fetching.{fetchMeaning}
 use Rattle.assignments.specs.Setting.{setNumbered}
 
-abbrev pub withRecords : Machine → List (List Answer) → Machine
-withRecords m l = record { integers = m .integers; decimals = m .decimals; strings = m .strings; counter = m .counter; records = l; entries = m .entries; datasource = m .datasource; page = m .page; row = m .row }
+abbrev pub withRecords : Variables → List (List Answer) → Variables
+withRecords v l = record { integers = v .integers; decimals = v .decimals; strings = v .strings; records = l; entries = v .entries }
 
-abbrev pub withEntries : Machine → List (List Answer) → Machine
-withEntries m l = record { integers = m .integers; decimals = m .decimals; strings = m .strings; counter = m .counter; records = m .records; entries = l; datasource = m .datasource; page = m .page; row = m .row }
+abbrev pub withEntries : Variables → List (List Answer) → Variables
+withEntries v l = record { integers = v .integers; decimals = v .decimals; strings = v .strings; records = v .records; entries = l }
 
 -- "`$REC n Pm record entry count` fills Rn from records record, record+1, …"
-unfoldable pub recordsMeaning : Machine → ℕ → Fetch → Meaning Machine
+unfoldable pub recordsMeaning : Machine → ℕ → Fetch → Meaning Variables
 recordsMeaning m line f =
-    bind (fetchMeaning m line Records (f .parameter) (f .first) (f .second) (f .count)) (λ l. done (withRecords m (setNumbered (m .records) (f .number) l)))
+    bind (fetchMeaning m line Records (f .parameter) (f .first) (f .second) (f .count)) (λ l. done (withRecords (m .variables) (setNumbered (m .variables .records) (f .number) l)))
 
 -- "`$TBL` the same for Tn from entries"
-unfoldable pub entriesMeaning : Machine → ℕ → Fetch → Meaning Machine
+unfoldable pub entriesMeaning : Machine → ℕ → Fetch → Meaning Variables
 entriesMeaning m line f =
-    bind (fetchMeaning m line Entries (f .parameter) (f .first) (f .second) (f .count)) (λ l. done (withEntries m (setNumbered (m .entries) (f .number) l)))
+    bind (fetchMeaning m line Entries (f .parameter) (f .first) (f .second) (f .count)) (λ l. done (withEntries (m .variables) (setNumbered (m .variables .entries) (f .number) l)))

@@ -34,7 +34,7 @@ use Rattle.lines.specs.declared.command.Optional.the-variants.{Given, Absent}
 use Rattle.lines.specs.declared.command.Comparison.{Comparison}
 use Rattle.lines.specs.declared.command.Comparison.the-variants.{SameString, SameLetters, Equal, Less}
 use Rattle.strings.specs.Letters.{upper, alike}
-use Rattle.questions.specs.Machine.{Machine, numbered}
+use Rattle.questions.specs.Machine.{Machine, numbered, Variables}
 use Rattle.questions.specs.Indexes.{indexNumber, limited, indexValue}
 use Rattle.questions.specs.Asking.{asks, cellMeaning}
 use Rattle.questions.specs.Fetching.{firstOf, elementQuestion, elementQuestions, countValue, asksElements, fetchMeaning}
@@ -52,12 +52,15 @@ use Rattle.commands.specs.Selecting.{datasourceFrom, datasourceMeaning}
 abbrev sample : Machine
 sample =
     record {
-      integers = negsuc 6 ∷ pos 1000 ∷ pos 2000000000 ∷ [];
-      decimals = pos 1 ∷ negsuc 999999 ∷ [];
-      strings = ascii "cs" ∷ [] ∷ [];
+      variables =
+          record {
+            integers = negsuc 6 ∷ pos 1000 ∷ pos 2000000000 ∷ [];
+            decimals = pos 1 ∷ negsuc 999999 ∷ [];
+            strings = ascii "cs" ∷ [] ∷ [];
+            records = [] ∷ [];
+            entries = [];
+          };
       counter = pos 0;
-      records = [] ∷ [];
-      entries = [];
       datasource = 1;
       page = 1;
       row = 1;
@@ -77,25 +80,25 @@ abbrev millionths : ℤ → Argument
 millionths z = plain (Number (Decimal z))
 
 -- how a command on line 7 ends, with some places on the read list
-abbrev sets : Operation → Target → Argument → End Refusal ℕ Machine
+abbrev sets : Operation → Target → Argument → End Refusal ℕ Variables
 sets o t a = run source 5 0 (setMeaning sample (ascii "") 7 o t a) .end
 
 -- the value that a variable has then, 0 where the run is over
-abbrev valueIn : (Machine → List ℤ) → ℕ → End Refusal ℕ Machine → ℤ
+abbrev valueIn : (Variables → List ℤ) → ℕ → End Refusal ℕ Variables → ℤ
 valueIn f n (finished m) = numbered (pos 0) (f m) n
 valueIn f n (halted c l) = pos 0
 
-abbrev integersOf : Machine → List ℤ
+abbrev integersOf : Variables → List ℤ
 integersOf m = m .integers
 
-abbrev decimalsOf : Machine → List ℤ
+abbrev decimalsOf : Variables → List ℤ
 decimalsOf m = m .decimals
 
 -- SVn then, of the line `"cs-137" "0123456789abcdefg"`
-abbrev words : Argument → ℕ → End Refusal ℕ Machine
+abbrev words : Argument → ℕ → End Refusal ℕ Variables
 words a n = run source 5 0 (setMeaning sample (ascii "\"cs-137\" \"0123456789abcdefg\"") 7 Assign (StringTarget n) a) .end
 
-abbrev wordIn : ℕ → End Refusal ℕ Machine → List ℕ
+abbrev wordIn : ℕ → End Refusal ℕ Variables → List ℕ
 wordIn n (finished m) = numbered [] (m .strings) n
 wordIn n (halted c l) = []
 
@@ -124,7 +127,7 @@ abbrev ends : Optional → End Refusal ℕ Looping
 ends k = run source 5 0 (endMeaning sample (ascii "") 7 (table 5 3 ∷ []) k) .end
 
 -- the run of `$REC 1 P9 record 0 count`, with two places on the read list
-abbrev fetches : Index → Index → Run Question Refusal ℕ Machine
+abbrev fetches : Index → Index → Run Question Refusal ℕ Variables
 fetches r n = run source 2 0 (recordsMeaning sample 7 (record { number = 1; parameter = 9; first = r; second = Fixed 0; count = n }))
 
 -- how $SETDS ends

@@ -17,4 +17,4 @@ datasourceFrom (negsuc n) = against BadIndex
 
 -- "`$SETDS n`": the datasource that is selected then
 unfoldable pub datasourceMeaning : Machine → ℕ → Index → Meaning ℕ
-datasourceMeaning m line i = concluded line (datasourceFrom (indexNumber (m .integers) (m .counter) i))
+datasourceMeaning m line i = concluded line (datasourceFrom (indexNumber (m .variables .integers) (m .counter) i))

@@ -2,7 +2,6 @@
 use mathlib.Core.Bool.{Bool, true, false, not, cond, _||_}
 use mathlib.Core.List.{List}
 use Prim.Native.Nat.{ℕ}
-use Rattle.meaning.specs.Tree.{bind}
 use Rattle.meaning.specs.Meaning.{Meaning}
 use Rattle.meaning.specs.declared.refusal.Refusal.the-variants.{MissingArgument}
 use Rattle.numbers.specs.declared.Quantity.{Quantity}
@@ -13,8 +12,7 @@ use Rattle.lines.specs.declared.command.Comparison.the-variants.{SameString, Sa
 use Rattle.strings.specs.Letters.{equalStrings}
 use Rattle.questions.specs.Machine.{Machine}
 use Rattle.values.specs.Worth.{Worth, missing, wrong, number, string}
-use Rattle.values.specs.Meanings.{argumentMeaning}
-use Rattle.coercions.specs.Settling.{Settled, settled, against, andThen, concluded, quantityFrom, stringFrom}
+use Rattle.coercions.specs.Settling.{Settled, settled, against, andThen, quantityFrom, stringFrom, fromOne, fromTwo}
 
 -- "one number, non-zero or zero": $IFNOT wants zero, $IF does not
 unfoldable pub zeroTest : Bool → Quantity → Bool
@@ -25,7 +23,7 @@ unfoldable pub zeroJudged : Bool → Worth → Settled Bool
 zeroJudged zero w = andThen (quantityFrom w) (λ q. settled (zeroTest zero q))
 
 unfoldable pub zeroMeaning : Machine → List ℕ → ℕ → Bool → Argument → Meaning Bool
-zeroMeaning m s line zero a = bind (argumentMeaning m s line a) (λ w. concluded line (zeroJudged zero w))
+zeroMeaning m s line zero a = fromOne m s line a (zeroJudged zero)
 
 -- 11 over both
 unfoldable pub ofNumbers : (Quantity → Quantity → Bool) → Worth → Worth → Settled Bool
@@ -56,7 +54,5 @@ unfoldable pub compared : Comparison → Worth → Worth → Settled Bool
 compared c v w =
     cond (isMissing v || isMissing w) (against MissingArgument) (judged c v w)
 
--- "arguments left to right, 8 then 9 each; then 10 to 14"
 unfoldable pub testMeaning : Machine → List ℕ → ℕ → Comparison → Argument → Argument → Meaning Bool
-testMeaning m s line c a b =
-    bind (argumentMeaning m s line a) (λ v. bind (argumentMeaning m s line b) (λ w. concluded line (compared c v w)))
+testMeaning m s line c a b = fromTwo m s line a b (compared c)

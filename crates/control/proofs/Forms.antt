@@ -20,7 +20,7 @@ use Rattle.assignments.specs.Setting.{setOf, setMeaning}
 use Rattle.conditions.specs.Testing.{zeroJudged, compared, zeroMeaning, testMeaning}
 use Rattle.tables.specs.Looping.{begun, counted, beginMeaning, endMeaning}
 use Rattle.tables.specs.inner.Open.{beginFrom, endFrom}
-use Rattle.control.specs.State.{State, seen, withMachine}
+use Rattle.control.specs.State.{State, seen, withVariables}
 use Rattle.control.specs.Line.{branched, tableBegun, tableEnded, breakingFor, newPageMeaning, formMeaning}
 use Rattle.control.specs.inner.Forms.{optionalInput, inputsOf, settling, newPageWith, formWith}
 
@@ -58,7 +58,7 @@ module _ (t : List ℕ) (start l : ℕ) (body : List ℕ) (s : State) where
   form-inputs form.NoForm = refl
   form-inputs form.Text = refl
   form-inputs (form.Section a e) = refl
-  form-inputs (form.Set o x a) = one a (setOf (seen s) o x) (withMachine s)
+  form-inputs (form.Set o x a) = one a (setOf (s .variables) o x) (withVariables s)
   form-inputs (form.IfZero a) = one a (zeroJudged true) (branched t s)
   form-inputs (form.IfNonZero a) = one a (zeroJudged false) (branched t s)
   form-inputs (form.Compare c a b) =
@@ -68,7 +68,7 @@ module _ (t : List ℕ) (start l : ℕ) (body : List ℕ) (s : State) where
   form-inputs form.Else = refl
   form-inputs form.EndIf = refl
   form-inputs (form.BeginTable a) =
-      ap (λ m. bind m (λ y. done (tableBegun t s y))) (integer-then a (λ z. settled (begun (s .tables) (s .at) (s .line) z))) ∙ one a (beginFrom (s .tables) (s .at) (s .line)) (tableBegun t s)
+      ap (λ m. bind m (λ y. done (tableBegun t s y))) (integer-then a (λ z. settled (begun (s .tables) (s .due .at) (s .due .line) z))) ∙ one a (beginFrom (s .tables) (s .due .at) (s .due .line)) (tableBegun t s)
   form-inputs (form.EndTable k) = end-inputs k
   form-inputs (form.Records f) = refl
   form-inputs (form.Entries f) = refl

@@ -16,7 +16,7 @@ use Rattle.shapes.specs.declared.seek.Sought.the-variants.{Branch, TestEnd, Tab
 use Rattle.shapes.specs.Seek.{skipped}
 use Rattle.meaning.specs.Tree.{done, bind}
 use Rattle.meaning.specs.Meaning.{Meaning}
-use Rattle.questions.specs.Machine.{Machine}
+use Rattle.questions.specs.Machine.{Variables}
 use Rattle.coercions.specs.Settling.{integerMeaning}
 use Rattle.assignments.specs.Setting.{setNumbered, setMeaning}
 use Rattle.conditions.specs.Testing.{zeroMeaning, testMeaning}
@@ -26,21 +26,21 @@ use Rattle.commands.specs.Selecting.{datasourceMeaning}
 use Rattle.pages.specs.declared.heading.Heading.{Heading}
 use Rattle.pages.specs.Heading.{noHeading}
 use Rattle.pages.specs.Page.{breakMeaning, lineStep}
-use Rattle.control.specs.State.{State, seen, withPlace, withMachine, withDatasource, withTables, withHeadings, withFeeds, withPage, cleared}
+use Rattle.control.specs.State.{State, seen, withPlace, withVariables, withDatasource, withTables, withLayout, withPage, cleared}
 
 -- behind a line of n bytes
 abbrev pub past : State → ℕ → State
-past s n = withPlace s (s .at + n + 1) (s .line + 1)
+past s n = withPlace s (s .due .at + n + 1) (s .due .line + 1)
 
 -- behind the line that matches
 abbrev pub jumped : List ℕ → State → Sought → State
-jumped t s q = withPlace s (s .at + skipped (drop (s .at) t) q .bytes) (s .line + skipped (drop (s .at) t) q .lines)
+jumped t s q = withPlace s (s .due .at + skipped (drop (s .due .at) t) q .bytes) (s .due .line + skipped (drop (s .due .at) t) q .lines)
 
 -- ---- each is a line with its number l and its bytes, and s is the state behind it
 
 -- IV, FV, SV, R and T as the command leaves them
-abbrev pub setting : State → Meaning Machine → Meaning State
-setting s t = bind t (λ m. done (withMachine s m))
+abbrev pub setting : State → Meaning Variables → Meaning State
+setting s t = bind t (λ v. done (withVariables s v))
 
 -- "A failed one continues at the line after its matching `$ELSE`, or `$ENDIF` if there is none"
 unfoldable pub branched : List ℕ → State → Bool → State
@@ -61,7 +61,7 @@ tableEnded s x =
 
 -- "$NP breaks always"
 unfoldable pub breaking : ℕ → State → Meaning State
-breaking l s = bind (breakMeaning l (s .feeds) (s .page)) (λ p. done (withPage s p))
+breaking l s = bind (breakMeaning l (s .layout .feeds) (s .page)) (λ p. done (withPage s p))
 
 -- "`$NP n` if 61 − LINENUM is below n"
 unfoldable pub breakingFor : ℕ → State → ℤ → Meaning State
@@ -73,13 +73,13 @@ newPageMeaning l body s (Given a) = bind (integerMeaning (seen s) body l a) (bre
 
 -- "`$PHn text`": worked out when it is printed, so the line is kept
 abbrev pub headed : State → ℕ → Heading → State
-headed s n h = withHeadings s (setNumbered (s .headings) n h)
+headed s n h = withLayout s (setNumbered (s .layout .headings) n h) (s .layout .feeds)
 
 -- ---- the line that starts at a place of the template
 
 unfoldable pub formMeaning : List ℕ → ℕ → ℕ → List ℕ → State → Line → Meaning State
 formMeaning t start l body s form.Text =
-    bind (lineStep (seen s) t l (s .feeds) (s .headings) body (s .page)) (λ p. done (withPage s p))
+    bind (lineStep (seen s) t l (s .layout .feeds) (s .layout .headings) body (s .page)) (λ p. done (withPage s p))
 formMeaning t start l body s (form.Section a e) = done (cleared s)
 formMeaning t start l body s (form.Set o v a) = setting s (setMeaning (seen s) body l o v a)
 formMeaning t start l body s (form.IfZero a) = testing t s (zeroMeaning (seen s) body l true a)
@@ -89,13 +89,13 @@ formMeaning t start l body s (form.Compare c a b) = testing t s (testMeaning (se
 formMeaning t start l body s form.Else = done (jumped t s TestEnd)
 formMeaning t start l body s form.EndIf = done s
 formMeaning t start l body s (form.BeginTable a) =
-    bind (beginMeaning (seen s) body l (s .tables) (s .at) (s .line) a) (λ x. done (tableBegun t s x))
+    bind (beginMeaning (seen s) body l (s .tables) (s .due .at) (s .due .line) a) (λ x. done (tableBegun t s x))
 formMeaning t start l body s (form.EndTable k) = bind (endMeaning (seen s) body l (s .tables) k) (λ x. done (tableEnded s x))
 formMeaning t start l body s (form.Records f) = setting s (recordsMeaning (seen s) l f)
 formMeaning t start l body s (form.Entries f) = setting s (entriesMeaning (seen s) l f)
 formMeaning t start l body s (form.Datasource i) = bind (datasourceMeaning (seen s) l i) (λ d. done (withDatasource s d))
 -- "under $NOFF"
-formMeaning t start l body s form.NoFormFeed = done (withFeeds s false)
+formMeaning t start l body s form.NoFormFeed = done (withLayout s (s .layout .headings) false)
 formMeaning t start l body s (form.NewPage n) = newPageMeaning l body s n
 formMeaning t start l body s (form.Heading n from) =
     done (headed s n (record { start = start; length = length body; from = from; number = l }))
@@ -109,4 +109,4 @@ formMeaning t start l body s form.NoForm = done s
 -- the line that is due
 unfoldable pub lineMeaning : List ℕ → State → Meaning State
 lineMeaning t s =
-    formMeaning t (s .at) (s .line) (lineAt t (s .at)) (past s (length (lineAt t (s .at)))) (parseLine (lineAt t (s .at)))
+    formMeaning t (s .due .at) (s .due .line) (lineAt t (s .due .at)) (past s (length (lineAt t (s .due .at)))) (parseLine (lineAt t (s .due .at)))

@@ -2,34 +2,36 @@
 use mathlib.Core.Bool.{Bool, true}
 use mathlib.Core.List.{List, []}
 use Prim.Native.Nat.{ℕ}
-use lib.IntN.{ℤ, pos}
+use lib.IntN.{pos}
 use lib.ListN.{replicate}
-use Rattle.meaning.specs.Answer.{Answer}
-use Rattle.questions.specs.Machine.{Machine}
+use Rattle.questions.specs.Machine.{Variables, Machine}
 use Rattle.tables.specs.declared.table.Table.{Table}
 use Rattle.tables.specs.Looping.{loop}
 use Rattle.pages.specs.declared.page.Page.{Page}
 use Rattle.pages.specs.declared.heading.Heading.{Heading}
 use Rattle.pages.specs.Heading.{noHeading}
 
-pub record State : Type 0 where
-  -- the line due, by its place in the template and its number
+-- the line due, by its place in the template and its number
+pub record Due : Type 0 where
   pub at : ℕ
   pub line : ℕ
-  -- IV, FV and SV; what $REC and $TBL were answered
-  pub integers : List ℤ
-  pub decimals : List ℤ
-  pub strings : List (List ℕ)
-  pub records : List (List Answer)
-  pub entries : List (List Answer)
-  -- "the selected datasource"
-  pub datasource : ℕ
-  -- the open tables, the innermost first
-  pub tables : List Table
+
+-- what the pages of a section look like
+pub record Layout : Type 0 where
   -- $PH1 to $PH9
   pub headings : List Heading
   -- whether a break writes a form feed: not under $NOFF
   pub feeds : Bool
+
+pub record State : Type 0 where
+  pub due : Due
+  -- IV, FV and SV; what $REC and $TBL were answered
+  pub variables : Variables
+  -- "the selected datasource"
+  pub datasource : ℕ
+  -- the open tables, the innermost first
+  pub tables : List Table
+  pub layout : Layout
   -- PAGENUM and LINENUM
   pub page : Page
 
@@ -37,39 +39,50 @@ pub record State : Type 0 where
 abbrev pub seen : State → Machine
 seen s =
     record {
-      integers = s .integers;
-      decimals = s .decimals;
-      strings = s .strings;
+      variables = s .variables;
       counter = pos (loop (s .tables));
-      records = s .records;
-      entries = s .entries;
       datasource = s .datasource;
       page = s .page .number;
       row = s .page .line;
     }
 
-abbrev pub withPlace : State → ℕ → ℕ → State
-withPlace s at line = record { at = at; line = line; integers = s .integers; decimals = s .decimals; strings = s .strings; records = s .records; entries = s .entries; datasource = s .datasource; tables = s .tables; headings = s .headings; feeds = s .feeds; page = s .page }
+-- ---- a state with one part of it anew
 
--- IV, FV, SV, R and T as a command left them
-abbrev pub withMachine : State → Machine → State
-withMachine s m = record { at = s .at; line = s .line; integers = m .integers; decimals = m .decimals; strings = m .strings; records = m .records; entries = m .entries; datasource = s .datasource; tables = s .tables; headings = s .headings; feeds = s .feeds; page = s .page }
+abbrev pub withPlace : State → ℕ → ℕ → State
+withPlace s at line = record { due = record { at = at; line = line }; variables = s .variables; datasource = s .datasource; tables = s .tables; layout = s .layout; page = s .page }
+
+abbrev pub withVariables : State → Variables → State
+withVariables s v = record { due = s .due; variables = v; datasource = s .datasource; tables = s .tables; layout = s .layout; page = s .page }
 
 abbrev pub withDatasource : State → ℕ → State
-withDatasource s d = record { at = s .at; line = s .line; integers = s .integers; decimals = s .decimals; strings = s .strings; records = s .records; entries = s .entries; datasource = d; tables = s .tables; headings = s .headings; feeds = s .feeds; page = s .page }
+withDatasource s d = record { due = s .due; variables = s .variables; datasource = d; tables = s .tables; layout = s .layout; page = s .page }
 
 abbrev pub withTables : State → List Table → State
-withTables s ts = record { at = s .at; line = s .line; integers = s .integers; decimals = s .decimals; strings = s .strings; records = s .records; entries = s .entries; datasource = s .datasource; tables = ts; headings = s .headings; feeds = s .feeds; page = s .page }
+withTables s ts = record { due = s .due; variables = s .variables; datasource = s .datasource; tables = ts; layout = s .layout; page = s .page }
 
-abbrev pub withHeadings : State → List Heading → State
-withHeadings s hs = record { at = s .at; line = s .line; integers = s .integers; decimals = s .decimals; strings = s .strings; records = s .records; entries = s .entries; datasource = s .datasource; tables = s .tables; headings = hs; feeds = s .feeds; page = s .page }
-
-abbrev pub withFeeds : State → Bool → State
-withFeeds s f = record { at = s .at; line = s .line; integers = s .integers; decimals = s .decimals; strings = s .strings; records = s .records; entries = s .entries; datasource = s .datasource; tables = s .tables; headings = s .headings; feeds = f; page = s .page }
+abbrev pub withLayout : State → List Heading → Bool → State
+withLayout s hs f = record { due = s .due; variables = s .variables; datasource = s .datasource; tables = s .tables; layout = record { headings = hs; feeds = f }; page = s .page }
 
 abbrev pub withPage : State → Page → State
-withPage s p = record { at = s .at; line = s .line; integers = s .integers; decimals = s .decimals; strings = s .strings; records = s .records; entries = s .entries; datasource = s .datasource; tables = s .tables; headings = s .headings; feeds = s .feeds; page = p }
+withPage s p = record { due = s .due; variables = s .variables; datasource = s .datasource; tables = s .tables; layout = s .layout; page = p }
+
+-- ---- what a section starts with
+
+-- "IV and FV to 0, SV to empty", R and T cleared
+abbrev pub noVariables : Variables
+noVariables =
+    record {
+      integers = replicate 99 (pos 0);
+      decimals = replicate 99 (pos 0);
+      strings = replicate 99 [];
+      records = replicate 10 [];
+      entries = replicate 10 [];
+    }
+
+-- no headings, not under $NOFF
+abbrev pub noLayout : Layout
+noLayout = record { headings = replicate 9 noHeading; feeds = true }
 
 -- "Each executed $SEC sets IV and FV to 0, SV to empty, clears R, T and headings, ends $NOFF. Page and datasource go on."
 abbrev pub cleared : State → State
-cleared s = record { at = s .at; line = s .line; integers = replicate 99 (pos 0); decimals = replicate 99 (pos 0); strings = replicate 99 []; records = replicate 10 []; entries = replicate 10 []; datasource = s .datasource; tables = s .tables; headings = replicate 9 noHeading; feeds = true; page = s .page }
+cleared s = record { due = s .due; variables = noVariables; datasource = s .datasource; tables = s .tables; layout = noLayout; page = s .page }

@@ -33,7 +33,7 @@ use Rattle.questions.specs.declared.fetch.Along.the-variants.{Records, Entries}
 use Rattle.questions.specs.Indexes.{indexNumber}
 use Rattle.questions.specs.inner.Word.{questions}
 use Rattle.questions.specs.inner.Fetch.{Fetchable}
-use Rattle.questions.specs.inner.State.{texts, fetched, bank, integersIn, decimalsIn, lengthsIn, recordsIn, entriesIn, headingsIn, tablesIn, Held, held, machine}
+use Rattle.questions.specs.inner.State.{texts, fetched, bank, integersIn, decimalsIn, lengthsIn, recordsIn, entriesIn, headingsIn, tablesIn, Held, held, machine, variablesOf}
 use Rattle.values.specs.declared.worth.Worth as W
 use Rattle.values.specs.Worth.{Worth}
 use Rattle.values.specs.inner.Yielding.{meant}
@@ -66,11 +66,11 @@ use Rattle.pages.specs.inner.Paging.{AllFit, headFields, TurnReady, StepReady, 
 use Rattle.pages.proofs.Turning.{highest-most}
 use Rattle.control.specs.declared.state.Flow.{Flow}
 use Rattle.control.specs.declared.state.Lined.{Lined}
-use Rattle.control.specs.State.{State, seen, withMachine, withDatasource, withTables, withPage, cleared}
+use Rattle.control.specs.State.{State, seen, withVariables, withDatasource, withTables, withPage, cleared}
 use Rattle.control.specs.Line.{jumped, branched, tableBegun, tableEnded, breaking, breakingFor, headed, formMeaning}
 use Rattle.control.specs.inner.Sound.{Fit}
 use Rattle.control.specs.inner.Going.{endedIn, datasourceIn, depthIn, feedsIn, pageIn, jumpedIn, againIn}
-use Rattle.control.specs.inner.Executing.{sourceOf, stateAt, machineIn, SameRows, Executes, FormReady}
+use Rattle.control.specs.inner.Executing.{sourceOf, stateAt, machineIn, Executes, FormReady}
 use Rattle.control.specs.inner.Arms.{Jumpable, Follows, settledIn, branchedIn, begunIn, overIn, Clears, Heads, BreaksLine, PagesLine}
 use Rattle.control.specs.inner.Forms.{newPageWith, formWith}
 use Rattle.control.proofs.Commanding.{command, went-executes, concludes-executes, settles-executes}
@@ -110,15 +110,12 @@ page-given k w l f T u a T′ r x t e d p = record { always = λ q. absurd (let 
 
 -- ---- the calls of `execute`
 
-module _ {body b index t : List ℕ} (numbers : List ℤ) (rows : List (List ℕ)) (words : List ℕ) {scene : Scene} {start : ℕ} {f : Flow} {line : Line} {T : List ℕ} {u a : ℕ} (k : FormReady body b index t (held numbers rows words) scene start f line T u a) where
-  abbrev h : Held
-  h = held numbers rows words
-
+module _ {body b index t : List ℕ} {h : Held} {scene : Scene} {start : ℕ} {f : Flow} {line : Line} {T : List ℕ} {u a : ℕ} (k : FormReady body b index t h scene start f line T u a) where
   abbrev s : State
   s = stateAt b h f
 
   abbrev S : Strings
-  S = strings body b rows
+  S = strings body b (h .rows)
 
   seen-same : machineIn b h scene ≡ seen s
   seen-same = ap (machineIn b h) (k .scened)
@@ -132,10 +129,10 @@ module _ {body b index t : List ℕ} (numbers : List ℤ) (rows : List (List ℕ
   pub jumpable : Jumpable t f
   jumpable = record { short = omega (arith, k .template); few = omega (arith, k .few) }
 
-  pub section-ready : (198 ≤ length numbers) × (128 ≤ length words)
-  section-ready = (bank-full numbers 99 99 (k .decimals) (omega arith), bank-full words 119 9 (k .headings) (omega arith))
+  pub section-ready : (198 ≤ length (h .numbers)) × (128 ≤ length (h .words))
+  section-ready = (bank-full (h .numbers) 99 99 (k .decimals) (omega arith), bank-full (h .words) 119 9 (k .headings) (omega arith))
 
-  pub set-ready : Rowed rows
+  pub set-ready : Rowed (h .rows)
   set-ready = record { rows-held = k .rows }
 
   fetchable : (n : ℕ) → n ≤ 65535 → Fetchable (scene .datasource) n a
@@ -150,22 +147,22 @@ module _ {body b index t : List ℕ} (numbers : List ℤ) (rows : List (List ℕ
   pub heading-small : (n from : ℕ) → line ≡ form.Heading n from → Small (record { start = start; length = length body; from = from; number = scene .number })
   heading-small n from e = record { start = omega (arith, k .placed); length = omega (arith, k .short); from = omega (arith, sound (form.Heading n from) e .1, k .short); number = omega (arith, k .numbered .1) }
 
-  tables-row : 148 ≤ length words
-  tables-row = bank-full words 128 20 (k .table-words) (omega arith)
+  tables-row : 148 ≤ length (h .words)
+  tables-row = bank-full (h .words) 128 20 (k .table-words) (omega arith)
 
-  pub begin-ready : (x : Argument) → line ≡ form.BeginTable x → AtMostOpen 4 words (f .depth)
+  pub begin-ready : (x : Argument) → line ≡ form.BeginTable x → AtMostOpen 4 (h .words) (f .depth)
   begin-ready x e = record { few = k .room-for-table x e; row = tables-row }
 
-  pub end-ready : AtMostOpen 5 words (f .depth)
+  pub end-ready : AtMostOpen 5 (h .words) (f .depth)
   end-ready = record { few = k .tables; row = tables-row }
 
   pub turn-ready : TurnReady (f .page) T u
   turn-ready = record { room = k .room; number = omega (arith, k .page); row = k .row }
 
   abbrev hs : List Heading
-  hs = headingsOf (headingsIn words)
+  hs = headingsOf (headingsIn (h .words))
 
-  pub step-ready : line ≡ form.Text → StepReady (lent b index numbers rows words) scene t hs body (f .page) a T u
+  pub step-ready : line ≡ form.Text → StepReady (lent b index (h .numbers) (h .rows) (h .words)) scene t hs body (f .page) a T u
   step-ready e = record {
     heads = all-fit t hs (highestOf hs 9) (k .heads);
     fits = sound form.Text e;
@@ -191,41 +188,41 @@ module _ {body b index t : List ℕ} (numbers : List ℤ) (rows : List (List ℕ
   branch-page false = refl
 
   -- the tables as a command left them
-  tables-same : (ws : List ℕ) (g : Flow) → Stays words ws → stateAt b (held numbers rows ws) g ≡ withTables (stateAt b h g) (openOf ws (g .depth))
+  tables-same : (ws : List ℕ) (g : Flow) → Stays (h .words) ws → stateAt b (held (h .numbers) (h .rows) ws) g ≡ withTables (stateAt b h g) (openOf ws (g .depth))
   tables-same ws g d =
-      let l : lengthsIn ws ≡ lengthsIn words = d .others 0 99 (omega arith) in
-      let m : recordsIn ws ≡ recordsIn words = d .others 99 10 (omega arith) in
-      let o : entriesIn ws ≡ entriesIn words = d .others 109 10 (omega arith) in
-      let q : headingsIn ws ≡ headingsIn words = d .others 119 9 (omega arith) in
-      λ z. record { at = g .at; line = g .line; integers = integersIn numbers; decimals = decimalsIn numbers; strings = texts rows 0 (l z); records = map (fetched (sourceOf b) Records) (m z); entries = map (fetched (sourceOf b) Entries) (o z); datasource = g .datasource; tables = openOf ws (g .depth); headings = headingsOf (q z); feeds = g .feeds; page = g .page }
+      let l : lengthsIn ws ≡ lengthsIn (h .words) = d .others 0 99 (omega arith) in
+      let m : recordsIn ws ≡ recordsIn (h .words) = d .others 99 10 (omega arith) in
+      let o : entriesIn ws ≡ entriesIn (h .words) = d .others 109 10 (omega arith) in
+      let q : headingsIn ws ≡ headingsIn (h .words) = d .others 119 9 (omega arith) in
+      λ z. record { due = record { at = g .at; line = g .line }; variables = record { integers = integersIn (h .numbers); decimals = decimalsIn (h .numbers); strings = texts (h .rows) 0 (l z); records = map (fetched (sourceOf b) Records) (m z); entries = map (fetched (sourceOf b) Entries) (o z) }; datasource = g .datasource; tables = openOf ws (g .depth); layout = record { headings = headingsOf (q z); feeds = g .feeds }; page = g .page }
 
-  begun-same : (ws : List ℕ) (x : Looped) → Stays words ws → openOf ws (f .depth) ≡ openOf words (f .depth) → stateAt b (held numbers rows ws) (begunIn t f x) ≡ tableBegun t s (loopingOf ws x)
+  begun-same : (ws : List ℕ) (x : Looped) → Stays (h .words) ws → openOf ws (f .depth) ≡ openOf (h .words) (f .depth) → stateAt b (held (h .numbers) (h .rows) ws) (begunIn t f x) ≡ tableBegun t s (loopingOf ws x)
   unfolding tableBegun
   begun-same ws x d e = go (x .jumps) refl
     where
-      go : (q : Bool) → x .jumps ≡ q → stateAt b (held numbers rows ws) (begunIn t f x) ≡ tableBegun t s (loopingOf ws x)
+      go : (q : Bool) → x .jumps ≡ q → stateAt b (held (h .numbers) (h .rows) ws) (begunIn t f x) ≡ tableBegun t s (loopingOf ws x)
       go true q = rw q (tables-same ws (jumpedIn t f TableEnd) d ∙ ap (withTables (stateAt b h (jumpedIn t f TableEnd))) e)
       go false q = rw q (tables-same ws (depthIn f (x .depth)) d)
 
-  ended-same : (ws : List ℕ) (x : Looped) → Stays words ws → stateAt b (held numbers rows ws) (overIn (tablesIn ws) f x) ≡ tableEnded s (loopingOf ws x)
+  ended-same : (ws : List ℕ) (x : Looped) → Stays (h .words) ws → stateAt b (held (h .numbers) (h .rows) ws) (overIn (tablesIn ws) f x) ≡ tableEnded s (loopingOf ws x)
   unfolding tableEnded
   ended-same ws x d = go (x .jumps) refl
     where
-      go : (q : Bool) → x .jumps ≡ q → stateAt b (held numbers rows ws) (overIn (tablesIn ws) f x) ≡ tableEnded s (loopingOf ws x)
+      go : (q : Bool) → x .jumps ≡ q → stateAt b (held (h .numbers) (h .rows) ws) (overIn (tablesIn ws) f x) ≡ tableEnded s (loopingOf ws x)
       go true q = rw q (tables-same ws (againIn (tablesIn ws) (depthIn f (x .depth))) d)
       go false q = rw q (tables-same ws (depthIn f (x .depth)) d)
 
-  heads-same : (ws : List ℕ) (n : ℕ) (x : Heading) (r : Lined) → Heads words n x f u a ws r → stateAt b (held numbers rows ws) f ≡ headed s n x
+  heads-same : (ws : List ℕ) (n : ℕ) (x : Heading) (r : Lined) → Heads (h .words) n x f u a ws r → stateAt b (held (h .numbers) (h .rows) ws) f ≡ headed s n x
   heads-same ws n x r d =
-      let y : tablesIn ws ≡ tablesIn words = d .tables in
-      let l : lengthsIn ws ≡ lengthsIn words = d .others 0 99 (omega arith) in
-      let m : recordsIn ws ≡ recordsIn words = d .others 99 10 (omega arith) in
-      let o : entriesIn ws ≡ entriesIn words = d .others 109 10 (omega arith) in
-      λ z. record { at = f .at; line = f .line; integers = integersIn numbers; decimals = decimalsIn numbers; strings = texts rows 0 (l z); records = map (fetched (sourceOf b) Records) (m z); entries = map (fetched (sourceOf b) Entries) (o z); datasource = f .datasource; tables = opened (y z) (f .depth); headings = d .set z; feeds = f .feeds; page = f .page }
+      let y : tablesIn ws ≡ tablesIn (h .words) = d .tables in
+      let l : lengthsIn ws ≡ lengthsIn (h .words) = d .others 0 99 (omega arith) in
+      let m : recordsIn ws ≡ recordsIn (h .words) = d .others 99 10 (omega arith) in
+      let o : entriesIn ws ≡ entriesIn (h .words) = d .others 109 10 (omega arith) in
+      λ z. record { due = record { at = f .at; line = f .line }; variables = record { integers = integersIn (h .numbers); decimals = decimalsIn (h .numbers); strings = texts (h .rows) 0 (l z); records = map (fetched (sourceOf b) Records) (m z); entries = map (fetched (sourceOf b) Entries) (o z) }; datasource = f .datasource; tables = opened (y z) (f .depth); layout = record { headings = d .set z; feeds = f .feeds }; page = f .page }
 
-  -- R, T and the variables as a command left them, with the headings as they were
-  machine-same : (h′ : Held) → h′ .headings ≡ h .headings → h′ .tables ≡ h .tables → stateAt b h′ f ≡ withMachine s (machineIn b h′ scene)
-  machine-same h′ e y = λ z. record { at = f .at; line = f .line; integers = h′ .integers; decimals = h′ .decimals; strings = texts (h′ .rows) 0 (h′ .lengths); records = map (fetched (sourceOf b) Records) (h′ .records); entries = map (fetched (sourceOf b) Entries) (h′ .entries); datasource = f .datasource; tables = opened (y z) (f .depth); headings = headingsOf (e z); feeds = f .feeds; page = f .page }
+  -- R, T and the variables as a command left them, with the headings and tables as they were
+  variables-same : (h′ : Held) → headingsIn (h′ .words) ≡ headingsIn (h .words) → tablesIn (h′ .words) ≡ tablesIn (h .words) → stateAt b h′ f ≡ withVariables s (variablesOf (sourceOf b) h′)
+  variables-same h′ e y = λ z. record { due = record { at = f .at; line = f .line }; variables = variablesOf (sourceOf b) h′; datasource = f .datasource; tables = opened (y z) (f .depth); layout = record { headings = headingsOf (e z); feeds = f .feeds }; page = f .page }
 
   module _ (log : List ℕ) (p : ℕ) (v : Worths) where
     abbrev With : List ℕ → List ℕ → Held → Lined → Type 0
@@ -242,16 +239,16 @@ module _ {body b index t : List ℕ} (numbers : List ℤ) (rows : List (List ℕ
     unfolding formWith formMeaning
     no-form-feed-line r g e q i = rw e (went-executes b h h f (feedsIn f false) T u log a p r (stateAt b h (feedsIn f false)) (i ∙ ap (λ (x : Flow). endedIn Finished x u a) q) refl refl (refl, refl))
 
-    selects-is : (y : Index) → datasourceMeaning (machineIn b h scene) (scene .number) y ≡ concluded (scene .number) (datasourceFrom (indexNumber (integersIn numbers) (scene .turn) y))
+    selects-is : (y : Index) → datasourceMeaning (machineIn b h scene) (scene .number) y ≡ concluded (scene .number) (datasourceFrom (indexNumber (integersIn (h .numbers)) (scene .turn) y))
     unfolding datasourceMeaning
     selects-is y = refl
 
-    pub datasource-line : (r : Lined) (x : Selected) (y : Index) → line ≡ form.Datasource y → Selects numbers scene y x → Follows (x .end) f (datasourceIn f (x .datasource)) u a r → With T log h r
+    pub datasource-line : (r : Lined) (x : Selected) (y : Index) → line ≡ form.Datasource y → Selects (h .numbers) scene y x → Follows (x .end) f (datasourceIn f (x .datasource)) u a r → With T log h r
     unfolding formWith formMeaning
     datasource-line r x y e d w =
-        rw (e, ← seen-same, selects-is y) (concludes-executes b h h f T u log a p r (refl, refl) (datasourceFrom (indexNumber (integersIn numbers) (scene .turn) y)) (scene .number) (x .datasource) (x .end) (datasourceIn f (x .datasource)) (withDatasource s) (d .concludes) w refl)
+        rw (e, ← seen-same, selects-is y) (concludes-executes b h h f T u log a p r (refl, refl) (datasourceFrom (indexNumber (integersIn (h .numbers)) (scene .turn) y)) (scene .number) (x .datasource) (x .end) (datasourceIn f (x .datasource)) (withDatasource s) (d .concludes) w refl)
 
-    pub text-line : (T′ log′ : List ℕ) (r : Lined) (x : Paged) → line ≡ form.Text → Steps (lent b index numbers rows words) scene t hs (f .feeds) body (f .page) T u log a p T′ log′ x → r ≡ endedIn (x .end) (pageIn f (x .page)) (x .printed) (x .asked) → With T′ log′ h r
+    pub text-line : (T′ log′ : List ℕ) (r : Lined) (x : Paged) → line ≡ form.Text → Steps (lent b index (h .numbers) (h .rows) (h .words)) scene t hs (f .feeds) body (f .page) T u log a p T′ log′ x → r ≡ endedIn (x .end) (pageIn f (x .page)) (x .printed) (x .asked) → With T′ log′ h r
     unfolding formWith formMeaning
     text-line T′ log′ r x e d i = rw (e, ← seen-same, i) (record { does = go (x .end) refl; few = omega (arith, d .few, few-fields t hs (highestOf hs 9) (k .heads), highest-most hs 9, fields-few body 0 (k .short)); rows = (refl, refl) })
       where
@@ -262,45 +259,45 @@ module _ {body b index t : List ℕ} (numbers : List ℤ) (rows : List (List ℕ
         go Finished q = rw q (then-does (λ y. done (withPage s y)) (rw q at did) (does-done (sourceOf b) (at T′ (x .printed) (questions log′) (x .asked) p (x .page .number)) (withPage s (x .page))))
         go (Halted c l) q = rw q (then-over (λ y. done (withPage s y)) (rw q at did))
 
-    pub heading-line : (ws : List ℕ) (r : Lined) (n from : ℕ) → line ≡ form.Heading n from → Heads words n (record { start = start; length = length body; from = from; number = scene .number }) f u a ws r → With T log (held numbers rows ws) r
+    pub heading-line : (ws : List ℕ) (r : Lined) (n from : ℕ) → line ≡ form.Heading n from → Heads (h .words) n (record { start = start; length = length body; from = from; number = scene .number }) f u a ws r → With T log (held (h .numbers) (h .rows) ws) r
     unfolding formWith formMeaning
-    heading-line ws r n from e x = rw e (went-executes b h (held numbers rows ws) f f T u log a p r (headed s n (record { start = start; length = length body; from = from; number = scene .number })) (x .went) refl (heads-same ws n _ r x) (refl, ap length (x .tables)))
+    heading-line ws r n from e x = rw e (went-executes b h (held (h .numbers) (h .rows) ws) f f T u log a p r (headed s n (record { start = start; length = length body; from = from; number = scene .number })) (x .went) refl (heads-same ws n _ r x) (refl, ap length (x .tables)))
 
-    pub no-heading-line : (ws : List ℕ) (r : Lined) (n : ℕ) → line ≡ form.NoHeading n → Heads words n noHeading f u a ws r → With T log (held numbers rows ws) r
+    pub no-heading-line : (ws : List ℕ) (r : Lined) (n : ℕ) → line ≡ form.NoHeading n → Heads (h .words) n noHeading f u a ws r → With T log (held (h .numbers) (h .rows) ws) r
     unfolding formWith formMeaning
-    no-heading-line ws r n e x = rw e (went-executes b h (held numbers rows ws) f f T u log a p r (headed s n noHeading) (x .went) refl (heads-same ws n _ r x) (refl, ap length (x .tables)))
+    no-heading-line ws r n e x = rw e (went-executes b h (held (h .numbers) (h .rows) ws) f f T u log a p r (headed s n noHeading) (x .went) refl (heads-same ws n _ r x) (refl, ap length (x .tables)))
 
-    pub records-line : (ws log′ : List ℕ) (r : Lined) (x : Done) (y : Fetch) → line ≡ form.Records y → TakesRecords numbers words scene y log a p ws log′ x → r ≡ endedIn (x .end) f u (x .asked) → With T log′ (held numbers rows ws) r
+    pub records-line : (ws log′ : List ℕ) (r : Lined) (x : Done) (y : Fetch) → line ≡ form.Records y → TakesRecords (h .numbers) (h .words) scene y log a p ws log′ x → r ≡ endedIn (x .end) f u (x .asked) → With T log′ (held (h .numbers) (h .rows) ws) r
     unfolding formWith formMeaning
     records-line ws log′ r x y e d i =
-        rw (e, ← seen-same) (command (k .kept) h (held numbers rows ws) f f T u log a p log′ r (refl, ap length (d .takes .tables)) (λ source. recordsMeaning (machine source h scene) (scene .number) y) (λ source. machine source (held numbers rows ws) scene) (withMachine s) 64 (x .asked) (x .end) (d .takes .runs b index rows) (omega arith) (rw i (record { end-same = refl; printed = refl; asked = refl; page = refl; goes = λ _. refl })) (machine-same (held numbers rows ws) (d .takes .headings) (d .takes .tables)))
+        rw (e, ← seen-same) (command (k .kept) h (held (h .numbers) (h .rows) ws) f f T u log a p log′ r (refl, ap length (d .takes .tables)) (λ source. recordsMeaning (machine source h scene) (scene .number) y) (λ source. variablesOf source (held (h .numbers) (h .rows) ws)) (withVariables s) 64 (x .asked) (x .end) (d .takes .runs b index (h .rows)) (omega arith) (rw i (record { end-same = refl; printed = refl; asked = refl; page = refl; goes = λ _. refl })) (variables-same (held (h .numbers) (h .rows) ws) (d .takes .headings) (d .takes .tables)))
 
-    pub entries-line : (ws log′ : List ℕ) (r : Lined) (x : Done) (y : Fetch) → line ≡ form.Entries y → TakesEntries numbers words scene y log a p ws log′ x → r ≡ endedIn (x .end) f u (x .asked) → With T log′ (held numbers rows ws) r
+    pub entries-line : (ws log′ : List ℕ) (r : Lined) (x : Done) (y : Fetch) → line ≡ form.Entries y → TakesEntries (h .numbers) (h .words) scene y log a p ws log′ x → r ≡ endedIn (x .end) f u (x .asked) → With T log′ (held (h .numbers) (h .rows) ws) r
     unfolding formWith formMeaning
     entries-line ws log′ r x y e d i =
-        rw (e, ← seen-same) (command (k .kept) h (held numbers rows ws) f f T u log a p log′ r (refl, ap length (d .takes .tables)) (λ source. entriesMeaning (machine source h scene) (scene .number) y) (λ source. machine source (held numbers rows ws) scene) (withMachine s) 64 (x .asked) (x .end) (d .takes .runs b index rows) (omega arith) (rw i (record { end-same = refl; printed = refl; asked = refl; page = refl; goes = λ _. refl })) (machine-same (held numbers rows ws) (d .takes .headings) (d .takes .tables)))
+        rw (e, ← seen-same) (command (k .kept) h (held (h .numbers) (h .rows) ws) f f T u log a p log′ r (refl, ap length (d .takes .tables)) (λ source. entriesMeaning (machine source h scene) (scene .number) y) (λ source. variablesOf source (held (h .numbers) (h .rows) ws)) (withVariables s) 64 (x .asked) (x .end) (d .takes .runs b index (h .rows)) (omega arith) (rw i (record { end-same = refl; printed = refl; asked = refl; page = refl; goes = λ _. refl })) (variables-same (held (h .numbers) (h .rows) ws) (d .takes .headings) (d .takes .tables)))
 
-    pub section-line : (numbers′ : List ℤ) (words′ : List ℕ) (r : Lined) (x y : ℕ) → line ≡ form.Section x y → Clears numbers words f u a numbers′ words′ r → With T log (held numbers′ rows words′) r
+    pub section-line : (numbers′ : List ℤ) (words′ : List ℕ) (r : Lined) (x y : ℕ) → line ≡ form.Section x y → Clears (h .numbers) (h .words) f u a numbers′ words′ r → With T log (held numbers′ (h .rows) words′) r
     unfolding formWith formMeaning
     section-line numbers′ words′ r x y e c =
-        rw e (went-executes b h (held numbers′ rows words′) f (feedsIn f true) T u log a p r (cleared s) (c .went) refl same (refl, ap length (ap (bank 128 20) (c .words-zero) ∙ zeros-behind 0 words 128 20)))
+        rw e (went-executes b h (held numbers′ (h .rows) words′) f (feedsIn f true) T u log a p r (cleared s) (c .went) refl same (refl, ap length (ap (bank 128 20) (c .words-zero) ∙ zeros-behind 0 (h .words) 128 20)))
       where
         numbers-zero : (i n : ℕ) → i + n ≤ 198 → bank i n numbers′ ≡ replicate n (pos 0)
-        numbers-zero i n l = ap (bank i n) (c .numbers-zero) ∙ zeros-bank (pos 0) (drop 198 numbers) i n 198 l
+        numbers-zero i n l = ap (bank i n) (c .numbers-zero) ∙ zeros-bank (pos 0) (drop 198 (h .numbers)) i n 198 l
 
         words-zero : (i n : ℕ) → i + n ≤ 128 → bank i n words′ ≡ replicate n 0
-        words-zero i n l = ap (bank i n) (c .words-zero) ∙ zeros-bank 0 (drop 128 words) i n 128 l
+        words-zero i n l = ap (bank i n) (c .words-zero) ∙ zeros-bank 0 (drop 128 (h .words)) i n 128 l
 
-        same : stateAt b (held numbers′ rows words′) (feedsIn f true) ≡ cleared s
+        same : stateAt b (held numbers′ (h .rows) words′) (feedsIn f true) ≡ cleared s
         same =
             let i : integersIn numbers′ ≡ replicate 99 (pos 0) = numbers-zero 0 99 (omega arith) in
             let j : decimalsIn numbers′ ≡ replicate 99 (pos 0) = numbers-zero 99 99 (omega arith) in
-            let l : texts rows 0 (lengthsIn words′) ≡ replicate 99 [] = ap (texts rows 0) (words-zero 0 99 (omega arith)) ∙ texts-cleared rows 0 99 in
+            let l : texts (h .rows) 0 (lengthsIn words′) ≡ replicate 99 [] = ap (texts (h .rows) 0) (words-zero 0 99 (omega arith)) ∙ texts-cleared (h .rows) 0 99 in
             let m : map (fetched (sourceOf b) Records) (recordsIn words′) ≡ replicate 10 [] = ap (map (fetched (sourceOf b) Records)) (words-zero 99 10 (omega arith)) ∙ fetched-cleared (sourceOf b) Records 10 in
             let o : map (fetched (sourceOf b) Entries) (entriesIn words′) ≡ replicate 10 [] = ap (map (fetched (sourceOf b) Entries)) (words-zero 109 10 (omega arith)) ∙ fetched-cleared (sourceOf b) Entries 10 in
-            let y : tablesIn words′ ≡ tablesIn words = ap (bank 128 20) (c .words-zero) ∙ zeros-behind 0 words 128 20 in
+            let y : tablesIn words′ ≡ tablesIn (h .words) = ap (bank 128 20) (c .words-zero) ∙ zeros-behind 0 (h .words) 128 20 in
             let q : headingsOf (headingsIn words′) ≡ replicate 9 noHeading = ap headingsOf (words-zero 119 9 (omega arith)) ∙ headings-cleared 9 in
-            λ z. record { at = f .at; line = f .line; integers = i z; decimals = j z; strings = l z; records = m z; entries = o z; datasource = f .datasource; tables = opened (y z) (f .depth); headings = q z; feeds = true; page = f .page }
+            λ z. record { due = record { at = f .at; line = f .line }; variables = record { integers = i z; decimals = j z; strings = l z; records = m z; entries = o z }; datasource = f .datasource; tables = opened (y z) (f .depth); layout = record { headings = q z; feeds = true }; page = f .page }
 
   -- ---- with the values of the arguments
 
@@ -311,7 +308,7 @@ module _ {body b index t : List ℕ} (numbers : List ℤ) (rows : List (List ℕ
     pub set-line : (h′ : Held) (r : Lined) (end : Ended) (o : Operation) (x : Target) (y : Argument) → line ≡ form.Set o x y → Assigns body b h (scene .number) o x w h′ end → r ≡ endedIn end f u a → Valued T h′ r
     unfolding formWith
     set-line h′ r end o x y e d i =
-        rw (e, ← seen-same) (concludes-executes b h h′ f T u log a p r (d .held .rows-held ∙ sym (k .rows), ap length (d .tables)) (setOf (machineIn b h scene) o x (meant S w)) (scene .number) (machineIn b h′ scene) end f (withMachine s) (d .concludes (sourceOf b) scene) (rw i (record { end-same = refl; printed = refl; asked = refl; page = refl; goes = λ _. refl })) (machine-same h′ (d .headings) (d .tables)))
+        rw e (concludes-executes b h h′ f T u log a p r (d .held .rows-held ∙ sym (k .rows), ap length (d .tables)) (setOf (variablesOf (sourceOf b) h) o x (meant S w)) (scene .number) (variablesOf (sourceOf b) h′) end f (withVariables s) (d .concludes (sourceOf b)) (rw i (record { end-same = refl; printed = refl; asked = refl; page = refl; goes = λ _. refl })) (variables-same h′ (d .headings) (d .tables)))
 
     pub if-zero-line : (r : Lined) (j : Judged) (y : Argument) → line ≡ form.IfZero y → JudgesZero true w j → r ≡ settledIn (scene .number) f u a (branchedIn t f) (judgedOf j) → Valued T h r
     unfolding formWith
@@ -325,17 +322,17 @@ module _ {body b index t : List ℕ} (numbers : List ℤ) (rows : List (List ℕ
     unfolding formWith
     compare-line r j c x y e d i = rw (e, ← d) (settles-executes b h h f T u log a p r (refl, refl) (judgedOf j) (scene .number) (branchedIn t f) (branched t s) i branch-page branch-same)
 
-    pub begin-line : (ws : List ℕ) (r : Lined) (x : Looped) (y : Argument) → line ≡ form.BeginTable y → BeginsTable w (f .at) (f .line) (scene .number) words (f .depth) ws x → Follows (x .end) f (begunIn t f x) u a r → Valued T (held numbers rows ws) r
+    pub begin-line : (ws : List ℕ) (r : Lined) (x : Looped) (y : Argument) → line ≡ form.BeginTable y → BeginsTable w (f .at) (f .line) (scene .number) (h .words) (f .depth) ws x → Follows (x .end) f (begunIn t f x) u a r → Valued T (held (h .numbers) (h .rows) ws) r
     unfolding formWith
     begin-line ws r x y e d i =
         let g = d .loops S .stays in
-        rw e (concludes-executes b h (held numbers rows ws) f T u log a p r (refl, bank-long words ws 128 20 (g .same)) (beginFrom (openOf words (f .depth)) (f .at) (f .line) (meant S w)) (scene .number) (loopingOf ws x) (x .end) (begunIn t f x) (tableBegun t s) (d .loops S .concludes) i (begun-same ws x g (d .rest)))
+        rw e (concludes-executes b h (held (h .numbers) (h .rows) ws) f T u log a p r (refl, bank-long (h .words) ws 128 20 (g .same)) (beginFrom (openOf (h .words) (f .depth)) (f .at) (f .line) (meant S w)) (scene .number) (loopingOf ws x) (x .end) (begunIn t f x) (tableBegun t s) (d .loops S .concludes) i (begun-same ws x g (d .rest)))
 
-    pub end-line : (ws : List ℕ) (r : Lined) (x : Looped) (y : Optional) → line ≡ form.EndTable y → EndsTable y w (scene .number) words (f .depth) ws x → Follows (x .end) f (overIn (tablesIn ws) f x) u a r → Valued T (held numbers rows ws) r
+    pub end-line : (ws : List ℕ) (r : Lined) (x : Looped) (y : Optional) → line ≡ form.EndTable y → EndsTable y w (scene .number) (h .words) (f .depth) ws x → Follows (x .end) f (overIn (tablesIn ws) f x) u a r → Valued T (held (h .numbers) (h .rows) ws) r
     unfolding formWith
     end-line ws r x y e d i =
         let g = d .loops S .stays in
-        rw e (concludes-executes b h (held numbers rows ws) f T u log a p r (refl, bank-long words ws 128 20 (g .same)) (endFrom (openOf words (f .depth)) y (meant S w)) (scene .number) (loopingOf ws x) (x .end) (overIn (tablesIn ws) f x) (tableEnded s) (d .loops S .concludes) i (ended-same ws x g))
+        rw e (concludes-executes b h (held (h .numbers) (h .rows) ws) f T u log a p r (refl, bank-long (h .words) ws 128 20 (g .same)) (endFrom (openOf (h .words) (f .depth)) y (meant S w)) (scene .number) (loopingOf ws x) (x .end) (overIn (tablesIn ws) f x) (tableEnded s) (d .loops S .concludes) i (ended-same ws x g))
 
     breaks-does : (T′ : List ℕ) (r : Lined) → BreaksLine (scene .number) f T u a T′ r → Executes 330 (breaking (scene .number) s) b h f T u log a p h T′ log r
     unfolding breaking

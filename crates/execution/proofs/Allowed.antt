@@ -13,12 +13,12 @@ use Rattle.lines.specs.declared.command.Line.{Line}
 use Rattle.lines.specs.declared.command.Line.the-variants as form
 use Rattle.lines.specs.readers.Command.{parseLine}
 use Rattle.lines.proofs.Accepted.{OptionalWithin, Bounded, parsed-bounded}
-use Rattle.meaning.specs.Tree.{done, bind}
+use Rattle.meaning.specs.Tree.{done}
 use Rattle.meaning.specs.Meaning.{Meaning}
 use Rattle.meaning.proofs.Questions.{asks-then}
 use Rattle.cells.proofs.Limits.{AnswerWithin}
 use Rattle.arguments.proofs.Parsed.{Between}
-use Rattle.questions.specs.Machine.{Machine}
+use Rattle.questions.specs.Machine.{Variables}
 use Rattle.values.proofs.Allowed.{Allowed, AsksAllowed}
 use Rattle.coercions.specs.Settling.{integerMeaning}
 use Rattle.assignments.specs.Setting.{setMeaning}
@@ -27,15 +27,14 @@ use Rattle.tables.specs.Looping.{beginMeaning, endMeaning}
 use Rattle.commands.specs.Fetching.{recordsMeaning, entriesMeaning}
 use Rattle.commands.specs.Selecting.{datasourceMeaning}
 use Rattle.commands.proofs.Allowed.{set-asks, integer-asks, zero-asks, test-asks, begin-asks, end-asks, records-asks, entries-asks, datasource-asks}
-use Rattle.pages.specs.declared.page.Page.{Page}
 use Rattle.pages.specs.Page.{breakMeaning, lineStep}
 use Rattle.pages.proofs.Allowed.{step-asks}
-use Rattle.control.specs.State.{State, seen, withMachine, withDatasource, withPage}
+use Rattle.control.specs.State.{State, seen, withVariables, withDatasource, withPage}
 use Rattle.control.specs.Line.{past, setting, branched, testing, tableBegun, tableEnded, breaking, breakingFor, newPageMeaning, formMeaning, lineMeaning}
 
 module _ (t : List ℕ) (start l : ℕ) (body : List ℕ) (s : State) (d : Between 1 35 (s .datasource)) where
-  sets : (x : Meaning Machine) → AsksAllowed x → AsksAllowed (setting s x)
-  sets x h = asks-then AnswerWithin Allowed x (λ m. done (withMachine s m)) h (λ m. tt)
+  sets : (x : Meaning Variables) → AsksAllowed x → AsksAllowed (setting s x)
+  sets x h = asks-then AnswerWithin Allowed x (λ m. done (withVariables s m)) h (λ m. tt)
 
   tests : (x : Meaning Bool) → AsksAllowed x → AsksAllowed (testing t s x)
   tests x h = asks-then AnswerWithin Allowed x (λ holds. done (branched t s holds)) h (λ b. tt)
@@ -52,7 +51,7 @@ module _ (t : List ℕ) (start l : ℕ) (body : List ℕ) (s : State) (d : Betwe
   form-asks : (f : Line) → Bounded body f → AsksAllowed (formMeaning t start l body s f)
   unfolding formMeaning
   form-asks form.NoForm b = tt
-  form-asks form.Text b = asks-then AnswerWithin Allowed (lineStep (seen s) t l (s .feeds) (s .headings) body (s .page)) (λ p. done (withPage s p)) (step-asks (seen s) d t l (s .feeds) (s .headings) body (s .page)) (λ p. tt)
+  form-asks form.Text b = asks-then AnswerWithin Allowed (lineStep (seen s) t l (s .layout .feeds) (s .layout .headings) body (s .page)) (λ p. done (withPage s p)) (step-asks (seen s) d t l (s .layout .feeds) (s .layout .headings) body (s .page)) (λ p. tt)
   form-asks (form.Section a e) b = tt
   form-asks (form.Set o v a) b = sets (setMeaning (seen s) body l o v a) (set-asks (seen s) d l body o v a (b .1))
   form-asks (form.IfZero a) b = tests (zeroMeaning (seen s) body l true a) (zero-asks (seen s) d l body true a b)
@@ -60,7 +59,7 @@ module _ (t : List ℕ) (start l : ℕ) (body : List ℕ) (s : State) (d : Betwe
   form-asks (form.Compare c x y) b = tests (testMeaning (seen s) body l c x y) (test-asks (seen s) d l body c x y (b .0) (b .1))
   form-asks form.Else b = tt
   form-asks form.EndIf b = tt
-  form-asks (form.BeginTable a) b = asks-then AnswerWithin Allowed (beginMeaning (seen s) body l (s .tables) (s .at) (s .line) a) (λ x. done (tableBegun t s x)) (begin-asks (seen s) d l body (s .tables) (s .at) (s .line) a b) (λ x. tt)
+  form-asks (form.BeginTable a) b = asks-then AnswerWithin Allowed (beginMeaning (seen s) body l (s .tables) (s .due .at) (s .due .line) a) (λ x. done (tableBegun t s x)) (begin-asks (seen s) d l body (s .tables) (s .due .at) (s .due .line) a b) (λ x. tt)
   form-asks (form.EndTable k) b = asks-then AnswerWithin Allowed (endMeaning (seen s) body l (s .tables) k) (λ x. done (tableEnded s x)) (end-asks (seen s) d l body (s .tables) k b) (λ x. tt)
   form-asks (form.Records f) b = sets (recordsMeaning (seen s) l f) (records-asks (seen s) d l f b)
   form-asks (form.Entries f) b = sets (entriesMeaning (seen s) l f) (entries-asks (seen s) d l f b)
@@ -74,4 +73,4 @@ module _ (t : List ℕ) (start l : ℕ) (body : List ℕ) (s : State) (d : Betwe
 -- One line.
 pub line-asks : (t : List ℕ) (s : State) → Between 1 35 (s .datasource) → AsksAllowed (lineMeaning t s)
 unfolding lineMeaning
-line-asks t s d = let body = lineAt t (s .at) in form-asks t (s .at) (s .line) body (past s (length body)) d (parseLine body) (parsed-bounded body (parseLine body) refl)
+line-asks t s d = let body = lineAt t (s .due .at) in form-asks t (s .due .at) (s .due .line) body (past s (length body)) d (parseLine body) (parsed-bounded body (parseLine body) refl)

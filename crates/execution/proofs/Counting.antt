@@ -27,7 +27,7 @@ use Rattle.commands.proofs.Giving.{Shaped, set-gives, records-gives, entries-gi
 use Rattle.pages.specs.declared.page.Page.{Page}
 use Rattle.pages.specs.Page.{breakMeaning, lineStep}
 use Rattle.pages.proofs.Counting.{counting, OnPage, break-counts, step-counts}
-use Rattle.control.specs.State.{State, seen, withPlace, withMachine, withDatasource, withTables, withPage}
+use Rattle.control.specs.State.{State, seen, withPlace, withVariables, withDatasource, withTables, withPage}
 use Rattle.control.specs.Line.{past, jumped, branched, tableBegun, tableEnded, breaking, breakingFor, newPageMeaning, formMeaning, lineMeaning}
 use Rattle.shapes.specs.declared.seek.Sought.the-variants.{TableEnd}
 
@@ -62,7 +62,7 @@ module _ (t : List ℕ) (start l : ℕ) (body : List ℕ) (s : State) (c : ℕ) 
 
   breaks-count : Keeps counting (breaking l s) c Counted
   unfolding breaking
-  breaks-count = paged (breakMeaning l (s .feeds) (s .page)) (break-counts l (s .feeds) (s .page) c h)
+  breaks-count = paged (breakMeaning l (s .layout .feeds) (s .page)) (break-counts l (s .layout .feeds) (s .page) c h)
 
   np-counts : (n : Optional) → Keeps counting (newPageMeaning l body s n) c Counted
   unfolding newPageMeaning breakingFor
@@ -77,18 +77,18 @@ module _ (t : List ℕ) (start l : ℕ) (body : List ℕ) (s : State) (c : ℕ) 
   form-counts : (f : Line) → Keeps counting (formMeaning t start l body s f) c Counted
   unfolding formMeaning
   form-counts form.NoForm = h
-  form-counts form.Text = paged (lineStep (seen s) t l (s .feeds) (s .headings) body (s .page)) (step-counts (seen s) t l (s .feeds) (s .headings) body (s .page) c h)
+  form-counts form.Text = paged (lineStep (seen s) t l (s .layout .feeds) (s .layout .headings) body (s .page)) (step-counts (seen s) t l (s .layout .feeds) (s .layout .headings) body (s .page) c h)
   form-counts (form.Section a b) = h
-  form-counts (form.Set o v a) = asks-count (setMeaning (seen s) body l o v a) (Shaped (seen s)) (set-gives (seen s) body l o v a) (withMachine s) (λ _. refl)
+  form-counts (form.Set o v a) = asks-count (setMeaning (seen s) body l o v a) (Shaped (s .variables)) (set-gives (seen s) body l o v a) (withVariables s) (λ _. refl)
   form-counts (form.IfZero a) = asks-count (zeroMeaning (seen s) body l true a) Anything (zero-gives (seen s) body l true a) (branched t s) branch-page
   form-counts (form.IfNonZero a) = asks-count (zeroMeaning (seen s) body l false a) Anything (zero-gives (seen s) body l false a) (branched t s) branch-page
   form-counts (form.Compare k a b) = asks-count (testMeaning (seen s) body l k a b) Anything (test-gives (seen s) body l k a b) (branched t s) branch-page
   form-counts form.Else = h
   form-counts form.EndIf = h
-  form-counts (form.BeginTable a) = asks-count (beginMeaning (seen s) body l (s .tables) (s .at) (s .line) a) (Begun (s .tables) (s .at) (s .line)) (begin-gives (seen s) body l (s .tables) (s .at) (s .line) a) (tableBegun t s) begun-page
+  form-counts (form.BeginTable a) = asks-count (beginMeaning (seen s) body l (s .tables) (s .due .at) (s .due .line) a) (Begun (s .tables) (s .due .at) (s .due .line)) (begin-gives (seen s) body l (s .tables) (s .due .at) (s .due .line) a) (tableBegun t s) begun-page
   form-counts (form.EndTable k) = asks-count (endMeaning (seen s) body l (s .tables) k) (Counting (s .tables)) (end-gives (seen s) body l (s .tables) k) (tableEnded s) ended-page
-  form-counts (form.Records f) = asks-count (recordsMeaning (seen s) l f) (Shaped (seen s)) (records-gives (seen s) l f) (withMachine s) (λ _. refl)
-  form-counts (form.Entries f) = asks-count (entriesMeaning (seen s) l f) (Shaped (seen s)) (entries-gives (seen s) l f) (withMachine s) (λ _. refl)
+  form-counts (form.Records f) = asks-count (recordsMeaning (seen s) l f) (Shaped (s .variables)) (records-gives (seen s) l f) (withVariables s) (λ _. refl)
+  form-counts (form.Entries f) = asks-count (entriesMeaning (seen s) l f) (Shaped (s .variables)) (entries-gives (seen s) l f) (withVariables s) (λ _. refl)
   form-counts (form.Datasource x) = asks-count (datasourceMeaning (seen s) l x) Selectable (datasource-gives (seen s) l x) (withDatasource s) (λ _. refl)
   form-counts form.NoFormFeed = h
   form-counts (form.NewPage n) = np-counts n
@@ -99,4 +99,4 @@ module _ (t : List ℕ) (start l : ℕ) (body : List ℕ) (s : State) (c : ℕ) 
 -- One line.
 pub line-counts : (t : List ℕ) (s : State) (c : ℕ) → Counted s c → Keeps counting (lineMeaning t s) c Counted
 unfolding lineMeaning
-line-counts t s c h = form-counts t (s .at) (s .line) (lineAt t (s .at)) (past s (length (lineAt t (s .at)))) c h (parseLine (lineAt t (s .at)))
+line-counts t s c h = form-counts t (s .due .at) (s .due .line) (lineAt t (s .due .at)) (past s (length (lineAt t (s .due .at)))) c h (parseLine (lineAt t (s .due .at)))

@@ -1,7 +1,7 @@
 -- The line that is due: split, parsed, and executed in its form.
 use mathlib.Core.Path.{_≡_, refl, sym, ap, _∙_}
-use mathlib.Core.List.{List, [], _∷_}
-use Prim.Native.Nat.{ℕ, suc, _+_, _-_, _≤_}
+use mathlib.Core.List.{List}
+use Prim.Native.Nat.{ℕ, _+_, _-_, _≤_}
 use native.Mathlib.Omega.{arith}
 use lib.ListN.{length, take, drop, length-map, length-drop}
 use lib.Seq.{take-all}
@@ -15,7 +15,7 @@ use Rattle.shapes.specs.Form.{shapeIn, shapeOf}
 use Rattle.template.proofs.Opening.{checks-short, opens-line}
 use Rattle.questions.specs.declared.scene.Scene.{Scene}
 use Rattle.questions.specs.declared.fetch.Along.the-variants.{Records, Entries}
-use Rattle.questions.specs.inner.State.{texts, fetched}
+use Rattle.questions.specs.inner.State.{tablesIn, headingsIn}
 use Rattle.tables.specs.inner.Open.{opened}
 use Rattle.tables.proofs.Tabling.{opened-length}
 use Rattle.pages.specs.inner.Packed.{headingIn}
@@ -50,13 +50,8 @@ use Rattle.control.proofs.Commanding.{inputs-then, inputs-over}
 use Rattle.dispatch.specs.inner.Performing.{Performs}
 use Rattle.execution.proofs.Places.{nested-few, nested-line, nested-room}
 
-pub texts-length : (rows : List (List ℕ)) (k : ℕ) (ns : List ℕ) → length (texts rows k ns) ≡ length ns
-unfolding texts
-texts-length rows k [] = refl
-texts-length rows k (n ∷ ns) = ap suc (texts-length rows (suc k) ns)
-
 module _ {b index t : List ℕ} {h : Held} {f : Flow} {T : List ℕ} {u a : ℕ} (k : LineReady b index t h f T u a) {body : List ℕ} (e : body ≡ lineOf (take (length t - f .at) (drop (f .at) t))) where
-  here : Nested t (f .at) (f .line) (opened (h .tables) (f .depth))
+  here : Nested t (f .at) (f .line) (opened (tablesIn (h .words)) (f .depth))
   here = k .sound .nested (k .inside)
 
   body-is : body ≡ lineAt t (f .at)
@@ -72,16 +67,16 @@ module _ {b index t : List ℕ} {h : Held} {f : Flow} {T : List ℕ} {u a : ℕ}
   pub form-parsed : {line : Line} → line ≡ formOf body → line ≡ parseLine body
   form-parsed l = l ∙ rw body-is (form-known (lineAt t (f .at)) (opens-line (k .sound .checks) (here .opens) (k .inside) .parsed))
 
-  module _ {scene : Scene} {next : Flow} {line : Line} (s : scene ≡ sceneOf (h .tables) f (f .line)) (n : next ≡ placedAt f (f .at + length body + 1) (f .line + 1)) (l : line ≡ parseLine body) where
+  module _ {scene : Scene} {next : Flow} {line : Line} (s : scene ≡ sceneOf (tablesIn (h .words)) f (f .line)) (n : next ≡ placedAt f (f .at + length body + 1) (f .line + 1)) (l : line ≡ parseLine body) where
     few : f .depth ≤ 5
-    few = omega (arith, nested-few (k .sound .checks) here (k .inside), opened-length (h .tables) (f .depth))
+    few = omega (arith, nested-few (k .sound .checks) here (k .inside), opened-length (tablesIn (h .words)) (f .depth))
 
     table-shape : (x : Argument) → line ≡ BeginTable x → shapeOf (lineAt t (f .at)) ≡ Table
     unfolding shapeOf shapeIn
     table-shape x q = ap shapeIn (sym (l ∙ ap parseLine body-is) ∙ q)
 
     room : (x : Argument) → line ≡ BeginTable x → f .depth ≤ 4
-    room x q = omega (arith, nested-room (k .sound .checks) here (k .inside) (table-shape x q), opened-length (h .tables) (f .depth))
+    room x q = omega (arith, nested-room (k .sound .checks) here (k .inside) (table-shape x q), opened-length (tablesIn (h .words)) (f .depth))
 
     pub form-ready : (a′ : ℕ) → a′ ≤ a + 2 → FormReady body b index t h scene (f .at) next line T u a′
     form-ready a′ few′ = rw (n, s) (record {
@@ -99,14 +94,10 @@ module _ {b index t : List ℕ} {h : Held} {f : Flow} {T : List ℕ} {u a : ℕ}
       room-for-table = room;
       page = k .sound .number;
       row = k .sound .last-row;
-      integers = k .sound .integers;
-      decimals = k .sound .decimals;
+      decimals = k .sound .variables .decimals;
       rows = k .rows;
       table-words = k .table-words;
-      lengths = sym (texts-length (h .rows) 0 (h .lengths)) ∙ k .sound .strings;
-      records = sym (length-map (h .records) (fetched (sourceOf b) Records)) ∙ k .sound .records;
-      entries = sym (length-map (h .entries) (fetched (sourceOf b) Entries)) ∙ k .sound .entries;
-      headings = sym (length-map (h .headings) headingIn) ∙ k .sound .headings;
+      headings = sym (length-map (headingsIn (h .words)) headingIn) ∙ k .sound .headings;
       heads = k .sound .heads;
       room = k .room;
       places = omega (arith, k .places);

@@ -1,7 +1,7 @@
 -- A run's numbers stay in range: what each line keeps, where the answers lie within their limits.
-use mathlib.Core.Path.{_≡_, refl}
+use mathlib.Core.Path.{refl}
 use mathlib.Core.Bool.{Bool, true, false, cond}
-use mathlib.Core.List.{List, [], _∷_}
+use mathlib.Core.List.{List, []}
 use Prim.Native.Nat.{ℕ, _-_, _≤_}
 use native.Mathlib.Omega.{arith}
 use lib.IntN.{pos}
@@ -15,21 +15,20 @@ use Rattle.lines.specs.declared.command.Line.the-variants as form
 use Rattle.lines.specs.readers.Command.{parseLine}
 use Rattle.lines.proofs.Accepted.{Bounded, parsed-bounded}
 use Rattle.meaning.specs.Each.{Each}
-use Rattle.meaning.specs.Answer.{Answer}
 use Rattle.meaning.specs.Tree.{done, bind}
 use Rattle.meaning.specs.Meaning.{Meaning}
 use Rattle.meaning.proofs.Yielding.{Yields, yields-bind, yields-any}
 use Rattle.numbers.specs.Range.{integerLimit}
 use Rattle.cells.proofs.Limits.{AnswerWithin}
 use Rattle.arguments.proofs.Parsed.{Between}
-use Rattle.questions.specs.Machine.{Machine}
-use Rattle.values.proofs.Ranges.{IntegerWithin, DecimalWithin, Short, MachineWithin}
+use Rattle.questions.specs.Machine.{Variables}
+use Rattle.values.proofs.Ranges.{IntegerWithin, DecimalWithin, Short, MachineWithin, VariablesWithin}
 use Rattle.shapes.specs.declared.seek.Sought.the-variants.{TableEnd}
 use Rattle.tables.specs.declared.table.Table.{Table}
 use Rattle.coercions.specs.Settling.{integerMeaning}
 use Rattle.assignments.specs.Setting.{setMeaning}
 use Rattle.conditions.specs.Testing.{zeroMeaning, testMeaning}
-use Rattle.tables.specs.Looping.{Looping, loop, innermost, beginMeaning, endMeaning}
+use Rattle.tables.specs.Looping.{Looping, innermost, beginMeaning, endMeaning}
 use Rattle.commands.specs.Fetching.{recordsMeaning, entriesMeaning}
 use Rattle.commands.specs.Selecting.{datasourceMeaning}
 use Rattle.commands.proofs.Giving as G
@@ -37,57 +36,62 @@ use Rattle.commands.proofs.Giving.{loop-bounded, Selectable, datasource-gives}
 use Rattle.commands.proofs.Ranges.{Held, held, gives-yields, set-within, begin-within, end-within, records-within, entries-within}
 use Rattle.pages.specs.declared.page.Page.{Page}
 use Rattle.pages.specs.Page.{breakMeaning, lineStep}
-use Rattle.control.specs.State.{State, seen, withPlace, withMachine, withDatasource, withTables, withFeeds, withPage, cleared}
-use Rattle.control.specs.Line.{past, jumped, setting, branched, testing, tableBegun, tableEnded, breaking, breakingFor, newPageMeaning, headed, formMeaning, lineMeaning}
+use Rattle.control.specs.State.{State, seen, withPlace, withVariables, withDatasource, withTables, withPage, noVariables, cleared}
+use Rattle.control.specs.Line.{past, jumped, setting, branched, testing, tableBegun, tableEnded, breaking, breakingFor, newPageMeaning, formMeaning, lineMeaning}
 use Rattle.control.specs.inner.Sound.{Sound}
-use Rattle.execution.proofs.Sounds.{each-same}
+use Rattle.execution.proofs.Sounds.{each-same, full-none}
 
 -- Every IV within ±2,000,000,000, every FV within ±2×10^15 millionths, every SV of at most 16 bytes, R and T's answers within
 -- their limits, the tables' counters and limits integers in range, a datasource from 1 to 35.
 pub record InRange (s : State) : Type 0 where
-  pub integers : Each IntegerWithin (s .integers)
-  pub decimals : Each DecimalWithin (s .decimals)
-  pub strings : Each Short (s .strings)
-  pub records : Each (Each AnswerWithin) (s .records)
-  pub entries : Each (Each AnswerWithin) (s .entries)
+  pub variables : VariablesWithin (s .variables)
   pub tables : Each G.Bounded (s .tables)
   pub datasource : Between 1 35 (s .datasource)
 
 -- The machine that an argument sees is in range: LOOP by the tables, PAGENUM and LINENUM by the lines that were executed.
 pub seen-within : (t : List ℕ) (g : ℕ) (s : State) → g ≤ integerLimit → Sound t g s → InRange s → MachineWithin (seen s)
-seen-within t g s h i r = record { integers = r .integers; decimals = r .decimals; strings = r .strings; records = r .records; entries = r .entries; counter = loop-bounded (s .tables) (r .tables); page = omega (arith, i .number); row = omega (arith, i .last-row); integer-count = i .integers; decimal-count = i .decimals; string-count = i .strings; record-count = i .records; entry-count = i .entries }
+seen-within t g s h i r = record { variables = r .variables; counter = loop-bounded (s .tables) (r .tables); page = omega (arith, i .number); row = omega (arith, i .last-row) }
 
 -- A heading that a parsed line defines or undefines is one of the nine.
-pub heading-there : (t : List ℕ) (g : ℕ) (s : State) → Sound t g s → (n : ℕ) → Between 1 9 n → Held (s .headings) n
-heading-there t g s i n b = held (s .headings) 9 n (i .headings) b
+pub heading-there : (t : List ℕ) (g : ℕ) (s : State) → Sound t g s → (n : ℕ) → Between 1 9 n → Held (s .layout .headings) n
+heading-there t g s i n b = held (s .layout .headings) 9 n (i .headings) b
 
 -- ---- the state behind a line, with one part changed
 
 module _ {s : State} (r : InRange s) where
   range-at : (at line : ℕ) → InRange (withPlace s at line)
-  range-at at line = record { integers = r .integers; decimals = r .decimals; strings = r .strings; records = r .records; entries = r .entries; tables = r .tables; datasource = r .datasource }
+  range-at at line = record { variables = r .variables; tables = r .tables; datasource = r .datasource }
 
   range-tables : (ts : List Table) → Each G.Bounded ts → InRange (withTables s ts)
-  range-tables ts h = record { integers = r .integers; decimals = r .decimals; strings = r .strings; records = r .records; entries = r .entries; tables = h; datasource = r .datasource }
+  range-tables ts h = record { variables = r .variables; tables = h; datasource = r .datasource }
 
-  range-machine : (m : Machine) → MachineWithin m → InRange (withMachine s m)
-  range-machine m h = record { integers = h .integers; decimals = h .decimals; strings = h .strings; records = h .records; entries = h .entries; tables = r .tables; datasource = r .datasource }
+  range-variables : (v : Variables) → VariablesWithin v → InRange (withVariables s v)
+  range-variables v h = record { variables = h; tables = r .tables; datasource = r .datasource }
 
   range-datasource : (d : ℕ) → Between 1 35 d → InRange (withDatasource s d)
-  range-datasource d h = record { integers = r .integers; decimals = r .decimals; strings = r .strings; records = r .records; entries = r .entries; tables = r .tables; datasource = h }
+  range-datasource d h = record { variables = r .variables; tables = r .tables; datasource = h }
 
   range-page : (p : Page) → InRange (withPage s p)
-  range-page p = record { integers = r .integers; decimals = r .decimals; strings = r .strings; records = r .records; entries = r .entries; tables = r .tables; datasource = r .datasource }
+  range-page p = record { variables = r .variables; tables = r .tables; datasource = r .datasource }
 
 -- "sets IV and FV to 0, SV to empty, clears R, T"
+within-none : VariablesWithin noVariables
+within-none = record {
+  integers = record { each = each-same IntegerWithin 99 (pos 0) (omega arith); count = full-none .integers };
+  decimals = record { each = each-same DecimalWithin 99 (pos 0) (omega arith); count = full-none .decimals };
+  strings = record { each = each-same Short 99 [] (omega arith); count = full-none .strings };
+  records = record { each = each-same (Each AnswerWithin) 10 [] tt; count = full-none .records };
+  entries = record { each = each-same (Each AnswerWithin) 10 [] tt; count = full-none .entries };
+}
+
 pub range-cleared : (s : State) → Each G.Bounded (s .tables) → Between 1 35 (s .datasource) → InRange (cleared s)
-range-cleared s h d = record { integers = each-same IntegerWithin 99 (pos 0) (omega arith); decimals = each-same DecimalWithin 99 (pos 0) (omega arith); strings = each-same Short 99 [] (omega arith); records = each-same (Each AnswerWithin) 10 [] tt; entries = each-same (Each AnswerWithin) 10 [] tt; tables = h; datasource = d }
+range-cleared s h d = record { variables = within-none; tables = h; datasource = d }
 
 -- ---- a line by its form: s is the state behind it, m the machine that it sees
 
 module _ (t : List ℕ) (start l : ℕ) (body : List ℕ) (s : State) (h : MachineWithin (seen s)) (r : InRange s) where
-  sets : (x : Meaning Machine) → Yields AnswerWithin x MachineWithin → Yields AnswerWithin (setting s x) InRange
-  sets x k = yields-bind AnswerWithin x (λ m. done (withMachine s m)) MachineWithin InRange k (λ m e. range-machine r m e)
+  sets : (x : Meaning Variables) → Yields AnswerWithin x VariablesWithin → Yields AnswerWithin (setting s x) InRange
+  sets x k = yields-bind AnswerWithin x (λ v. done (withVariables s v)) VariablesWithin InRange k (λ v e. range-variables r v e)
 
   tests : (x : Meaning Bool) → Yields AnswerWithin (testing t s x) InRange
   unfolding branched
@@ -118,7 +122,7 @@ module _ (t : List ℕ) (start l : ℕ) (body : List ℕ) (s : State) (h : Machi
 
   breaks : Yields AnswerWithin (breaking l s) InRange
   unfolding breaking
-  breaks = paged (breakMeaning l (s .feeds) (s .page))
+  breaks = paged (breakMeaning l (s .layout .feeds) (s .page))
 
   pages : (n : Optional) → Yields AnswerWithin (newPageMeaning l body s n) InRange
   unfolding newPageMeaning breakingFor
@@ -132,7 +136,7 @@ module _ (t : List ℕ) (start l : ℕ) (body : List ℕ) (s : State) (h : Machi
   form-in-range : (f : Line) → Bounded body f → Yields AnswerWithin (formMeaning t start l body s f) InRange
   unfolding formMeaning
   form-in-range form.NoForm b = r
-  form-in-range form.Text b = paged (lineStep (seen s) t l (s .feeds) (s .headings) body (s .page))
+  form-in-range form.Text b = paged (lineStep (seen s) t l (s .layout .feeds) (s .layout .headings) body (s .page))
   form-in-range (form.Section a e) b = range-cleared s (r .tables) (r .datasource)
   form-in-range (form.Set o v a) b = sets (setMeaning (seen s) body l o v a) (set-within (seen s) h l body o v a (b .1))
   form-in-range (form.IfZero a) b = tests (zeroMeaning (seen s) body l true a)
@@ -140,20 +144,20 @@ module _ (t : List ℕ) (start l : ℕ) (body : List ℕ) (s : State) (h : Machi
   form-in-range (form.Compare c x y) b = tests (testMeaning (seen s) body l c x y)
   form-in-range form.Else b = range-at r _ _
   form-in-range form.EndIf b = r
-  form-in-range (form.BeginTable a) b = yields-bind AnswerWithin (beginMeaning (seen s) body l (s .tables) (s .at) (s .line) a) (λ x. done (tableBegun t s x)) (λ x. Each G.Bounded (x .tables)) InRange (begin-within (seen s) h l body (s .tables) (s .at) (s .line) a b (r .tables)) (λ x k. begins x k)
+  form-in-range (form.BeginTable a) b = yields-bind AnswerWithin (beginMeaning (seen s) body l (s .tables) (s .due .at) (s .due .line) a) (λ x. done (tableBegun t s x)) (λ x. Each G.Bounded (x .tables)) InRange (begin-within (seen s) h l body (s .tables) (s .due .at) (s .due .line) a b (r .tables)) (λ x k. begins x k)
   form-in-range (form.EndTable k) b = yields-bind AnswerWithin (endMeaning (seen s) body l (s .tables) k) (λ x. done (tableEnded s x)) (λ x. Each G.Bounded (x .tables)) InRange (end-within (seen s) body l (s .tables) k (r .tables)) (λ x e. ends x e)
   form-in-range (form.Records f) b = sets (recordsMeaning (seen s) l f) (records-within (seen s) h l f)
   form-in-range (form.Entries f) b = sets (entriesMeaning (seen s) l f) (entries-within (seen s) h l f)
   form-in-range (form.Datasource i) b = yields-bind AnswerWithin (datasourceMeaning (seen s) l i) (λ d. done (withDatasource s d)) Selectable InRange (gives-yields (datasourceMeaning (seen s) l i) Selectable (datasource-gives (seen s) l i)) (λ d e. range-datasource r d (record { least = e .low; most = e .high }))
-  form-in-range form.NoFormFeed b = record { integers = r .integers; decimals = r .decimals; strings = r .strings; records = r .records; entries = r .entries; tables = r .tables; datasource = r .datasource }
+  form-in-range form.NoFormFeed b = record { variables = r .variables; tables = r .tables; datasource = r .datasource }
   form-in-range (form.NewPage n) b = pages n
-  form-in-range (form.Heading n from) b = record { integers = r .integers; decimals = r .decimals; strings = r .strings; records = r .records; entries = r .entries; tables = r .tables; datasource = r .datasource }
-  form-in-range (form.NoHeading n) b = record { integers = r .integers; decimals = r .decimals; strings = r .strings; records = r .records; entries = r .entries; tables = r .tables; datasource = r .datasource }
+  form-in-range (form.Heading n from) b = record { variables = r .variables; tables = r .tables; datasource = r .datasource }
+  form-in-range (form.NoHeading n) b = record { variables = r .variables; tables = r .tables; datasource = r .datasource }
   form-in-range form.Remark b = r
 
 -- One line.
 pub line-in-range : (t : List ℕ) (g : ℕ) (s : State) → g ≤ integerLimit → Sound t g s → InRange s → Yields AnswerWithin (lineMeaning t s) InRange
 unfolding lineMeaning
 line-in-range t g s h i r =
-    let body = lineAt t (s .at) in
-    form-in-range t (s .at) (s .line) body (past s (length body)) (seen-within t g s h i r) (range-at r _ _) (parseLine body) (parsed-bounded body (parseLine body) refl)
+    let body = lineAt t (s .due .at) in
+    form-in-range t (s .due .at) (s .due .line) body (past s (length body)) (seen-within t g s h i r) (range-at r _ _) (parseLine body) (parsed-bounded body (parseLine body) refl)

@@ -29,7 +29,7 @@ use Rattle.meaning.specs.Tree.{done, bind}
 use Rattle.meaning.specs.Rule.{Keeps, pageLimit}
 use Rattle.meaning.specs.Meaning.{Meaning}
 use Rattle.meaning.proofs.Keeping.{keeps-bind}
-use Rattle.questions.specs.Machine.{Machine}
+use Rattle.questions.specs.Machine.{Variables}
 use Rattle.values.proofs.Giving.{Gives, Anything, gives-keeps}
 use Rattle.tables.specs.declared.table.Table as C
 use Rattle.coercions.specs.Settling.{integerMeaning}
@@ -47,9 +47,9 @@ use Rattle.pages.specs.Page.{headLine, headFrom, breakMeaning, lineStep}
 use Rattle.pages.proofs.Turning.{blank-fits}
 use Rattle.lines.proofs.Accepted.{heading-accepted}
 use Rattle.pages.proofs.Sixty as P
-use Rattle.control.specs.State.{State, seen, withPlace, withMachine, withDatasource, withTables, withFeeds, withPage, cleared}
+use Rattle.control.specs.State.{State, seen, withPlace, withVariables, withDatasource, withTables, withLayout, withPage, noVariables, cleared}
 use Rattle.control.specs.Line.{past, jumped, setting, branched, testing, tableBegun, tableEnded, breaking, breakingFor, newPageMeaning, headed, formMeaning, lineMeaning}
-use Rattle.control.specs.inner.Sound.{Nested, Fit, Sound}
+use Rattle.control.specs.inner.Sound.{Nested, Fit, Sound, Full}
 use Rattle.execution.proofs.Places.{nested-plain, nested-remark, nested-section, nested-end-test, nested-test, nested-failed, nested-else, nested-begun, nested-skipped, nested-ended, nested-again}
 
 -- LINENUM is one more than the lines on the page
@@ -76,42 +76,50 @@ pub each-same : {A : Type 0} (P : A → Type 0) (n : ℕ) (h : A) → P h → Ea
 each-same P zero h p = tt
 each-same P (suc n) h p = (p, each-same P n h p)
 
+-- ---- as many variables as there are
+
+full-same : {v v′ : Variables} → Full v → Shaped v v′ → Full v′
+full-same f e = record { integers = e .integers ∙ f .integers; decimals = e .decimals ∙ f .decimals; strings = e .strings ∙ f .strings; records = e .records ∙ f .records; entries = e .entries ∙ f .entries }
+
+pub full-none : Full noVariables
+full-none = record { integers = length-replicate 99 (pos 0); decimals = length-replicate 99 (pos 0); strings = length-replicate {A = List ℕ} 99 []; records = length-replicate {A = List Answer} 10 []; entries = length-replicate {A = List Answer} 10 [] }
+
 -- ---- the state behind a line, with one part changed
 
 module _ {t : List ℕ} {g : ℕ} {s : State} (i : Sound t g s) where
   pub sound-at : (at line : ℕ) → (at < length t → Nested t at line (s .tables)) → Sound t g (withPlace s at line)
-  sound-at at line h = record { checks = i .checks; nested = h; number = i .number; first-row = i .first-row; last-row = i .last-row; datasource = i .datasource; integers = i .integers; decimals = i .decimals; strings = i .strings; records = i .records; entries = i .entries; headings = i .headings; heads = i .heads }
+  sound-at at line h = record { checks = i .checks; nested = h; number = i .number; first-row = i .first-row; last-row = i .last-row; datasource = i .datasource; variables = i .variables; headings = i .headings; heads = i .heads }
 
   sound-tables : (at line : ℕ) (ts : List C.Table) → (at < length t → Nested t at line ts) → Sound t g (withPlace (withTables s ts) at line)
-  sound-tables at line ts h = record { checks = i .checks; nested = h; number = i .number; first-row = i .first-row; last-row = i .last-row; datasource = i .datasource; integers = i .integers; decimals = i .decimals; strings = i .strings; records = i .records; entries = i .entries; headings = i .headings; heads = i .heads }
+  sound-tables at line ts h = record { checks = i .checks; nested = h; number = i .number; first-row = i .first-row; last-row = i .last-row; datasource = i .datasource; variables = i .variables; headings = i .headings; heads = i .heads }
 
-  sound-machine : (m : Machine) → Shaped (seen s) m → Sound t g (withMachine s m)
-  sound-machine m e = record { checks = i .checks; nested = i .nested; number = i .number; first-row = i .first-row; last-row = i .last-row; datasource = i .datasource; integers = e .integers ∙ i .integers; decimals = e .decimals ∙ i .decimals; strings = e .strings ∙ i .strings; records = e .records ∙ i .records; entries = e .entries ∙ i .entries; headings = i .headings; heads = i .heads }
+  sound-variables : (v : Variables) → Shaped (s .variables) v → Sound t g (withVariables s v)
+  sound-variables v e = record { checks = i .checks; nested = i .nested; number = i .number; first-row = i .first-row; last-row = i .last-row; datasource = i .datasource; variables = full-same (i .variables) e; headings = i .headings; heads = i .heads }
 
   sound-datasource : (d : ℕ) → d ≤ 35 → Sound t g (withDatasource s d)
-  sound-datasource d h = record { checks = i .checks; nested = i .nested; number = i .number; first-row = i .first-row; last-row = i .last-row; datasource = h; integers = i .integers; decimals = i .decimals; strings = i .strings; records = i .records; entries = i .entries; headings = i .headings; heads = i .heads }
+  sound-datasource d h = record { checks = i .checks; nested = i .nested; number = i .number; first-row = i .first-row; last-row = i .last-row; datasource = h; variables = i .variables; headings = i .headings; heads = i .heads }
 
   sound-heading : (n : ℕ) (h : Heading) → Fit t h → Sound t g (headed s n h)
-  sound-heading n h f = record { checks = i .checks; nested = i .nested; number = i .number; first-row = i .first-row; last-row = i .last-row; datasource = i .datasource; integers = i .integers; decimals = i .decimals; strings = i .strings; records = i .records; entries = i .entries; headings = numbered-length (s .headings) n h ∙ i .headings; heads = numbered-each (Fit t) (s .headings) n h f (i .heads) }
+  sound-heading n h f = record { checks = i .checks; nested = i .nested; number = i .number; first-row = i .first-row; last-row = i .last-row; datasource = i .datasource; variables = i .variables; headings = numbered-length (s .layout .headings) n h ∙ i .headings; heads = numbered-each (Fit t) (s .layout .headings) n h f (i .heads) }
 
-  sound-feeds : (f : Bool) → Sound t g (withFeeds s f)
-  sound-feeds f = record { checks = i .checks; nested = i .nested; number = i .number; first-row = i .first-row; last-row = i .last-row; datasource = i .datasource; integers = i .integers; decimals = i .decimals; strings = i .strings; records = i .records; entries = i .entries; headings = i .headings; heads = i .heads }
+  sound-feeds : (f : Bool) → Sound t g (withLayout s (s .layout .headings) f)
+  sound-feeds f = record { checks = i .checks; nested = i .nested; number = i .number; first-row = i .first-row; last-row = i .last-row; datasource = i .datasource; variables = i .variables; headings = i .headings; heads = i .heads }
 
   sound-page : (g′ : ℕ) (p : Page) → p .number ≤ g′ → 1 ≤ p .line → p .line ≤ 61 → Sound t g′ (withPage s p)
-  sound-page g′ p a b c = record { checks = i .checks; nested = i .nested; number = a; first-row = b; last-row = c; datasource = i .datasource; integers = i .integers; decimals = i .decimals; strings = i .strings; records = i .records; entries = i .entries; headings = i .headings; heads = i .heads }
+  sound-page g′ p a b c = record { checks = i .checks; nested = i .nested; number = a; first-row = b; last-row = c; datasource = i .datasource; variables = i .variables; headings = i .headings; heads = i .heads }
 
   sound-cleared : Sound t g (cleared s)
-  sound-cleared = record { checks = i .checks; nested = i .nested; number = i .number; first-row = i .first-row; last-row = i .last-row; datasource = i .datasource; integers = length-replicate 99 (pos 0); decimals = length-replicate 99 (pos 0); strings = length-replicate {A = List ℕ} 99 []; records = length-replicate {A = List Answer} 10 []; entries = length-replicate {A = List Answer} 10 []; headings = length-replicate 9 noHeading; heads = each-same (Fit t) 9 noHeading (blank-heading t) }
+  sound-cleared = record { checks = i .checks; nested = i .nested; number = i .number; first-row = i .first-row; last-row = i .last-row; datasource = i .datasource; variables = full-none; headings = length-replicate 9 noHeading; heads = each-same (Fit t) 9 noHeading (blank-heading t) }
 
 -- a line raises PAGENUM by at most one
 pub sound-more : {t : List ℕ} {g : ℕ} {s : State} (g′ : ℕ) → g ≤ g′ → Sound t g s → Sound t g′ s
-sound-more g′ h i = record { checks = i .checks; nested = i .nested; number = omega (arith, i .number); first-row = i .first-row; last-row = i .last-row; datasource = i .datasource; integers = i .integers; decimals = i .decimals; strings = i .strings; records = i .records; entries = i .entries; headings = i .headings; heads = i .heads }
+sound-more g′ h i = record { checks = i .checks; nested = i .nested; number = omega (arith, i .number); first-row = i .first-row; last-row = i .last-row; datasource = i .datasource; variables = i .variables; headings = i .headings; heads = i .heads }
 
 -- ---- the line at s, by its form
 
-module _ {t : List ℕ} {g : ℕ} {s : State} {c : ℕ} (i : On t g s c) (h : s .at < length t) where
+module _ {t : List ℕ} {g : ℕ} {s : State} {c : ℕ} (i : On t g s c) (h : s .due .at < length t) where
   abbrev body : List ℕ
-  body = lineAt t (s .at)
+  body = lineAt t (s .due .at)
 
   abbrev s₁ : State
   s₁ = past s (length body)
@@ -119,15 +127,15 @@ module _ {t : List ℕ} {g : ℕ} {s : State} {c : ℕ} (i : On t g s c) (h : s 
   checks : Checks t
   checks = i .sound .checks
 
-  here : Nested t (s .at) (s .line) (s .tables)
+  here : Nested t (s .due .at) (s .due .line) (s .tables)
   here = i .sound .nested h
 
   wider : Sound t (g + 1) s
   wider = sound-more (g + 1) (omega arith) (i .sound)
 
   -- behind the line, where the nesting goes on there
-  behind : Nested t (s₁ .at) (s₁ .line) (s .tables) → On t (g + 1) s₁ c
-  behind k = record { sound = sound-at wider (s₁ .at) (s₁ .line) (λ _. k); next = i .next }
+  behind : Nested t (s₁ .due .at) (s₁ .due .line) (s .tables) → On t (g + 1) s₁ c
+  behind k = record { sound = sound-at wider (s₁ .due .at) (s₁ .due .line) (λ _. k); next = i .next }
 
   shaped : (x : Shape) (f : Line) → parseLine body ≡ f → shapeIn f ≡ x → shapeOf body ≡ x
   unfolding shapeOf
@@ -137,8 +145,8 @@ module _ {t : List ℕ} {g : ℕ} {s : State} {c : ℕ} (i : On t g s c) (h : s 
   plain e = behind (nested-plain checks here h e)
 
   -- a command that only sets
-  sets-keep : (m : Meaning Machine) → Gives m (Shaped (seen s₁)) → On t (g + 1) s₁ c → Keeps (pageLimit 60) (setting s₁ m) c (On t (g + 1))
-  sets-keep m k o = keeps-bind (pageLimit 60) m (λ x. done (withMachine s₁ x)) c (λ x c′. Shaped (seen s₁) x × (c′ ≡ c)) (On t (g + 1)) (gives-keeps (pageLimit 60) m c (Shaped (seen s₁)) k) (λ x c′ q. record { sound = sound-machine (o .sound) x (q .0); next = o .next ∙ ap suc (sym (q .1)) })
+  sets-keep : (m : Meaning Variables) → Gives m (Shaped (s .variables)) → On t (g + 1) s₁ c → Keeps (pageLimit 60) (setting s₁ m) c (On t (g + 1))
+  sets-keep m k o = keeps-bind (pageLimit 60) m (λ x. done (withVariables s₁ x)) c (λ x c′. Shaped (s .variables) x × (c′ ≡ c)) (On t (g + 1)) (gives-keeps (pageLimit 60) m c (Shaped (s .variables)) k) (λ x c′ q. record { sound = sound-variables (o .sound) x (q .0); next = o .next ∙ ap suc (sym (q .1)) })
 
   -- a test
   tests-keep : (m : Meaning Bool) → Gives m Anything → shapeOf body ≡ Test → Keeps (pageLimit 60) (testing t s₁ m) c (On t (g + 1))
@@ -147,54 +155,54 @@ module _ {t : List ℕ} {g : ℕ} {s : State} {c : ℕ} (i : On t g s c) (h : s 
     where
       by : (b : Bool) (c′ : ℕ) → c′ ≡ c → On t (g + 1) (branched t s₁ b) c′
       by true c′ q = rw q (behind (nested-test checks here h e))
-      by false c′ q = rw q (record { sound = sound-at wider (jumped t s₁ Branch .at) (jumped t s₁ Branch .line) (λ k. nested-failed checks here h e k); next = i .next })
+      by false c′ q = rw q (record { sound = sound-at wider (jumped t s₁ Branch .due .at) (jumped t s₁ Branch .due .line) (λ k. nested-failed checks here h e k); next = i .next })
 
-  begins-keep : (x : Looping) → shapeOf body ≡ Table → Begun (s .tables) (s₁ .at) (s₁ .line) x → On t (g + 1) (tableBegun t s₁ x) c
+  begins-keep : (x : Looping) → shapeOf body ≡ Table → Begun (s .tables) (s₁ .due .at) (s₁ .due .line) x → On t (g + 1) (tableBegun t s₁ x) c
   unfolding tableBegun
-  begins-keep _ e skipped = record { sound = sound-at wider (jumped t s₁ TableEnd .at) (jumped t s₁ TableEnd .line) (λ k. nested-skipped checks here h e k); next = i .next }
-  begins-keep _ e (opened n) = record { sound = sound-tables wider (s₁ .at) (s₁ .line) (newTable n (s₁ .at) (s₁ .line) ∷ s .tables) (λ _. nested-begun checks here h e (newTable n (s₁ .at) (s₁ .line)) refl refl); next = i .next }
+  begins-keep _ e skipped = record { sound = sound-at wider (jumped t s₁ TableEnd .due .at) (jumped t s₁ TableEnd .due .line) (λ k. nested-skipped checks here h e k); next = i .next }
+  begins-keep _ e (opened n) = record { sound = sound-tables wider (s₁ .due .at) (s₁ .due .line) (newTable n (s₁ .due .at) (s₁ .due .line) ∷ s .tables) (λ _. nested-begun checks here h e (newTable n (s₁ .due .at) (s₁ .due .line)) refl refl); next = i .next }
 
   ends-keep : (x : Looping) → shapeOf body ≡ EndTable → Counting (s .tables) x → On t (g + 1) (tableEnded s₁ x) c
   unfolding tableEnded
-  ends-keep _ e ended = record { sound = sound-tables wider (s₁ .at) (s₁ .line) (drop 1 (s .tables)) (λ _. nested-ended checks here h e); next = i .next }
+  ends-keep _ e ended = record { sound = sound-tables wider (s₁ .due .at) (s₁ .due .line) (drop 1 (s .tables)) (λ _. nested-ended checks here h e); next = i .next }
   ends-keep _ e (again n j k) = record { sound = sound-tables wider (innermost (s .tables) .start) (innermost (s .tables) .line) (countedTo (innermost (s .tables)) n ∷ drop 1 (s .tables)) (λ _. nested-again checks here h n e); next = i .next }
 
   -- a page that the line left
   paged : (m : Meaning Page) → Keeps (pageLimit 60) m c (P.On (g + 1)) → On t (g + 1) s₁ c → Keeps (pageLimit 60) (bind m (λ p. done (withPage s₁ p))) c (On t (g + 1))
   paged m k o = keeps-bind (pageLimit 60) m (λ p. done (withPage s₁ p)) c (P.On (g + 1)) (On t (g + 1)) k (λ p c′ q. record { sound = sound-page (o .sound) (g + 1) p (q .number) (omega (arith, q .next)) (omega (arith, q .next, q .most)); next = q .next })
 
-  breaks-keep : On t (g + 1) s₁ c → Keeps (pageLimit 60) (breaking (s .line) s₁) c (On t (g + 1))
+  breaks-keep : On t (g + 1) s₁ c → Keeps (pageLimit 60) (breaking (s .due .line) s₁) c (On t (g + 1))
   unfolding breaking
-  breaks-keep o = paged (breakMeaning (s .line) (s .feeds) (s .page)) (P.break-keeps (s .line) g (s .feeds) (s .page) c (i .sound .number)) o
+  breaks-keep o = paged (breakMeaning (s .due .line) (s .layout .feeds) (s .page)) (P.break-keeps (s .due .line) g (s .layout .feeds) (s .page) c (i .sound .number)) o
 
-  pages-keep : (n : Optional) → On t (g + 1) s₁ c → Keeps (pageLimit 60) (newPageMeaning (s .line) body s₁ n) c (On t (g + 1))
+  pages-keep : (n : Optional) → On t (g + 1) s₁ c → Keeps (pageLimit 60) (newPageMeaning (s .due .line) body s₁ n) c (On t (g + 1))
   unfolding newPageMeaning breakingFor
   pages-keep Absent o = breaks-keep o
-  pages-keep (Given a) o = keeps-bind (pageLimit 60) (integerMeaning (seen s₁) body (s .line) a) (breakingFor (s .line) s₁) c (λ z c′. Anything z × (c′ ≡ c)) (On t (g + 1)) (gives-keeps (pageLimit 60) (integerMeaning (seen s₁) body (s .line) a) c Anything (integer-gives (seen s₁) body (s .line) a)) (λ z c′ q. rw (q .1) (by (ltZ (pos (61 - s .page .line)) z)))
+  pages-keep (Given a) o = keeps-bind (pageLimit 60) (integerMeaning (seen s₁) body (s .due .line) a) (breakingFor (s .due .line) s₁) c (λ z c′. Anything z × (c′ ≡ c)) (On t (g + 1)) (gives-keeps (pageLimit 60) (integerMeaning (seen s₁) body (s .due .line) a) c Anything (integer-gives (seen s₁) body (s .due .line) a)) (λ z c′ q. rw (q .1) (by (ltZ (pos (61 - s .page .line)) z)))
     where
-      by : (b : Bool) → Keeps (pageLimit 60) (cond b (breaking (s .line) s₁) (done s₁)) c (On t (g + 1))
+      by : (b : Bool) → Keeps (pageLimit 60) (cond b (breaking (s .due .line) s₁) (done s₁)) c (On t (g + 1))
       by true = breaks-keep o
       by false = o
 
-  form-keeps : (f : Line) → parseLine body ≡ f → Keeps (pageLimit 60) (formMeaning t (s .at) (s .line) body s₁ f) c (On t (g + 1))
+  form-keeps : (f : Line) → parseLine body ≡ f → Keeps (pageLimit 60) (formMeaning t (s .due .at) (s .due .line) body s₁ f) c (On t (g + 1))
   unfolding formMeaning shapeIn
   form-keeps form.NoForm e = absurd (opens-line checks (here .opens) h .parsed e)
-  form-keeps form.Text e = paged (lineStep (seen s₁) t (s .line) (s .feeds) (s .headings) body (s .page)) (P.step-keeps (seen s₁) t (s .line) (s .feeds) (s .headings) body g (s .page) c (record { next = i .next; most = omega (arith, i .next, i .sound .last-row); number = i .sound .number })) (plain (shaped Plain form.Text e refl))
+  form-keeps form.Text e = paged (lineStep (seen s₁) t (s .due .line) (s .layout .feeds) (s .layout .headings) body (s .page)) (P.step-keeps (seen s₁) t (s .due .line) (s .layout .feeds) (s .layout .headings) body g (s .page) c (record { next = i .next; most = omega (arith, i .next, i .sound .last-row); number = i .sound .number })) (plain (shaped Plain form.Text e refl))
   form-keeps (form.Section a b) e = let o = behind (nested-section checks here h (shaped Section (form.Section a b) e refl)) in record { sound = sound-cleared (o .sound); next = i .next }
-  form-keeps (form.Set o v a) e = sets-keep (setMeaning (seen s₁) body (s .line) o v a) (set-gives (seen s₁) body (s .line) o v a) (plain (shaped Plain (form.Set o v a) e refl))
-  form-keeps (form.IfZero a) e = tests-keep (zeroMeaning (seen s₁) body (s .line) true a) (zero-gives (seen s₁) body (s .line) true a) (shaped Test (form.IfZero a) e refl)
-  form-keeps (form.IfNonZero a) e = tests-keep (zeroMeaning (seen s₁) body (s .line) false a) (zero-gives (seen s₁) body (s .line) false a) (shaped Test (form.IfNonZero a) e refl)
-  form-keeps (form.Compare k a b) e = tests-keep (testMeaning (seen s₁) body (s .line) k a b) (test-gives (seen s₁) body (s .line) k a b) (shaped Test (form.Compare k a b) e refl)
-  form-keeps form.Else e = record { sound = sound-at wider (jumped t s₁ TestEnd .at) (jumped t s₁ TestEnd .line) (λ k. nested-else checks here h (shaped Else form.Else e refl) k); next = i .next }
+  form-keeps (form.Set o v a) e = sets-keep (setMeaning (seen s₁) body (s .due .line) o v a) (set-gives (seen s₁) body (s .due .line) o v a) (plain (shaped Plain (form.Set o v a) e refl))
+  form-keeps (form.IfZero a) e = tests-keep (zeroMeaning (seen s₁) body (s .due .line) true a) (zero-gives (seen s₁) body (s .due .line) true a) (shaped Test (form.IfZero a) e refl)
+  form-keeps (form.IfNonZero a) e = tests-keep (zeroMeaning (seen s₁) body (s .due .line) false a) (zero-gives (seen s₁) body (s .due .line) false a) (shaped Test (form.IfNonZero a) e refl)
+  form-keeps (form.Compare k a b) e = tests-keep (testMeaning (seen s₁) body (s .due .line) k a b) (test-gives (seen s₁) body (s .due .line) k a b) (shaped Test (form.Compare k a b) e refl)
+  form-keeps form.Else e = record { sound = sound-at wider (jumped t s₁ TestEnd .due .at) (jumped t s₁ TestEnd .due .line) (λ k. nested-else checks here h (shaped Else form.Else e refl) k); next = i .next }
   form-keeps form.EndIf e = behind (nested-end-test checks here h (shaped EndTest form.EndIf e refl))
-  form-keeps (form.BeginTable a) e = keeps-bind (pageLimit 60) (beginMeaning (seen s₁) body (s .line) (s .tables) (s₁ .at) (s₁ .line) a) (λ x. done (tableBegun t s₁ x)) c (λ x c′. Begun (s .tables) (s₁ .at) (s₁ .line) x × (c′ ≡ c)) (On t (g + 1)) (gives-keeps (pageLimit 60) (beginMeaning (seen s₁) body (s .line) (s .tables) (s₁ .at) (s₁ .line) a) c (Begun (s .tables) (s₁ .at) (s₁ .line)) (begin-gives (seen s₁) body (s .line) (s .tables) (s₁ .at) (s₁ .line) a)) (λ x c′ q. rw (q .1) (begins-keep x (shaped Table (form.BeginTable a) e refl) (q .0)))
-  form-keeps (form.EndTable k) e = keeps-bind (pageLimit 60) (endMeaning (seen s₁) body (s .line) (s .tables) k) (λ x. done (tableEnded s₁ x)) c (λ x c′. Counting (s .tables) x × (c′ ≡ c)) (On t (g + 1)) (gives-keeps (pageLimit 60) (endMeaning (seen s₁) body (s .line) (s .tables) k) c (Counting (s .tables)) (end-gives (seen s₁) body (s .line) (s .tables) k)) (λ x c′ q. rw (q .1) (ends-keep x (shaped EndTable (form.EndTable k) e refl) (q .0)))
-  form-keeps (form.Records f) e = sets-keep (recordsMeaning (seen s₁) (s .line) f) (records-gives (seen s₁) (s .line) f) (plain (shaped Plain (form.Records f) e refl))
-  form-keeps (form.Entries f) e = sets-keep (entriesMeaning (seen s₁) (s .line) f) (entries-gives (seen s₁) (s .line) f) (plain (shaped Plain (form.Entries f) e refl))
-  form-keeps (form.Datasource x) e = let o = plain (shaped Plain (form.Datasource x) e refl) in keeps-bind (pageLimit 60) (datasourceMeaning (seen s₁) (s .line) x) (λ d. done (withDatasource s₁ d)) c (λ d c′. Selectable d × (c′ ≡ c)) (On t (g + 1)) (gives-keeps (pageLimit 60) (datasourceMeaning (seen s₁) (s .line) x) c Selectable (datasource-gives (seen s₁) (s .line) x)) (λ d c′ q. record { sound = sound-datasource (o .sound) d (q .0 .high); next = i .next ∙ ap suc (sym (q .1)) })
+  form-keeps (form.BeginTable a) e = keeps-bind (pageLimit 60) (beginMeaning (seen s₁) body (s .due .line) (s .tables) (s₁ .due .at) (s₁ .due .line) a) (λ x. done (tableBegun t s₁ x)) c (λ x c′. Begun (s .tables) (s₁ .due .at) (s₁ .due .line) x × (c′ ≡ c)) (On t (g + 1)) (gives-keeps (pageLimit 60) (beginMeaning (seen s₁) body (s .due .line) (s .tables) (s₁ .due .at) (s₁ .due .line) a) c (Begun (s .tables) (s₁ .due .at) (s₁ .due .line)) (begin-gives (seen s₁) body (s .due .line) (s .tables) (s₁ .due .at) (s₁ .due .line) a)) (λ x c′ q. rw (q .1) (begins-keep x (shaped Table (form.BeginTable a) e refl) (q .0)))
+  form-keeps (form.EndTable k) e = keeps-bind (pageLimit 60) (endMeaning (seen s₁) body (s .due .line) (s .tables) k) (λ x. done (tableEnded s₁ x)) c (λ x c′. Counting (s .tables) x × (c′ ≡ c)) (On t (g + 1)) (gives-keeps (pageLimit 60) (endMeaning (seen s₁) body (s .due .line) (s .tables) k) c (Counting (s .tables)) (end-gives (seen s₁) body (s .due .line) (s .tables) k)) (λ x c′ q. rw (q .1) (ends-keep x (shaped EndTable (form.EndTable k) e refl) (q .0)))
+  form-keeps (form.Records f) e = sets-keep (recordsMeaning (seen s₁) (s .due .line) f) (records-gives (seen s₁) (s .due .line) f) (plain (shaped Plain (form.Records f) e refl))
+  form-keeps (form.Entries f) e = sets-keep (entriesMeaning (seen s₁) (s .due .line) f) (entries-gives (seen s₁) (s .due .line) f) (plain (shaped Plain (form.Entries f) e refl))
+  form-keeps (form.Datasource x) e = let o = plain (shaped Plain (form.Datasource x) e refl) in keeps-bind (pageLimit 60) (datasourceMeaning (seen s₁) (s .due .line) x) (λ d. done (withDatasource s₁ d)) c (λ d c′. Selectable d × (c′ ≡ c)) (On t (g + 1)) (gives-keeps (pageLimit 60) (datasourceMeaning (seen s₁) (s .due .line) x) c Selectable (datasource-gives (seen s₁) (s .due .line) x)) (λ d c′ q. record { sound = sound-datasource (o .sound) d (q .0 .high); next = i .next ∙ ap suc (sym (q .1)) })
   form-keeps form.NoFormFeed e = record { sound = sound-feeds (plain (shaped Plain form.NoFormFeed e refl) .sound) false; next = i .next }
   form-keeps (form.NewPage n) e = pages-keep n (plain (shaped Plain (form.NewPage n) e refl))
-  form-keeps (form.Heading n from) e = record { sound = sound-heading (plain (shaped Plain (form.Heading n from) e refl) .sound) n (record { start = s .at; length = length body; from = from; number = s .line }) (line-heading t (s .at) n (s .line) from (omega (arith, here .number)) e (opens-line checks (here .opens) h .short)); next = i .next }
+  form-keeps (form.Heading n from) e = record { sound = sound-heading (plain (shaped Plain (form.Heading n from) e refl) .sound) n (record { start = s .due .at; length = length body; from = from; number = s .due .line }) (line-heading t (s .due .at) n (s .due .line) from (omega (arith, here .number)) e (opens-line checks (here .opens) h .short)); next = i .next }
   form-keeps (form.NoHeading n) e = record { sound = sound-heading (plain (shaped Plain (form.NoHeading n) e refl) .sound) n noHeading (blank-heading t); next = i .next }
   form-keeps form.Remark e = behind (nested-remark checks here h (shaped Remark form.Remark e refl))
 

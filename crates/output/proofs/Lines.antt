@@ -3,7 +3,7 @@ use mathlib.Core.Path.{_≡_, refl}
 use mathlib.Core.Bool.{Bool, true, false, cond}
 use mathlib.Core.List.{List, [], _∷_}
 use mathlib.Core.Option.{Option, none, some}
-use Prim.Native.Nat.{ℕ, zero, suc, _+_, _-_}
+use Prim.Native.Nat.{ℕ, zero, suc, _+_}
 use native.Mathlib.Omega.{arith}
 use borrow.Author.Tests.{leb-false}
 use lib.Dec.{leb, ltb, eqb}
@@ -18,7 +18,6 @@ use Rattle.texts.specs.declared.text.FieldRead.the-variants.{FieldTo, NoField}
 use Rattle.texts.specs.readers.Text.{fieldAt, placed, pieceAt, before, piecesWithin, textPieces}
 use Rattle.texts.specs.Pieces.{read, piecesOf}
 use Rattle.meaning.specs.Each.{Each}
-use Rattle.meaning.specs.Event as E
 use Rattle.meaning.specs.Tree.{done, bind}
 use Rattle.meaning.proofs.Yielding.{Yields, yields-bind}
 use Rattle.questions.specs.Machine.{Machine}
@@ -34,7 +33,7 @@ use Rattle.pages.proofs.Counting.{values-give}
 use Rattle.output.specs.Printable.{Printable, Clean, fed, silent}
 use Rattle.output.proofs.Bytes.{each-take, each-append, each-at}
 use Rattle.output.proofs.Fields.{WorthClean, field-clean}
-use Rattle.output.proofs.Values.{AnswerClean, MachineClean, argument-clean}
+use Rattle.output.proofs.Values.{AnswerClean, VariablesClean, argument-clean}
 use Rattle.output.proofs.Saying.{Says, says-bind, asks-say}
 
 -- ---- the pieces of a text
@@ -89,14 +88,14 @@ rendered-clean (Plain b ∷ ps) ws h k = (h .0, rendered-clean ps ws (h .1) k)
 rendered-clean (Placed f ∷ ps) [] h k = tt
 rendered-clean (Placed f ∷ ps) (w ∷ ws) h k = each-append Printable (fieldBytes (f .width) (f .places) w) (rendered ps ws) (field-clean (f .width) (f .places) w (k .0)) (rendered-clean ps ws (h .1) (k .1))
 
-values-clean : (m : Machine) → MachineClean m → (l : List ℕ) → Clean l → (n : ℕ) (ps : List Piece) → Yields AnswerClean (fieldValues m l n ps) (Each WorthClean)
+values-clean : (m : Machine) → VariablesClean (m .variables) → (l : List ℕ) → Clean l → (n : ℕ) (ps : List Piece) → Yields AnswerClean (fieldValues m l n ps) (Each WorthClean)
 values-clean m h l c n [] = tt
 values-clean m h l c n (Plain b ∷ ps) = values-clean m h l c n ps
 values-clean m h l c n (Placed f ∷ ps) =
     yields-bind AnswerClean (argumentMeaning m l n (f .argument)) (λ w. bind (fieldValues m l n ps) (λ ws. done (w ∷ ws))) WorthClean (Each WorthClean) (argument-clean m n h l c (f .argument)) (λ w i.
     yields-bind AnswerClean (fieldValues m l n ps) (λ ws. done (w ∷ ws)) (Each WorthClean) (Each WorthClean) (values-clean m h l c n ps) (λ ws j. (i, j)))
 
-text-says : (m : Machine) → MachineClean m → (l : List ℕ) → Clean l → (from n : ℕ) → Says (textMeaning m l from n) (λ _. Unit {0})
+text-says : (m : Machine) → VariablesClean (m .variables) → (l : List ℕ) → Clean l → (from n : ℕ) → Says (textMeaning m l from n) (λ _. Unit {0})
 unfolding textMeaning
 text-says m h l c from n =
     says-bind (fieldValues m l n (piecesOf l from)) (λ ws. printed n (anyWrong ws) (rendered (piecesOf l from) ws)) (Each WorthClean) (λ _. Unit {0})
@@ -107,13 +106,10 @@ text-says m h l c from n =
     go true b k = tt
     go false b k = (record { text = b; ends = refl; clean = k }, tt)
 
-module _ (m : Machine) (h : MachineClean m) where
-  on-clean : (p : Page) → MachineClean (on m p)
-  on-clean p = record { strings = h .strings; records = h .records; entries = h .entries }
-
+module _ (m : Machine) (h : VariablesClean (m .variables)) where
   say-says : (l : List ℕ) → Clean l → (from n : ℕ) (p : Page) → Says (sayMeaning m l from n p) Anything
   unfolding sayMeaning
-  say-says l c from n p = says-bind (textMeaning (on m p) l from n) (λ _. done (advancedOf p)) (λ _. Unit {0}) Anything (text-says (on m p) (on-clean p) l c from n) (λ _ _. tt)
+  say-says l c from n p = says-bind (textMeaning (on m p) l from n) (λ _. done (advancedOf p)) (λ _. Unit {0}) Anything (text-says (on m p) h l c from n) (λ _ _. tt)
 
   module _ (t : List ℕ) (due : ℕ) where
     heads-say : (hs : List Heading) → Each (λ x. Clean (headLine t x)) hs → (p : Page) → Says (headsMeaning m t due hs p) Anything
@@ -144,7 +140,7 @@ turn-says due feeds p = go (ltb 60 (p .line))
     go false = tt
 
 -- A text line with what comes before it.
-pub step-says : (m : Machine) → MachineClean m → (t : List ℕ) (due : ℕ) (feeds : Bool) (hs : List Heading) → Each (λ x. Clean (headLine t x)) hs → (l : List ℕ) → Clean l → (p : Page) → Says (lineStep m t due feeds hs l p) Anything
+pub step-says : (m : Machine) → VariablesClean (m .variables) → (t : List ℕ) (due : ℕ) (feeds : Bool) (hs : List Heading) → Each (λ x. Clean (headLine t x)) hs → (l : List ℕ) → Clean l → (p : Page) → Says (lineStep m t due feeds hs l p) Anything
 unfolding lineStep
 step-says m h t due feeds hs k l c p =
     says-bind (turnMeaning due feeds p) (λ p₁. bind (topMeaning m t due hs p₁) (λ p₂. sayMeaning m l 0 due p₂)) Anything Anything (turn-says due feeds p) (λ p₁ _.

@@ -36,7 +36,7 @@ use Rattle.meaning.specs.Meaning.{Meaning}
 use Rattle.meaning.specs.declared.question.Question.{Question}
 use Rattle.meaning.specs.declared.refusal.Refusal.the-variants.{TooManyLines, BadStore}
 use Rattle.meaning.proofs.Yielding.{Yields, yields-any}
-use Rattle.questions.specs.Machine.{Machine}
+use Rattle.questions.specs.Machine.{Variables}
 use Rattle.questions.specs.Source.{answers}
 use Rattle.values.proofs.Giving.{Gives, Anything}
 use Rattle.coercions.specs.Settling.{integerMeaning}
@@ -51,22 +51,23 @@ use Rattle.pages.specs.declared.page.Page.{Page}
 use Rattle.pages.specs.declared.heading.Heading.{Heading}
 use Rattle.pages.specs.Heading.{noHeading}
 use Rattle.pages.specs.Page.{headLine, breakMeaning, lineStep}
-use Rattle.control.specs.State.{State, seen, withPlace, withMachine, withDatasource, withTables, withPage}
+use Rattle.control.specs.State.{State, seen, withPlace, withVariables, withDatasource, withTables, withPage, noVariables}
 use Rattle.control.specs.Line.{past, jumped, setting, branched, testing, tableBegun, tableEnded, breaking, breakingFor, newPageMeaning, headed, formMeaning, lineMeaning}
 use Rattle.execution.proofs.Sounds.{each-same}
 use Rattle.runs.specs.Report.{runFrom, startOf, runMeaning, Outcome, refusedWith, checkedOutcome, reportOf}
 use Rattle.output.specs.Printable.{Clean, Proper}
 use Rattle.output.proofs.Bytes.{Permitted, bytes-permitted, line-clean}
-use Rattle.output.proofs.Values.{AnswerClean, MachineClean, set-clean, records-clean, entries-clean}
+use Rattle.output.proofs.Values.{AnswerClean, VariablesClean, set-clean, records-clean, entries-clean}
 use Rattle.output.proofs.Saying.{Says, says-bind, asks-say, says-events}
 use Rattle.output.proofs.Lines.{break-says, step-says}
 
 -- SV, R and T, and the $PH lines of the headings
 record StateClean (t : List ℕ) (s : State) : Type 0 where
-  strings : Each Clean (s .strings)
-  records : Each (Each AnswerClean) (s .records)
-  entries : Each (Each AnswerClean) (s .entries)
-  heads : Each (λ h. Clean (headLine t h)) (s .headings)
+  variables : VariablesClean (s .variables)
+  heads : Each (λ h. Clean (headLine t h)) (s .layout .headings)
+
+variables-none : VariablesClean noVariables
+variables-none = record { strings = each-same Clean 99 [] tt; records = each-same (Each AnswerClean) 10 [] tt; entries = each-same (Each AnswerClean) 10 [] tt }
 
 blank-clean : (t : List ℕ) → Clean (headLine t noHeading)
 unfolding headLine
@@ -85,20 +86,17 @@ module _ (t : List ℕ) (whole : Each Permitted t) (at l : ℕ) (s : State) (h :
   abbrev body : List ℕ
   body = lineAt t at
 
-  machine : MachineClean (seen s)
-  machine = record { strings = h .strings; records = h .records; entries = h .entries }
-
   place-clean : (k n : ℕ) → StateClean t (withPlace s k n)
-  place-clean k n = record { strings = h .strings; records = h .records; entries = h .entries; heads = h .heads }
+  place-clean k n = record { variables = h .variables; heads = h .heads }
 
   tables-clean : (x : Looping) (k n : ℕ) → StateClean t (withPlace (withTables s (x .tables)) k n)
-  tables-clean x k n = record { strings = h .strings; records = h .records; entries = h .entries; heads = h .heads }
+  tables-clean x k n = record { variables = h .variables; heads = h .heads }
 
   page-clean : (p : Page) → StateClean t (withPage s p)
-  page-clean p = record { strings = h .strings; records = h .records; entries = h .entries; heads = h .heads }
+  page-clean p = record { variables = h .variables; heads = h .heads }
 
   head-set : (n : ℕ) (x : Heading) → Clean (headLine t x) → StateClean t (headed s n x)
-  head-set n x c = record { strings = h .strings; records = h .records; entries = h .entries; heads = C.numbered-each (λ y. Clean (headLine t y)) (s .headings) n x c (h .heads) }
+  head-set n x c = record { variables = h .variables; heads = C.numbered-each (λ y. Clean (headLine t y)) (s .layout .headings) n x c (h .heads) }
 
   -- a command that only asks
   asked : {A : Type 0} (m : Meaning A) (Θ Φ : A → Type 0) → Gives m Θ → Yields AnswerClean m Φ → (f : A → State) → ((a : A) → Φ a → StateClean t (f a)) → Says (bind m (λ a. done (f a))) (StateClean t)
@@ -108,8 +106,8 @@ module _ (t : List ℕ) (whole : Each Permitted t) (at l : ℕ) (s : State) (h :
   only-asks : {A : Type 0} (m : Meaning A) (Θ : A → Type 0) → Gives m Θ → (f : A → State) → ((a : A) → StateClean t (f a)) → Says (bind m (λ a. done (f a))) (StateClean t)
   only-asks m Θ g f k = asked m Θ (λ _. Unit {0}) g (yields-any AnswerClean m) f (λ a _. k a)
 
-  set-says : (m : Meaning Machine) (Θ : Machine → Type 0) → Gives m Θ → Yields AnswerClean m MachineClean → Says (setting s m) (StateClean t)
-  set-says m Θ g y = asked m Θ MachineClean g y (withMachine s) (λ x c. record { strings = c .strings; records = c .records; entries = c .entries; heads = h .heads })
+  set-says : (m : Meaning Variables) (Θ : Variables → Type 0) → Gives m Θ → Yields AnswerClean m VariablesClean → Says (setting s m) (StateClean t)
+  set-says m Θ g y = asked m Θ VariablesClean g y (withVariables s) (λ x c. record { variables = c; heads = h .heads })
 
   test-says : (m : Meaning Bool) → Gives m Anything → Says (testing t s m) (StateClean t)
   unfolding branched
@@ -140,7 +138,7 @@ module _ (t : List ℕ) (whole : Each Permitted t) (at l : ℕ) (s : State) (h :
 
   breaks-say : Says (breaking l s) (StateClean t)
   unfolding breaking
-  breaks-say = paged (breakMeaning l (s .feeds) (s .page)) (break-says l (s .feeds) (s .page))
+  breaks-say = paged (breakMeaning l (s .layout .feeds) (s .page)) (break-says l (s .layout .feeds) (s .page))
 
   np-says : (n : Optional) → Says (newPageMeaning l body s n) (StateClean t)
   unfolding newPageMeaning breakingFor
@@ -155,20 +153,20 @@ module _ (t : List ℕ) (whole : Each Permitted t) (at l : ℕ) (s : State) (h :
   form-says : (f : Line) → Says (formMeaning t at l body s f) (StateClean t)
   unfolding formMeaning
   form-says form.NoForm = h
-  form-says form.Text = paged (lineStep (seen s) t l (s .feeds) (s .headings) body (s .page)) (step-says (seen s) machine t l (s .feeds) (s .headings) (h .heads) body (line-clean t whole at) (s .page))
-  form-says (form.Section a b) = record { strings = each-same Clean 99 [] tt; records = each-same (Each AnswerClean) 10 [] tt; entries = each-same (Each AnswerClean) 10 [] tt; heads = each-same (λ x. Clean (headLine t x)) 9 noHeading (blank-clean t) }
-  form-says (form.Set o v a) = set-says (setMeaning (seen s) body l o v a) (Shaped (seen s)) (set-gives (seen s) body l o v a) (set-clean (seen s) machine l body (line-clean t whole at) o v a)
+  form-says form.Text = paged (lineStep (seen s) t l (s .layout .feeds) (s .layout .headings) body (s .page)) (step-says (seen s) (h .variables) t l (s .layout .feeds) (s .layout .headings) (h .heads) body (line-clean t whole at) (s .page))
+  form-says (form.Section a b) = record { variables = variables-none; heads = each-same (λ x. Clean (headLine t x)) 9 noHeading (blank-clean t) }
+  form-says (form.Set o v a) = set-says (setMeaning (seen s) body l o v a) (Shaped (s .variables)) (set-gives (seen s) body l o v a) (set-clean (seen s) (h .variables) l body (line-clean t whole at) o v a)
   form-says (form.IfZero a) = test-says (zeroMeaning (seen s) body l true a) (zero-gives (seen s) body l true a)
   form-says (form.IfNonZero a) = test-says (zeroMeaning (seen s) body l false a) (zero-gives (seen s) body l false a)
   form-says (form.Compare k a b) = test-says (testMeaning (seen s) body l k a b) (test-gives (seen s) body l k a b)
   form-says form.Else = place-clean _ _
   form-says form.EndIf = h
-  form-says (form.BeginTable a) = only-asks (beginMeaning (seen s) body l (s .tables) (s .at) (s .line) a) (Begun (s .tables) (s .at) (s .line)) (begin-gives (seen s) body l (s .tables) (s .at) (s .line) a) (tableBegun t s) begun-clean
+  form-says (form.BeginTable a) = only-asks (beginMeaning (seen s) body l (s .tables) (s .due .at) (s .due .line) a) (Begun (s .tables) (s .due .at) (s .due .line)) (begin-gives (seen s) body l (s .tables) (s .due .at) (s .due .line) a) (tableBegun t s) begun-clean
   form-says (form.EndTable k) = only-asks (endMeaning (seen s) body l (s .tables) k) (Counting (s .tables)) (end-gives (seen s) body l (s .tables) k) (tableEnded s) ended-clean
-  form-says (form.Records f) = set-says (recordsMeaning (seen s) l f) (Shaped (seen s)) (records-gives (seen s) l f) (records-clean (seen s) machine l f)
-  form-says (form.Entries f) = set-says (entriesMeaning (seen s) l f) (Shaped (seen s)) (entries-gives (seen s) l f) (entries-clean (seen s) machine l f)
-  form-says (form.Datasource x) = only-asks (datasourceMeaning (seen s) l x) Selectable (datasource-gives (seen s) l x) (withDatasource s) (λ d. record { strings = h .strings; records = h .records; entries = h .entries; heads = h .heads })
-  form-says form.NoFormFeed = record { strings = h .strings; records = h .records; entries = h .entries; heads = h .heads }
+  form-says (form.Records f) = set-says (recordsMeaning (seen s) l f) (Shaped (s .variables)) (records-gives (seen s) l f) (records-clean (seen s) (h .variables) l f)
+  form-says (form.Entries f) = set-says (entriesMeaning (seen s) l f) (Shaped (s .variables)) (entries-gives (seen s) l f) (entries-clean (seen s) (h .variables) l f)
+  form-says (form.Datasource x) = only-asks (datasourceMeaning (seen s) l x) Selectable (datasource-gives (seen s) l x) (withDatasource s) (λ d. record { variables = h .variables; heads = h .heads })
+  form-says form.NoFormFeed = record { variables = h .variables; heads = h .heads }
   form-says (form.NewPage n) = np-says n
   form-says (form.Heading n from) = head-set n (record { start = at; length = length body; from = from; number = l }) (head-clean t whole at from l)
   form-says (form.NoHeading n) = head-set n noHeading (blank-clean t)
@@ -176,23 +174,23 @@ module _ (t : List ℕ) (whole : Each Permitted t) (at l : ℕ) (s : State) (h :
 
 line-says : (t : List ℕ) → Each Permitted t → (s : State) → StateClean t s → Says (lineMeaning t s) (StateClean t)
 unfolding lineMeaning
-line-says t whole s h = form-says t whole (s .at) (s .line) (past s (length (lineAt t (s .at)))) (record { strings = h .strings; records = h .records; entries = h .entries; heads = h .heads }) (parseLine (lineAt t (s .at)))
+line-says t whole s h = form-says t whole (s .due .at) (s .due .line) (past s (length (lineAt t (s .due .at)))) (record { variables = h .variables; heads = h .heads }) (parseLine (lineAt t (s .due .at)))
 
 run-says : (n : ℕ) (t : List ℕ) → Each Permitted t → (end : ℕ) (s : State) → StateClean t s → Says (runFrom n t end s) (StateClean t)
 unfolding runFrom
-run-says zero t whole end s h = by (ltb (s .at) end)
+run-says zero t whole end s h = by (ltb (s .due .at) end)
   where
-    by : (b : Bool) → Says (cond {A = Meaning State} b (stop TooManyLines (s .line)) (done s)) (StateClean t)
+    by : (b : Bool) → Says (cond {A = Meaning State} b (stop TooManyLines (s .due .line)) (done s)) (StateClean t)
     by true = tt
     by false = h
-run-says (suc n) t whole end s h = by (ltb (s .at) end) (λ s′ k. run-says n t whole end s′ k)
+run-says (suc n) t whole end s h = by (ltb (s .due .at) end) (λ s′ k. run-says n t whole end s′ k)
   where
     by : (b : Bool) → ((s′ : State) → StateClean t s′ → Says (runFrom n t end s′) (StateClean t)) → Says (cond {A = Meaning State} b (bind (lineMeaning t s) (runFrom n t end)) (done s)) (StateClean t)
     by true k = says-bind (lineMeaning t s) (runFrom n t end) (StateClean t) (StateClean t) (line-says t whole s h) k
     by false k = h
 
 start-clean : (t : List ℕ) (r : Run) → StateClean t (startOf r)
-start-clean t r = record { strings = each-same Clean 99 [] tt; records = each-same (Each AnswerClean) 10 [] tt; entries = each-same (Each AnswerClean) 10 [] tt; heads = each-same (λ x. Clean (headLine t x)) 9 noHeading (blank-clean t) }
+start-clean t r = record { variables = variables-none; heads = each-same (λ x. Clean (headLine t x)) 9 noHeading (blank-clean t) }
 
 -- What a store answers is printable where it is a string.
 bytes-clean : (s : List ℕ) → printable s ≡ true → Clean s

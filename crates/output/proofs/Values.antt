@@ -23,7 +23,7 @@ use Rattle.lines.specs.declared.command.Operation.{Operation}
 use Rattle.lines.specs.declared.command.Target.{Target}
 use Rattle.lines.specs.declared.command.Target.the-variants.{IntegerTarget, DecimalTarget, StringTarget}
 use Rattle.questions.specs.declared.fetch.Along.the-variants.{Records, Entries}
-use Rattle.questions.specs.Machine.{Machine, numbered}
+use Rattle.questions.specs.Machine.{Machine, numbered, Variables}
 use Rattle.values.specs.Worth.{Worth, missing, wrong, number, string, answered, ranged, absolute, filteredNumber, filteredString, filtered, kindOf}
 use Rattle.questions.specs.Asking.{cellMeaning}
 use Rattle.questions.specs.Fetching.{element, fetchMeaning}
@@ -45,10 +45,10 @@ AnswerClean (cell (A.string s)) = Clean s
 AnswerClean (highest n) = Unit {0}
 
 -- the strings that a machine holds
-pub record MachineClean (m : Machine) : Type 0 where
-  pub strings : Each Clean (m .strings)
-  pub records : Each (Each AnswerClean) (m .records)
-  pub entries : Each (Each AnswerClean) (m .entries)
+pub record VariablesClean (v : Variables) : Type 0 where
+  pub strings : Each Clean (v .strings)
+  pub records : Each (Each AnswerClean) (v .records)
+  pub entries : Each (Each AnswerClean) (v .entries)
 
 -- ---- arguments
 
@@ -101,19 +101,19 @@ module _ (m : Machine) (line : ℕ) where
   cell-clean : (kind p : ℕ) (i j : Index) → Yields AnswerClean (worthOf (cellMeaning m line kind p i j)) WorthClean
   cell-clean = cell-has AnswerClean WorthClean answered-clean m line
 
-  module _ (h : MachineClean m) (s : List ℕ) (c : Clean s) where
+  module _ (h : VariablesClean (m .variables)) (s : List ℕ) (c : Clean s) where
     operand-clean : (kind : ℕ) (o : Operand) → Yields AnswerClean (operandMeaning m s line kind o) WorthClean
     unfolding operandMeaning
     operand-clean kind (Number q) = tt
     operand-clean kind (Text a e) = each-take Printable (e - a) (drop a s) (each-drop Printable a s c)
     operand-clean kind (IntegerVariable n) = tt
     operand-clean kind (DecimalVariable n) = tt
-    operand-clean kind (StringVariable n) = numbered-each Clean [] (m .strings) n tt (h .strings)
+    operand-clean kind (StringVariable n) = numbered-each Clean [] (m .variables .strings) n tt (h .strings)
     operand-clean kind PageNumber = tt
     operand-clean kind LineNumber = tt
     operand-clean kind LoopCounter = tt
-    operand-clean kind (RecordElement n) = answered-clean _ (element-clean (numbered [] (m .records) n) (m .counter) (numbered-each (Each AnswerClean) [] (m .records) n tt (h .records)))
-    operand-clean kind (EntryElement n) = answered-clean _ (element-clean (numbered [] (m .entries) n) (m .counter) (numbered-each (Each AnswerClean) [] (m .entries) n tt (h .entries)))
+    operand-clean kind (RecordElement n) = answered-clean _ (element-clean (numbered [] (m .variables .records) n) (m .counter) (numbered-each (Each AnswerClean) [] (m .variables .records) n tt (h .records)))
+    operand-clean kind (EntryElement n) = answered-clean _ (element-clean (numbered [] (m .variables .entries) n) (m .counter) (numbered-each (Each AnswerClean) [] (m .variables .entries) n tt (h .entries)))
     operand-clean kind (Parameter p) = cell-clean kind p (Fixed 0) (Fixed 0)
     operand-clean kind (Record p r) = cell-clean kind p r (Fixed 0)
     operand-clean kind (Entry p r e) = cell-clean kind p r e
@@ -146,30 +146,30 @@ string-new wrong h = tt
 string-new (number q) h = tt
 string-new (string s) h = each-take Printable 16 s h
 
-stored-clean : (l : List (List ℕ)) (n : ℕ) (x : Settled (List ℕ)) → Each Clean l → Whenever x Clean → (f : List (List ℕ) → Machine) → ((k : List (List ℕ)) → Each Clean k → MachineClean (f k)) → Whenever (andThen (stored l n x) (λ k. settled (f k))) MachineClean
+stored-clean : (l : List (List ℕ)) (n : ℕ) (x : Settled (List ℕ)) → Each Clean l → Whenever x Clean → (f : List (List ℕ) → Variables) → ((k : List (List ℕ)) → Each Clean k → VariablesClean (f k)) → Whenever (andThen (stored l n x) (λ k. settled (f k))) VariablesClean
 unfolding stored
 stored-clean l n (settled s) h c f g = g (setNumbered l n s) (C.numbered-each Clean l n s c h)
 stored-clean l n (against e) h c f g = tt
 
-module _ (m : Machine) (h : MachineClean m) where
-  set-of : (o : Operation) (t : Target) (w : Worth) → WorthClean w → Whenever (setOf m o t w) MachineClean
+module _ (v : Variables) (h : VariablesClean v) where
+  set-of : (o : Operation) (t : Target) (w : Worth) → WorthClean w → Whenever (setOf v o t w) VariablesClean
   unfolding setOf
-  set-of o (IntegerTarget n) w k = then-always (stored (m .integers) n (integerNew o (numbered (pos 0) (m .integers) n) w)) _ MachineClean (λ l. record { strings = h .strings; records = h .records; entries = h .entries })
-  set-of o (DecimalTarget n) w k = then-always (stored (m .decimals) n (decimalNew o (numbered (pos 0) (m .decimals) n) w)) _ MachineClean (λ l. record { strings = h .strings; records = h .records; entries = h .entries })
-  set-of o (StringTarget n) w k = stored-clean (m .strings) n (stringNew w) (h .strings) (string-new w k) (withStrings m) (λ l a. record { strings = a; records = h .records; entries = h .entries })
+  set-of o (IntegerTarget n) w k = then-always (stored (v .integers) n (integerNew o (numbered (pos 0) (v .integers) n) w)) _ VariablesClean (λ l. record { strings = h .strings; records = h .records; entries = h .entries })
+  set-of o (DecimalTarget n) w k = then-always (stored (v .decimals) n (decimalNew o (numbered (pos 0) (v .decimals) n) w)) _ VariablesClean (λ l. record { strings = h .strings; records = h .records; entries = h .entries })
+  set-of o (StringTarget n) w k = stored-clean (v .strings) n (stringNew w) (h .strings) (string-new w k) (withStrings v) (λ l a. record { strings = a; records = h .records; entries = h .entries })
 
-  pub set-clean : (line : ℕ) (s : List ℕ) → Clean s → (o : Operation) (t : Target) (a : Argument) → Yields AnswerClean (setMeaning m s line o t a) MachineClean
-  unfolding setMeaning
-  set-clean line s c o t a =
-      yields-bind AnswerClean (argumentMeaning m s line a) (λ w. concluded line (setOf m o t w)) WorthClean MachineClean (argument-clean m line h s c a) (λ w k. concluded-clean line (setOf m o t w) MachineClean (set-of o t w k))
+pub set-clean : (m : Machine) → VariablesClean (m .variables) → (line : ℕ) (s : List ℕ) → Clean s → (o : Operation) (t : Target) (a : Argument) → Yields AnswerClean (setMeaning m s line o t a) VariablesClean
+unfolding setMeaning
+set-clean m h line s c o t a =
+    yields-bind AnswerClean (argumentMeaning m s line a) (λ w. concluded line (setOf (m .variables) o t w)) WorthClean VariablesClean (argument-clean m line h s c a) (λ w k. concluded-clean line (setOf (m .variables) o t w) VariablesClean (set-of (m .variables) h o t w k))
 
 -- ---- $REC and $TBL
 
-module _ (m : Machine) (h : MachineClean m) (line : ℕ) (f : Fetch) where
-  pub records-clean : Yields AnswerClean (recordsMeaning m line f) MachineClean
+module _ (m : Machine) (h : VariablesClean (m .variables)) (line : ℕ) (f : Fetch) where
+  pub records-clean : Yields AnswerClean (recordsMeaning m line f) VariablesClean
   unfolding recordsMeaning
-  records-clean = yields-bind AnswerClean (fetchMeaning m line Records (f .parameter) (f .first) (f .second) (f .count)) _ (Each AnswerClean) MachineClean (fetch-has AnswerClean m line Records (f .parameter) (f .first) (f .second) (f .count)) (λ l k. record { strings = h .strings; records = C.numbered-each (Each AnswerClean) (m .records) (f .number) l k (h .records); entries = h .entries })
+  records-clean = yields-bind AnswerClean (fetchMeaning m line Records (f .parameter) (f .first) (f .second) (f .count)) _ (Each AnswerClean) VariablesClean (fetch-has AnswerClean m line Records (f .parameter) (f .first) (f .second) (f .count)) (λ l k. record { strings = h .strings; records = C.numbered-each (Each AnswerClean) (m .variables .records) (f .number) l k (h .records); entries = h .entries })
 
-  pub entries-clean : Yields AnswerClean (entriesMeaning m line f) MachineClean
+  pub entries-clean : Yields AnswerClean (entriesMeaning m line f) VariablesClean
   unfolding entriesMeaning
-  entries-clean = yields-bind AnswerClean (fetchMeaning m line Entries (f .parameter) (f .first) (f .second) (f .count)) _ (Each AnswerClean) MachineClean (fetch-has AnswerClean m line Entries (f .parameter) (f .first) (f .second) (f .count)) (λ l k. record { strings = h .strings; records = h .records; entries = C.numbered-each (Each AnswerClean) (m .entries) (f .number) l k (h .entries) })
+  entries-clean = yields-bind AnswerClean (fetchMeaning m line Entries (f .parameter) (f .first) (f .second) (f .count)) _ (Each AnswerClean) VariablesClean (fetch-has AnswerClean m line Entries (f .parameter) (f .first) (f .second) (f .count)) (λ l k. record { strings = h .strings; records = h .records; entries = C.numbered-each (Each AnswerClean) (m .variables .entries) (f .number) l k (h .entries) })

@@ -1,8 +1,7 @@
 -- In a machine in range every field of a text has the bytes that document 01 defines: the asterisks of `orStars` are not met.
-use mathlib.Core.Path.{_≡_, refl, sym, ap, _∙_}
-use mathlib.Core.Bool.{true}
+use mathlib.Core.Path.{_≡_}
 use mathlib.Core.List.{List, [], _∷_}
-use mathlib.Core.Option.{Option, none, some}
+use mathlib.Core.Option.{some}
 use Prim.Native.Nat.{ℕ, _≤_}
 use borrow.Author.Tests.{le-leb}
 use Rattle.meaning.specs.Tree.{done, bind}
@@ -62,4 +61,4 @@ module _ (m : Machine) (h : MachineWithin m) (l : List ℕ) (line : ℕ) where
 
 -- "Heading fields are worked out at that moment": the machine on a page in range is in range.
 pub on-within : (m : Machine) (p : Page) → MachineWithin m → p .number ≤ integerLimit → p .line ≤ integerLimit → MachineWithin (on m p)
-on-within m p h a b = record { integers = h .integers; decimals = h .decimals; strings = h .strings; records = h .records; entries = h .entries; counter = h .counter; page = a; row = b; integer-count = h .integer-count; decimal-count = h .decimal-count; string-count = h .string-count; record-count = h .record-count; entry-count = h .entry-count }
+on-within m p h a b = record { variables = h .variables; counter = h .counter; page = a; row = b }

@@ -27,18 +27,7 @@ advancedOf p = record { number = p .number; line = p .line + 1 }
 
 -- the machine, with the page of this moment: "Heading fields are worked out at that moment"
 abbrev pub on : Machine → Page → Machine
-on m p =
-    record {
-      integers = m .integers;
-      decimals = m .decimals;
-      strings = m .strings;
-      counter = m .counter;
-      records = m .records;
-      entries = m .entries;
-      datasource = m .datasource;
-      page = p .number;
-      row = p .line;
-    }
+on m p = record { variables = m .variables; counter = m .counter; datasource = m .datasource; page = p .number; row = p .line }
 
 -- the line l on the page, whose text starts at `from`; refusals name `line`
 unfoldable pub sayMeaning : Machine → List ℕ → ℕ → ℕ → Page → Meaning Page

@@ -24,7 +24,7 @@ use Rattle.rendering.specs.Text.{textMeaning}
 use Rattle.pages.specs.Page.{newPage, sayMeaning, headLine, headFrom, headNumber, headMeaning, highestOf, breakMeaning, turnMeaning, topMeaning, lineStep}
 
 abbrev sample : Machine
-sample = record { integers = []; decimals = []; strings = []; counter = pos 0; records = []; entries = []; datasource = 1; page = 1; row = 1 }
+sample = record { variables = record { integers = []; decimals = []; strings = []; records = []; entries = [] }; counter = pos 0; datasource = 1; page = 1; row = 1 }
 
 abbrev none : List Heading
 none = replicate 9 noHeading

@@ -79,10 +79,10 @@ both line true true r e f = refl
 both line true false r e f = refl
 both line false u r e f = refl
 
-pub cell-is : (m : Machine) (line kind p : ℕ) (i j : Index) → cellMeaning m line kind p i j ≡ cellAt line (m .datasource) kind p (placeOf (indexNumber (m .integers) (m .counter) i)) (placeOf (indexNumber (m .integers) (m .counter) j))
+pub cell-is : (m : Machine) (line kind p : ℕ) (i j : Index) → cellMeaning m line kind p i j ≡ cellAt line (m .datasource) kind p (placeOf (indexNumber (m .variables .integers) (m .counter) i)) (placeOf (indexNumber (m .variables .integers) (m .counter) j))
 unfolding cellMeaning indexValue cellAt
 cell-is m line kind p i j =
-    let x = indexNumber (m .integers) (m .counter) i in
-    let y = indexNumber (m .integers) (m .counter) j in
+    let x = indexNumber (m .variables .integers) (m .counter) i in
+    let y = indexNumber (m .variables .integers) (m .counter) j in
     ap₂ (λ (t u : Meaning ℕ). bind t (λ r. bind u (λ e. asks line (question (m .datasource) kind p r e)))) (limited-is line x) (limited-is line y)
     ∙ both line (leb (placeOf x) 999) (leb (placeOf y) 999) (placeOf x) (placeOf y) (λ r e. asks line (question (m .datasource) kind p r e))

@@ -1,7 +1,7 @@
 -- The elements of $REC and $TBL.
 use mathlib.Core.Path.{_≡_, refl, sym, ap, ap₂, _∙_}
 use mathlib.Core.Bool.{Bool, true, false, cond, _&&_}
-use mathlib.Core.List.{List, [], _∷_, _++_, map}
+use mathlib.Core.List.{List, [], _∷_, _++_}
 use Prim.Native.Nat.{ℕ, zero, suc, _+_, _*_, _-_, _/_, _%_, _≤_, _<_}
 use native.Mathlib.Nat.{suc-mul, le-antisymm}
 use native.Mathlib.Numerals.{add-one}
@@ -16,7 +16,7 @@ use Rattle.cells.proofs.BigEndian.{and-true}
 use Rattle.meaning.specs.Answer.{Answer}
 use Rattle.meaning.specs.Tree.{done, stop, bind}
 use Rattle.meaning.specs.Meaning.{Meaning, asksEach}
-use Rattle.meaning.specs.Place.{at, Does}
+use Rattle.meaning.specs.Place.{at}
 use Rattle.meaning.specs.declared.question.Question.{Question}
 use Rattle.meaning.specs.declared.refusal.Refusal.the-variants.{BadIndex}
 use Rattle.meaning.specs.declared.refusal.Overflow.the-variants.{ReadList}
@@ -210,12 +210,12 @@ all-four line true true false y r e n f = refl
 all-four line true false v y r e n f = refl
 all-four line false u v y r e n f = refl
 
-fetch-is : (m : Machine) (line : ℕ) (along : Along) (c : ℕ) (i j k : Index) → fetchMeaning m line along c i j k ≡ fetchAt line (m .datasource) along c (placeOf (indexNumber (m .integers) (m .counter) i)) (placeOf (indexNumber (m .integers) (m .counter) j)) (placeOf (indexNumber (m .integers) (m .counter) k))
+fetch-is : (m : Machine) (line : ℕ) (along : Along) (c : ℕ) (i j k : Index) → fetchMeaning m line along c i j k ≡ fetchAt line (m .datasource) along c (placeOf (indexNumber (m .variables .integers) (m .counter) i)) (placeOf (indexNumber (m .variables .integers) (m .counter) j)) (placeOf (indexNumber (m .variables .integers) (m .counter) k))
 unfolding fetchMeaning indexValue asksElements fetchAt fetchAllowed
 fetch-is m line along c i j k =
-    let x = indexNumber (m .integers) (m .counter) i in
-    let y = indexNumber (m .integers) (m .counter) j in
-    let z = indexNumber (m .integers) (m .counter) k in
+    let x = indexNumber (m .variables .integers) (m .counter) i in
+    let y = indexNumber (m .variables .integers) (m .counter) j in
+    let z = indexNumber (m .variables .integers) (m .counter) k in
     rw (limited-is line x, limited-is line y, counted-is line z) (all-four line (leb (placeOf x) 999) (leb (placeOf y) 999) (leb (placeOf z) 64) (λ r e n. leb (firstOf along r e + n) 1000) (placeOf x) (placeOf y) (placeOf z) (λ r e n. asksEach line (elementQuestions (elementQuestion (m .datasource) along c r e) 0 n)))
 
 pub fetch-value : (numbers : List ℤ) (sc : Scene) (along : Along) (c : ℕ) (i j k : Index) (log : List ℕ) (a p : ℕ) (log′ : List ℕ) (v : Fetched) (r e n : ℕ) (z z′ z″ : ℤ) → z ≡ sc .turn → z′ ≡ sc .turn → z″ ≡ sc .turn → r ≡ placeOf (indexNumber (integersIn numbers) z i) → e ≡ placeOf (indexNumber (integersIn numbers) z′ j) → n ≡ placeOf (indexNumber (integersIn numbers) z″ k) → FetchAt (sc .number) (sc .datasource) along c r e n log a p log′ v → FetchValue numbers sc along c i j k log a p log′ v

@@ -45,7 +45,7 @@ asksElements m line along p r e n =
 -- `$REC n Pm record entry count`, `$TBL` along entries
 unfoldable pub fetchMeaning : Machine → ℕ → Along → ℕ → Index → Index → Index → Meaning (List Answer)
 fetchMeaning m line along p i j c =
-    bind (indexValue m line i) (λ r. bind (indexValue m line j) (λ e. bind (countValue line (indexNumber (m .integers) (m .counter) c)) (λ n. asksElements m line along p r e n)))
+    bind (indexValue m line i) (λ r. bind (indexValue m line j) (λ e. bind (countValue line (indexNumber (m .variables .integers) (m .counter) c)) (λ n. asksElements m line along p r e n)))
 
 -- "Rn and Tn give element LOOP, missing outside 1–count"
 unfoldable pub element : List Answer → ℤ → Answer

@@ -23,4 +23,4 @@ limited line (pos k) = cond (leb k 999) (done k) (stop BadIndex line)
 limited line (negsuc k) = stop BadIndex line
 
 unfoldable pub indexValue : Machine → ℕ → Index → Meaning ℕ
-indexValue m line i = limited line (indexNumber (m .integers) (m .counter) i)
+indexValue m line i = limited line (indexNumber (m .variables .integers) (m .counter) i)

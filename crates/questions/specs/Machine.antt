@@ -6,15 +6,18 @@ use lib.ListN.{getD}
 use Rattle.meaning.specs.Answer.{Answer}
 
 -- IV1, FV1, SV1, R1 and T1 are the first of their lists
-pub record Machine : Type 0 where
+pub record Variables : Type 0 where
   pub integers : List ℤ
   pub decimals : List ℤ
   pub strings : List (List ℕ)
-  -- "LOOP is the innermost table's counter, 0 outside"
-  pub counter : ℤ
   -- what $REC and $TBL fetched
   pub records : List (List Answer)
   pub entries : List (List Answer)
+
+pub record Machine : Type 0 where
+  pub variables : Variables
+  -- "LOOP is the innermost table's counter, 0 outside"
+  pub counter : ℤ
   -- "the selected datasource"
   pub datasource : ℕ
   -- PAGENUM

@@ -1,19 +1,17 @@
 -- What holds between lines holds before the first line of an accepted template's run.
 use mathlib.Core.Path.{_≡_, refl}
-use mathlib.Core.List.{List, []}
+use mathlib.Core.List.{List}
 use Prim.Native.Nat.{ℕ}
 use native.Mathlib.Omega.{arith}
-use lib.IntN.{pos}
 use lib.ListN.{length-replicate}
 use Rattle.template.specs.declared.Run.{Run}
 use Rattle.template.specs.declared.Checked.the-variants.{Accepted}
 use Rattle.template.specs.Order.{templateChecked}
 use Rattle.template.proofs.Accepted.{accepted-runs}
-use Rattle.meaning.specs.Answer.{Answer}
 use Rattle.pages.specs.Heading.{noHeading}
 use Rattle.control.specs.inner.Sound.{Fit}
 use Rattle.execution.proofs.Places.{none-open}
-use Rattle.execution.proofs.Sounds.{On, each-same, blank-heading}
+use Rattle.execution.proofs.Sounds.{On, each-same, blank-heading, full-none}
 use Rattle.runs.specs.Report.{startOf}
 use Rattle.stretches.specs.inner.Stretch.{Standing}
 
@@ -29,11 +27,7 @@ start-on t name r e =
         first-row = omega arith;
         last-row = omega arith;
         datasource = omega arith;
-        integers = length-replicate 99 (pos 0);
-        decimals = length-replicate 99 (pos 0);
-        strings = length-replicate {A = List ℕ} 99 [];
-        records = length-replicate {A = List Answer} 10 [];
-        entries = length-replicate {A = List Answer} 10 [];
+        variables = full-none;
         headings = length-replicate 9 noHeading;
         heads = each-same (Fit t) 9 noHeading (blank-heading t);
       };

@@ -1,10 +1,9 @@
 -- A run, and a report: number, line, pages, text and questions.
-use mathlib.Core.Bool.{true, cond}
+use mathlib.Core.Bool.{cond}
 use mathlib.Core.List.{List, []}
 use Prim.Native.Nat.{ℕ, zero, suc, _+_}
 use lib.Dec.{ltb}
-use lib.IntN.{pos}
-use lib.ListN.{length, replicate}
+use lib.ListN.{length}
 use Rattle.template.specs.declared.Run.{Run}
 use Rattle.template.specs.declared.Checked.{Checked}
 use Rattle.template.specs.declared.Checked.the-variants.{Accepted, Refused}
@@ -21,33 +20,26 @@ use Rattle.meaning.specs.declared.question.Question.{Question}
 use Rattle.meaning.specs.declared.refusal.Refusal.{Refusal}
 use Rattle.meaning.specs.declared.refusal.Refusal.the-variants.{TooManyLines, BadStore}
 use Rattle.questions.specs.Source.{answers}
-use Rattle.pages.specs.Heading.{noHeading}
 use Rattle.pages.specs.Page.{newPage}
 use Rattle.runs.specs.declared.Report.{Report}
-use Rattle.control.specs.State.{State}
+use Rattle.control.specs.State.{State, noVariables, noLayout}
 use Rattle.control.specs.Line.{lineMeaning}
 
 -- the lines up to a place of the template, where n may still be executed. 7: "50,000 lines were executed and another is due,
 -- which is named."
 unfoldable pub runFrom : ℕ → List ℕ → ℕ → State → Meaning State
-runFrom zero t end s = cond (ltb (s .at) end) (stop TooManyLines (s .line)) (done s)
-runFrom (suc n) t end s = cond (ltb (s .at) end) (bind (lineMeaning t s) (runFrom n t end)) (done s)
+runFrom zero t end s = cond (ltb (s .due .at) end) (stop TooManyLines (s .due .line)) (done s)
+runFrom (suc n) t end s = cond (ltb (s .due .at) end) (bind (lineMeaning t s) (runFrom n t end)) (done s)
 
 -- where a run starts: "Cells ask in the selected datasource, 1 at the start."; "PAGENUM starts at 1"
 abbrev pub startOf : Run → State
 startOf r =
     record {
-      at = r .start;
-      line = r .line;
-      integers = replicate 99 (pos 0);
-      decimals = replicate 99 (pos 0);
-      strings = replicate 99 [];
-      records = replicate 10 [];
-      entries = replicate 10 [];
+      due = record { at = r .start; line = r .line };
+      variables = noVariables;
       datasource = 1;
       tables = [];
-      headings = replicate 9 noHeading;
-      feeds = true;
+      layout = noLayout;
       page = newPage;
     }
 

@@ -1,7 +1,7 @@
 -- Arguments within their limits, and $REC and $TBL, ask only questions within theirs: `ask` would answer none of them with 15.
 use mathlib.Core.Path.{_≡_, refl}
 use mathlib.Core.Bool.{Bool, true, false, cond, false≢true}
-use mathlib.Core.List.{List, [], _∷_}
+use mathlib.Core.List.{List, _∷_}
 use Prim.Native.Nat.{ℕ, zero, suc, _+_, _≤_, _<_}
 use native.Mathlib.Omega.{arith}
 use borrow.Author.Tests.{le-leb, leb-true}
@@ -96,11 +96,11 @@ limited-low line (pos k) = go (leb k 999) refl
 module _ (m : Machine) (line : ℕ) where
   index-asks : (i : Index) → AsksAllowed (indexValue m line i)
   unfolding indexValue
-  index-asks i = limited-low line (indexNumber (m .integers) (m .counter) i) .0
+  index-asks i = limited-low line (indexNumber (m .variables .integers) (m .counter) i) .0
 
   index-low : (i : Index) → Yields AnswerWithin (indexValue m line i) Low
   unfolding indexValue
-  index-low i = limited-low line (indexNumber (m .integers) (m .counter) i) .1
+  index-low i = limited-low line (indexNumber (m .variables .integers) (m .counter) i) .1
 
   -- "absent parts 0"
   absent : Yields AnswerWithin (indexValue m line (Fixed 0)) (λ k. k ≡ 0)
@@ -170,7 +170,7 @@ unfolding fetchMeaning asksElements
 fetch-asks m line along p i j c d b =
     asks-bind AnswerWithin Allowed (indexValue m line i) _ Low (index-asks m line i) (index-low m line i) (λ r x.
     asks-bind AnswerWithin Allowed (indexValue m line j) _ Low (index-asks m line j) (index-low m line j) (λ e y.
-    asks-then AnswerWithin Allowed (countValue line (indexNumber (m .integers) (m .counter) c)) _ (count-asks line (indexNumber (m .integers) (m .counter) c)) (λ n.
+    asks-then AnswerWithin Allowed (countValue line (indexNumber (m .variables .integers) (m .counter) c)) _ (count-asks line (indexNumber (m .variables .integers) (m .counter) c)) (λ n.
     by r e n x y (leb (firstOf along r e + n) 1000) refl)))
   where
     by : (r e n : ℕ) → r ≤ 999 → e ≤ 999 → (t : Bool) → leb (firstOf along r e + n) 1000 ≡ t → AsksAllowed (cond {A = Meaning (List Answer)} t (asksEach line (elementQuestions (elementQuestion (m .datasource) along p r e) 0 n)) (stop BadIndex line))

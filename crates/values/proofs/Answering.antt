@@ -39,7 +39,7 @@ module _ (P : Answer → Type 0) where
   fetch-has m line along p i j c =
       yields-bind P (indexValue m line i) _ (λ _. Unit {0}) (Each P) (yields-any P (indexValue m line i)) (λ r h.
       yields-bind P (indexValue m line j) _ (λ _. Unit {0}) (Each P) (yields-any P (indexValue m line j)) (λ e k.
-      yields-bind P (countValue line (indexNumber (m .integers) (m .counter) c)) _ (λ _. Unit {0}) (Each P) (yields-any P (countValue line (indexNumber (m .integers) (m .counter) c))) (λ n l.
+      yields-bind P (countValue line (indexNumber (m .variables .integers) (m .counter) c)) _ (λ _. Unit {0}) (Each P) (yields-any P (countValue line (indexNumber (m .variables .integers) (m .counter) c))) (λ n l.
       by (leb (firstOf along r e + n) 1000) (asksEach line (elementQuestions (elementQuestion (m .datasource) along p r e) 0 n)) (each-has line _))))
     where
       by : (b : Bool) (t : Meaning (List Answer)) → Yields P t (Each P) → Yields P (cond b t (stop BadIndex line)) (Each P)

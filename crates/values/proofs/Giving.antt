@@ -72,7 +72,7 @@ limited-gives line (pos k) = stops-or (leb k 999) (done k) BadIndex line Anythin
 
 index-gives : (m : Machine) (line : ℕ) (i : Index) → Gives (indexValue m line i) Anything
 unfolding indexValue
-index-gives m line i = limited-gives line (indexNumber (m .integers) (m .counter) i)
+index-gives m line i = limited-gives line (indexNumber (m .variables .integers) (m .counter) i)
 
 cell-gives : (m : Machine) (line kind p : ℕ) (i j : Index) → Gives (worthOf (cellMeaning m line kind p i j)) Anything
 unfolding worthOf cellMeaning asks
@@ -119,5 +119,5 @@ unfolding fetchMeaning asksElements
 fetch-gives m line along p i j c =
     gives-bind (indexValue m line i) _ Anything Anything (index-gives m line i) (λ r h.
     gives-bind (indexValue m line j) _ Anything Anything (index-gives m line j) (λ e k.
-    gives-bind (countValue line (indexNumber (m .integers) (m .counter) c)) _ Anything Anything (count-gives line (indexNumber (m .integers) (m .counter) c)) (λ n l.
+    gives-bind (countValue line (indexNumber (m .variables .integers) (m .counter) c)) _ Anything Anything (count-gives line (indexNumber (m .variables .integers) (m .counter) c)) (λ n l.
     stops-or (leb (firstOf along r e + n) 1000) (asksEach line (elementQuestions (elementQuestion (m .datasource) along p r e) 0 n)) BadIndex line Anything (each-gives line _))))

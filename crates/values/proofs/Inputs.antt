@@ -1,5 +1,5 @@
 -- The arguments of a line: one law for each way that they end.
-use mathlib.Core.Path.{_≡_, refl}
+use mathlib.Core.Path.{_≡_}
 use mathlib.Core.List.{List}
 use Prim.Native.Nat.{ℕ, _+_, _≤_}
 use native.Mathlib.Omega.{arith}
@@ -29,7 +29,7 @@ use Rattle.values.specs.declared.working.Inputs.the-variants.{None, One,
 use Rattle.values.specs.Worth.{Worth, missing}
 use Rattle.values.specs.Meanings.{argumentMeaning}
 use Rattle.values.specs.inner.Yielding.{meant, ArgumentValue}
-use Rattle.values.specs.inner.Working.{Worths, worths, inputsMeaning, firstParameter, secondParameter, Workable, WorksOut}
+use Rattle.values.specs.inner.Working.{worths, inputsMeaning, firstParameter, secondParameter, Workable, WorksOut}
 
 -- ---- what the calls require
 

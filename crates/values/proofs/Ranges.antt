@@ -27,7 +27,7 @@ use Rattle.arguments.specs.declared.operand.Operand.the-variants.{Number, Text,
 use Rattle.arguments.proofs.Parsed.{Between, QuantityWithin, IndexWithin, OperandWithin, ArgumentWithin}
 use Rattle.strings.specs.Letters.{upper}
 use Rattle.questions.specs.declared.fetch.Along.{Along}
-use Rattle.questions.specs.Machine.{Machine, numbered}
+use Rattle.questions.specs.Machine.{Variables, Machine, numbered}
 use Rattle.questions.specs.Asking.{cellMeaning}
 use Rattle.questions.specs.Fetching.{element, fetchMeaning}
 use Rattle.questions.specs.Source.{answers}
@@ -52,21 +52,24 @@ WorthWithin wrong = Unit {0}
 WorthWithin (number q) = QuantityWithin q
 WorthWithin (string s) = Short s
 
--- a machine in range, with as many variables as there are
+-- c of them, each with P
+pub record All {A : Type 0} (P : A → Type 0) (c : ℕ) (l : List A) : Type 0 where
+  pub each : Each P l
+  pub count : length l ≡ c
+
+-- variables in range, as many as there are
+pub record VariablesWithin (v : Variables) : Type 0 where
+  pub integers : All IntegerWithin 99 (v .integers)
+  pub decimals : All DecimalWithin 99 (v .decimals)
+  pub strings : All Short 99 (v .strings)
+  pub records : All (Each AnswerWithin) 10 (v .records)
+  pub entries : All (Each AnswerWithin) 10 (v .entries)
+
 pub record MachineWithin (m : Machine) : Type 0 where
-  pub integers : Each IntegerWithin (m .integers)
-  pub decimals : Each DecimalWithin (m .decimals)
-  pub strings : Each Short (m .strings)
-  pub records : Each (Each AnswerWithin) (m .records)
-  pub entries : Each (Each AnswerWithin) (m .entries)
+  pub variables : VariablesWithin (m .variables)
   pub counter : IntegerWithin (m .counter)
   pub page : m .page ≤ integerLimit
   pub row : m .row ≤ integerLimit
-  pub integer-count : length (m .integers) ≡ 99
-  pub decimal-count : length (m .decimals) ≡ 99
-  pub string-count : length (m .strings) ≡ 99
-  pub record-count : length (m .records) ≡ 10
-  pub entry-count : length (m .entries) ≡ 10
 
 -- ---- the n-th of a list
 
@@ -177,16 +180,16 @@ module _ (m : Machine) (line : ℕ) where
     unfolding operandMeaning
     operand-within kind (Number q) b = b
     operand-within kind (Text a e) b = omega (arith, length-take (e - a) (drop a s), b .short)
-    operand-within kind (IntegerVariable n) b = numbered-each IntegerWithin (pos 0) (m .integers) n (omega arith) (h .integers)
-    operand-within kind (DecimalVariable n) b = numbered-each DecimalWithin (pos 0) (m .decimals) n (omega arith) (h .decimals)
-    operand-within kind (StringVariable n) b = numbered-each Short [] (m .strings) n (omega arith) (h .strings)
+    operand-within kind (IntegerVariable n) b = numbered-each IntegerWithin (pos 0) (m .variables .integers) n (omega arith) (h .variables .integers .each)
+    operand-within kind (DecimalVariable n) b = numbered-each DecimalWithin (pos 0) (m .variables .decimals) n (omega arith) (h .variables .decimals .each)
+    operand-within kind (StringVariable n) b = numbered-each Short [] (m .variables .strings) n (omega arith) (h .variables .strings .each)
     operand-within kind PageNumber b = h .page
     operand-within kind LineNumber b = h .row
     operand-within kind LoopCounter b = h .counter
     operand-within kind (RecordElement n) b =
-        answered-within (element (numbered [] (m .records) n) (m .counter)) (element-within (numbered [] (m .records) n) (m .counter) (numbered-each (Each AnswerWithin) [] (m .records) n tt (h .records)))
+        answered-within (element (numbered [] (m .variables .records) n) (m .counter)) (element-within (numbered [] (m .variables .records) n) (m .counter) (numbered-each (Each AnswerWithin) [] (m .variables .records) n tt (h .variables .records .each)))
     operand-within kind (EntryElement n) b =
-        answered-within (element (numbered [] (m .entries) n) (m .counter)) (element-within (numbered [] (m .entries) n) (m .counter) (numbered-each (Each AnswerWithin) [] (m .entries) n tt (h .entries)))
+        answered-within (element (numbered [] (m .variables .entries) n) (m .counter)) (element-within (numbered [] (m .variables .entries) n) (m .counter) (numbered-each (Each AnswerWithin) [] (m .variables .entries) n tt (h .variables .entries .each)))
     operand-within kind (Parameter p) b = cell-within kind p (Fixed 0) (Fixed 0)
     operand-within kind (Record p r) b = cell-within kind p r (Fixed 0)
     operand-within kind (Entry p r e) b = cell-within kind p r e
@@ -206,20 +209,20 @@ module _ (m : Machine) (line : ℕ) where
 -- what is read by a number doesn't depend on what would stand for a number that there is none of
 abbrev pub IndexThere : Machine → Index → Type 0
 IndexThere m (Fixed n) = Unit {0}
-IndexThere m (Variable n) = (d : ℤ) → numbered (pos 0) (m .integers) n ≡ numbered d (m .integers) n
+IndexThere m (Variable n) = (d : ℤ) → numbered (pos 0) (m .variables .integers) n ≡ numbered d (m .variables .integers) n
 IndexThere m Loop = Unit {0}
 
 abbrev pub There : Machine → Operand → Type 0
 There m (Number q) = Unit {0}
 There m (Text a e) = Unit {0}
-There m (IntegerVariable n) = (d : ℤ) → numbered (pos 0) (m .integers) n ≡ numbered d (m .integers) n
-There m (DecimalVariable n) = (d : ℤ) → numbered (pos 0) (m .decimals) n ≡ numbered d (m .decimals) n
-There m (StringVariable n) = (d : List ℕ) → numbered [] (m .strings) n ≡ numbered d (m .strings) n
+There m (IntegerVariable n) = (d : ℤ) → numbered (pos 0) (m .variables .integers) n ≡ numbered d (m .variables .integers) n
+There m (DecimalVariable n) = (d : ℤ) → numbered (pos 0) (m .variables .decimals) n ≡ numbered d (m .variables .decimals) n
+There m (StringVariable n) = (d : List ℕ) → numbered [] (m .variables .strings) n ≡ numbered d (m .variables .strings) n
 There m PageNumber = Unit {0}
 There m LineNumber = Unit {0}
 There m LoopCounter = Unit {0}
-There m (RecordElement n) = (d : List Answer) → numbered [] (m .records) n ≡ numbered d (m .records) n
-There m (EntryElement n) = (d : List Answer) → numbered [] (m .entries) n ≡ numbered d (m .entries) n
+There m (RecordElement n) = (d : List Answer) → numbered [] (m .variables .records) n ≡ numbered d (m .variables .records) n
+There m (EntryElement n) = (d : List Answer) → numbered [] (m .variables .entries) n ≡ numbered d (m .variables .entries) n
 There m (Parameter p) = Unit {0}
 There m (Record p r) = IndexThere m r
 There m (Entry p r e) = IndexThere m r × IndexThere m e
@@ -230,21 +233,21 @@ counted l c n e h = record { least = h .least; most = omega (arith, h .most) }
 module _ (m : Machine) (h : MachineWithin m) where
   pub index-there : (i : Index) → IndexWithin i → IndexThere m i
   index-there (Fixed n) b = tt
-  index-there (Variable n) b = λ d. numbered-there (pos 0) d (m .integers) n (counted (m .integers) 99 n (h .integer-count) b)
+  index-there (Variable n) b = λ d. numbered-there (pos 0) d (m .variables .integers) n (counted (m .variables .integers) 99 n (h .variables .integers .count) b)
   index-there Loop b = tt
 
   -- A variable that a parsed line names is one of the machine's.
   pub operand-there : (s : List ℕ) (o : Operand) → OperandWithin s o → There m o
   operand-there s (Number q) b = tt
   operand-there s (Text a e) b = tt
-  operand-there s (IntegerVariable n) b = λ d. numbered-there (pos 0) d (m .integers) n (counted (m .integers) 99 n (h .integer-count) b)
-  operand-there s (DecimalVariable n) b = λ d. numbered-there (pos 0) d (m .decimals) n (counted (m .decimals) 99 n (h .decimal-count) b)
-  operand-there s (StringVariable n) b = λ d. numbered-there [] d (m .strings) n (counted (m .strings) 99 n (h .string-count) b)
+  operand-there s (IntegerVariable n) b = λ d. numbered-there (pos 0) d (m .variables .integers) n (counted (m .variables .integers) 99 n (h .variables .integers .count) b)
+  operand-there s (DecimalVariable n) b = λ d. numbered-there (pos 0) d (m .variables .decimals) n (counted (m .variables .decimals) 99 n (h .variables .decimals .count) b)
+  operand-there s (StringVariable n) b = λ d. numbered-there [] d (m .variables .strings) n (counted (m .variables .strings) 99 n (h .variables .strings .count) b)
   operand-there s PageNumber b = tt
   operand-there s LineNumber b = tt
   operand-there s LoopCounter b = tt
-  operand-there s (RecordElement n) b = λ d. numbered-there [] d (m .records) n (counted (m .records) 10 n (h .record-count) b)
-  operand-there s (EntryElement n) b = λ d. numbered-there [] d (m .entries) n (counted (m .entries) 10 n (h .entry-count) b)
+  operand-there s (RecordElement n) b = λ d. numbered-there [] d (m .variables .records) n (counted (m .variables .records) 10 n (h .variables .records .count) b)
+  operand-there s (EntryElement n) b = λ d. numbered-there [] d (m .variables .entries) n (counted (m .variables .entries) 10 n (h .variables .entries .count) b)
   operand-there s (Parameter p) b = tt
   operand-there s (Record p r) b = index-there r (b .1)
   operand-there s (Entry p r e) b = (index-there r (b .1), index-there e (b .2))

@@ -10,8 +10,7 @@ use Rattle.meaning.specs.declared.end.Ended.{Ended}
 use Rattle.lines.specs.declared.command.Operation.{Operation}
 use Rattle.lines.specs.declared.command.Target.{Target}
 use Rattle.strings.specs.inner.Texts.{strings}
-use Rattle.questions.specs.declared.scene.Scene.{Scene}
-use Rattle.questions.specs.inner.State.{texts, bank, lengthsIn, Held, machine}
+use Rattle.questions.specs.inner.State.{texts, bank, lengthsIn, headingsIn, tablesIn, Held, variablesOf}
 use Rattle.values.specs.declared.worth.Worth as W
 use Rattle.values.specs.inner.Yielding.{meant}
 use Rattle.coercions.specs.declared.settle.Taken.{Taken}
@@ -48,7 +47,7 @@ pub record StoresString (line store : List ℕ) (rows : List (List ℕ)) (words 
 
 -- a value given to a variable of any kind: what `assigned` says, by all that it is handed and hands back
 pub record Assigns (line store : List ℕ) (vars : Held) (number : ℕ) (o : Operation) (t : Target) (w : W.Worth) (vars′ : Held) (end : Ended) : Type 0 where
-  pub concludes : (source : Question → Answer) (scene : Scene) → Concludes (setOf (machine source vars scene) o t (meant (strings line store (vars .rows)) w)) number (machine source vars′ scene) end
+  pub concludes : (source : Question → Answer) → Concludes (setOf (variablesOf source vars) o t (meant (strings line store (vars .rows)) w)) number (variablesOf source vars′) end
   pub held : Rowed (vars′ .rows)
-  pub headings : vars′ .headings ≡ vars .headings
-  pub tables : vars′ .tables ≡ vars .tables
+  pub headings : headingsIn (vars′ .words) ≡ headingsIn (vars .words)
+  pub tables : tablesIn (vars′ .words) ≡ tablesIn (vars .words)

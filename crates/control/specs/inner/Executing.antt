@@ -15,7 +15,7 @@ use Rattle.questions.specs.declared.scene.Scene.{Scene}
 use Rattle.questions.specs.inner.Word.{questions}
 use Rattle.questions.specs.Machine.{Machine}
 use Rattle.questions.specs.Source.{answers}
-use Rattle.questions.specs.inner.State.{Held, machine}
+use Rattle.questions.specs.inner.State.{decimalsIn, headingsIn, tablesIn, Held, machine}
 use Rattle.arguments.specs.declared.argument.Argument.{Argument}
 use Rattle.lines.specs.declared.command.Line.{Line}
 use Rattle.lines.specs.declared.command.Line.the-variants.{BeginTable}
@@ -46,7 +46,7 @@ machineIn b h s = machine (sourceOf b) h s
 
 -- as many rows
 abbrev pub SameRows : Held → Held → Type 0
-SameRows h h′ = (length (h′ .rows) ≡ length (h .rows)) × (length (h′ .tables) ≡ length (h .tables))
+SameRows h h′ = (length (h′ .rows) ≡ length (h .rows)) × (length (tablesIn (h′ .words)) ≡ length (tablesIn (h .words)))
 
 -- From the flow f, with a text filled up to u and a log up to a, m led to r, with `most` questions at most, and to h′ in the lent rows.
 pub record Executes (most : ℕ) (m : Meaning State) (b : List ℕ) (h : Held) (f : Flow) (T : List ℕ) (u : ℕ) (log : List ℕ) (a p : ℕ) (h′ : Held) (T′ log′ : List ℕ) (r : Lined) : Type 0 where
@@ -62,7 +62,7 @@ pub record LineReady (b index : List ℕ) (t : List ℕ) (h : Held) (f : Flow) (
   pub sound : Sound t 50001 (stateAt b h f)
   pub inside : f .at < length t
   pub rows : length (h .rows) ≡ 99
-  pub table-words : length (h .tables) ≡ 20
+  pub table-words : length (tablesIn (h .words)) ≡ 20
   pub room : u ≤ length T
   pub places : a + 332 ≤ 512
 
@@ -70,7 +70,7 @@ pub record LineReady (b index : List ℕ) (t : List ℕ) (h : Held) (f : Flow) (
 pub record FormReady (body b index : List ℕ) (t : List ℕ) (h : Held) (scene : Scene) (start : ℕ) (f : Flow) (form : Line) (T : List ℕ) (u a : ℕ) : Type 0 where
   pub kept : Kept b index
   pub stored : length b ≤ 65536
-  pub scened : scene ≡ sceneOf (h .tables) f (scene .number)
+  pub scened : scene ≡ sceneOf (tablesIn (h .words)) f (scene .number)
   pub parsed : parsed.Sound body form
   pub short : length body ≤ 132
   pub template : length t ≤ 32768
@@ -82,14 +82,10 @@ pub record FormReady (body b index : List ℕ) (t : List ℕ) (h : Held) (scene 
   pub room-for-table : (x : Argument) → form ≡ BeginTable x → f .depth ≤ 4
   pub page : f .page .number ≤ 50001
   pub row : f .page .line ≤ 61
-  pub integers : length (h .integers) ≡ 99
-  pub decimals : length (h .decimals) ≡ 99
+  pub decimals : length (decimalsIn (h .numbers)) ≡ 99
   pub rows : length (h .rows) ≡ 99
-  pub table-words : length (h .tables) ≡ 20
-  pub lengths : length (h .lengths) ≡ 99
-  pub records : length (h .records) ≡ 10
-  pub entries : length (h .entries) ≡ 10
-  pub headings : length (h .headings) ≡ 9
-  pub heads : Each (Fit t) (headingsOf (h .headings))
+  pub table-words : length (tablesIn (h .words)) ≡ 20
+  pub headings : length (headingsIn (h .words)) ≡ 9
+  pub heads : Each (Fit t) (headingsOf (headingsIn (h .words)))
   pub room : u ≤ length T
   pub places : a + 330 ≤ 512

@@ -16,7 +16,7 @@ use Rattle.coercions.specs.Settling.{Settled, concluded, integerFrom}
 use Rattle.assignments.specs.Setting.{setOf}
 use Rattle.conditions.specs.Testing.{zeroJudged, compared}
 use Rattle.tables.specs.inner.Open.{beginFrom, endFrom}
-use Rattle.control.specs.State.{State, seen, withMachine}
+use Rattle.control.specs.State.{State, withVariables}
 use Rattle.control.specs.Line.{branched, tableBegun, tableEnded, breaking, breakingFor, formMeaning}
 
 unfoldable pub optionalInput : Optional → Inputs
@@ -57,14 +57,14 @@ unfoldable pub formWith : List ℕ → ℕ → ℕ → List ℕ → State → Li
 formWith t start l body s form.NoForm v = formMeaning t start l body s form.NoForm
 formWith t start l body s form.Text v = formMeaning t start l body s form.Text
 formWith t start l body s (form.Section a e) v = formMeaning t start l body s (form.Section a e)
-formWith t start l body s (form.Set o x a) v = settling l (setOf (seen s) o x (v .first)) (withMachine s)
+formWith t start l body s (form.Set o x a) v = settling l (setOf (s .variables) o x (v .first)) (withVariables s)
 formWith t start l body s (form.IfZero a) v = settling l (zeroJudged true (v .first)) (branched t s)
 formWith t start l body s (form.IfNonZero a) v = settling l (zeroJudged false (v .first)) (branched t s)
 formWith t start l body s (form.Compare c a b) v = settling l (compared c (v .first) (v .second)) (branched t s)
 formWith t start l body s form.Else v = formMeaning t start l body s form.Else
 formWith t start l body s form.EndIf v = formMeaning t start l body s form.EndIf
 formWith t start l body s (form.BeginTable a) v =
-    settling l (beginFrom (s .tables) (s .at) (s .line) (v .first)) (tableBegun t s)
+    settling l (beginFrom (s .tables) (s .due .at) (s .due .line) (v .first)) (tableBegun t s)
 formWith t start l body s (form.EndTable k) v = settling l (endFrom (s .tables) k (v .first)) (tableEnded s)
 formWith t start l body s (form.Records f) v = formMeaning t start l body s (form.Records f)
 formWith t start l body s (form.Entries f) v = formMeaning t start l body s (form.Entries f)

@@ -1,9 +1,7 @@
 -- The state that stands for what the code holds between two lines.
-use mathlib.Core.List.{map}
 use Rattle.meaning.specs.Answer.{Answer}
 use Rattle.meaning.specs.declared.question.Question.{Question}
-use Rattle.questions.specs.declared.fetch.Along.the-variants.{Records, Entries}
-use Rattle.questions.specs.inner.State.{texts, fetched, Held}
+use Rattle.questions.specs.inner.State.{headingsIn, tablesIn, Held, variablesOf}
 use Rattle.tables.specs.inner.Open.{opened}
 use Rattle.pages.specs.inner.Packed.{headingsOf}
 use Rattle.control.specs.declared.state.Flow.{Flow}
@@ -13,16 +11,10 @@ use Rattle.control.specs.State.{State}
 abbrev pub stateOf : (Question → Answer) → Held → Flow → State
 stateOf source h f =
     record {
-      at = f .at;
-      line = f .line;
-      integers = h .integers;
-      decimals = h .decimals;
-      strings = texts (h .rows) 0 (h .lengths);
-      records = map (fetched source Records) (h .records);
-      entries = map (fetched source Entries) (h .entries);
+      due = record { at = f .at; line = f .line };
+      variables = variablesOf source h;
       datasource = f .datasource;
-      tables = opened (h .tables) (f .depth);
-      headings = headingsOf (h .headings);
-      feeds = f .feeds;
+      tables = opened (tablesIn (h .words)) (f .depth);
+      layout = record { headings = headingsOf (headingsIn (h .words)); feeds = f .feeds };
       page = f .page;
     }

@@ -8,6 +8,7 @@ use Rattle.nesting.specs.Nest.{Mark, section, test, other, table}
 use Rattle.texts.specs.readers.Text.{textFits}
 use Rattle.template.specs.Opening.{Opens, Checks}
 use Rattle.meaning.specs.Each.{Each}
+use Rattle.questions.specs.Machine.{Variables}
 use Rattle.tables.specs.declared.table.Table.{Table}
 use Rattle.pages.specs.declared.heading.Heading.{Heading}
 use Rattle.pages.specs.Page.{headLine, headFrom}
@@ -35,18 +36,22 @@ pub record Fit (t : List ℕ) (h : Heading) : Type 0 where
   pub fits : textFits (headLine t h) (headFrom h) ≡ true
   pub short : length (headLine t h) ≤ 132
 
+-- as many variables as there are
+pub record Full (v : Variables) : Type 0 where
+  pub integers : length (v .integers) ≡ 99
+  pub decimals : length (v .decimals) ≡ 99
+  pub strings : length (v .strings) ≡ 99
+  pub records : length (v .records) ≡ 10
+  pub entries : length (v .entries) ≡ 10
+
 -- PAGENUM is at most g
 pub record Sound (t : List ℕ) (g : ℕ) (s : State) : Type 0 where
   pub checks : Checks t
-  pub nested : s .at < length t → Nested t (s .at) (s .line) (s .tables)
+  pub nested : s .due .at < length t → Nested t (s .due .at) (s .due .line) (s .tables)
   pub number : s .page .number ≤ g
   pub first-row : 1 ≤ s .page .line
   pub last-row : s .page .line ≤ 61
   pub datasource : s .datasource ≤ 35
-  pub integers : length (s .integers) ≡ 99
-  pub decimals : length (s .decimals) ≡ 99
-  pub strings : length (s .strings) ≡ 99
-  pub records : length (s .records) ≡ 10
-  pub entries : length (s .entries) ≡ 10
-  pub headings : length (s .headings) ≡ 9
-  pub heads : Each (Fit t) (s .headings)
+  pub variables : Full (s .variables)
+  pub headings : length (s .layout .headings) ≡ 9
+  pub heads : Each (Fit t) (s .layout .headings)

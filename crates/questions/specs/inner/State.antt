@@ -10,7 +10,7 @@ use Rattle.questions.specs.declared.scene.Scene.{Scene}
 use Rattle.questions.specs.declared.fetch.Along.{Along}
 use Rattle.questions.specs.declared.fetch.Along.the-variants.{Records, Entries}
 use Rattle.questions.specs.inner.Word.{questions}
-use Rattle.questions.specs.Machine.{Machine}
+use Rattle.questions.specs.Machine.{Variables, Machine}
 
 -- SV1, SV2, …: as many bytes of each row as its length says, from the row behind k on
 unfoldable pub texts : List (List ℕ) → ℕ → List ℕ → List (List ℕ)
@@ -41,19 +41,17 @@ fetched source along f = map source (questions (wordsFrom (stepOf along) (firstW
 unfoldable pub bank : {A : Type 0} → ℕ → ℕ → List A → List A
 bank from n l = take n (drop from l)
 
--- the registers between two lines: IV and FV; SV by its bytes and lengths; R, T and headings, each as one number;
--- the open tables, each as four
+-- the rows that are lent: IV and FV; SV's bytes; the lengths of SV, R, T, headings and open tables
 pub record Held : Type 0 where
-  pub integers : List ℤ
-  pub decimals : List ℤ
+  pub numbers : List ℤ
   pub rows : List (List ℕ)
-  pub lengths : List ℕ
-  pub records : List ℕ
-  pub entries : List ℕ
-  pub headings : List ℕ
-  pub tables : List ℕ
+  pub words : List ℕ
 
--- The rows that are lent: numbers are IV, then FV; words are the lengths of SV, then R, T, the headings and the open tables.
+abbrev pub held : List ℤ → List (List ℕ) → List ℕ → Held
+held numbers rows words = record { numbers = numbers; rows = rows; words = words }
+
+-- Numbers are IV, then FV; words are the lengths of SV, then R, T and the headings, each as one number, and the open tables,
+-- each as four.
 abbrev pub integersIn : List ℤ → List ℤ
 integersIn numbers = bank 0 99 numbers
 
@@ -75,30 +73,18 @@ headingsIn words = bank 119 9 words
 abbrev pub tablesIn : List ℕ → List ℕ
 tablesIn words = bank 128 20 words
 
-abbrev pub held : List ℤ → List (List ℕ) → List ℕ → Held
-held numbers rows words =
+-- the variables that the rows stand for, with the source that R and T were answered by
+abbrev pub variablesOf : (Question → Answer) → Held → Variables
+variablesOf source h =
     record {
-      integers = integersIn numbers;
-      decimals = decimalsIn numbers;
-      rows = rows;
-      lengths = lengthsIn words;
-      records = recordsIn words;
-      entries = entriesIn words;
-      headings = headingsIn words;
-      tables = tablesIn words;
+      integers = integersIn (h .numbers);
+      decimals = decimalsIn (h .numbers);
+      strings = texts (h .rows) 0 (lengthsIn (h .words));
+      records = map (fetched source Records) (recordsIn (h .words));
+      entries = map (fetched source Entries) (entriesIn (h .words));
     }
 
 -- the machine that the code's state stands for
 abbrev pub machine : (Question → Answer) → Held → Scene → Machine
-machine source vars s =
-    record {
-      integers = vars .integers;
-      decimals = vars .decimals;
-      strings = texts (vars .rows) 0 (vars .lengths);
-      counter = s .turn;
-      records = map (fetched source Records) (vars .records);
-      entries = map (fetched source Entries) (vars .entries);
-      datasource = s .datasource;
-      page = s .page;
-      row = s .row;
-    }
+machine source h s =
+    record { variables = variablesOf source h; counter = s .turn; datasource = s .datasource; page = s .page; row = s .row }

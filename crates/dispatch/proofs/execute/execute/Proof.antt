@@ -17,7 +17,7 @@ enum-told-2 : tie.Need-enum-told-2
 enum-told-2 c = search needs
 
 step-requires : tie.Need-step-requires
-step-requires c κs = step-ready (c .before .before .before .before .before .before .before .before .before .before .before .before .before .args .numbers .now) (c .before .before .before .before .before .before .before .before .before .before .before .before .before .args .strings .now) (c .before .before .before .before .before .before .before .before .before .before .before .before .before .args .words .now) (c .before .before .before .before .before .before .before .before .before .before .before .before .before .pre) (c .before .before .before .before .before .before .enum-told2 .given .1)
+step-requires c κs = step-ready (c .before .before .before .before .before .before .before .before .before .before .before .before .before .pre) (c .before .before .before .before .before .before .enum-told2 .given .1)
 
 paged-requires : tie.Need-paged-requires
 paged-requires c κs = search needs
@@ -26,13 +26,13 @@ enum-told-3 : tie.Need-enum-told-3
 enum-told-3 c = search needs
 
 section-line-requires : tie.Need-section-line-requires
-section-line-requires c κs = section-ready (c .before .before .before .before .before .before .before .before .before .args .numbers .now) (c .before .before .before .before .before .before .before .before .before .args .strings .now) (c .before .before .before .before .before .before .before .before .before .args .words .now) (c .before .before .before .before .before .before .before .before .before .pre)
+section-line-requires c κs = section-ready (c .before .before .before .before .before .before .before .before .before .pre)
 
 enum-known-form : tie.Need-enum-known-form
 enum-known-form c = search needs
 
 assigned-requires : tie.Need-assigned-requires
-assigned-requires c κs = set-ready (c .before .before .before .before .before .before .before .before .before .before .before .args .numbers .now) (c .before .before .before .before .before .before .before .before .before .before .before .args .strings .now) (c .before .before .before .before .before .before .before .before .before .before .before .args .words .now) (c .before .before .before .before .before .before .before .before .before .before .before .pre)
+assigned-requires c κs = set-ready (c .before .before .before .before .before .before .before .before .before .before .before .pre)
 
 onward-requires : tie.Need-onward-requires
 onward-requires c κs = search needs
@@ -44,7 +44,7 @@ if-zero-requires : tie.Need-if-zero-requires
 if-zero-requires c κs = search needs
 
 branched-requires : tie.Need-branched-requires
-branched-requires c κs = jumpable (c .before .before .before .before .before .before .before .before .args .numbers .now) (c .before .before .before .before .before .before .before .before .args .strings .now) (c .before .before .before .before .before .before .before .before .args .words .now) (c .before .before .before .before .before .before .before .before .pre)
+branched-requires c κs = jumpable (c .before .before .before .before .before .before .before .before .pre)
 
 enum-told-5 : tie.Need-enum-told-5
 enum-told-5 c = search needs
@@ -53,7 +53,7 @@ if-zero-requires-2 : tie.Need-if-zero-requires-2
 if-zero-requires-2 c κs = search needs
 
 branched-requires-2 : tie.Need-branched-requires-2
-branched-requires-2 c κs = jumpable (c .before .before .before .before .before .before .before .before .args .numbers .now) (c .before .before .before .before .before .before .before .before .args .strings .now) (c .before .before .before .before .before .before .before .before .args .words .now) (c .before .before .before .before .before .before .before .before .pre)
+branched-requires-2 c κs = jumpable (c .before .before .before .before .before .before .before .before .pre)
 
 enum-known-form-2 : tie.Need-enum-known-form-2
 enum-known-form-2 c = search needs
@@ -62,13 +62,13 @@ compare-requires : tie.Need-compare-requires
 compare-requires c κs = search needs
 
 branched-requires-3 : tie.Need-branched-requires-3
-branched-requires-3 c κs = jumpable (c .before .before .before .before .before .before .before .before .before .before .args .numbers .now) (c .before .before .before .before .before .before .before .before .before .before .args .strings .now) (c .before .before .before .before .before .before .before .before .before .before .args .words .now) (c .before .before .before .before .before .before .before .before .before .before .pre)
+branched-requires-3 c κs = jumpable (c .before .before .before .before .before .before .before .before .before .before .pre)
 
 enum-told-6 : tie.Need-enum-told-6
 enum-told-6 c = search needs
 
 turned-away-requires : tie.Need-turned-away-requires
-turned-away-requires c κs = jumpable (c .before .before .before .before .before .before .before .args .numbers .now) (c .before .before .before .before .before .before .before .args .strings .now) (c .before .before .before .before .before .before .before .args .words .now) (c .before .before .before .before .before .before .before .pre)
+turned-away-requires c κs = jumpable (c .before .before .before .before .before .before .before .pre)
 
 enum-told-7 : tie.Need-enum-told-7
 enum-told-7 c = search needs
@@ -80,16 +80,16 @@ enum-told-8 : tie.Need-enum-told-8
 enum-told-8 c = search needs
 
 begin-table-requires : tie.Need-begin-table-requires
-begin-table-requires c κs = begin-ready (c .before .before .before .before .before .before .before .before .args .numbers .now) (c .before .before .before .before .before .before .before .before .args .strings .now) (c .before .before .before .before .before .before .before .before .args .words .now) (c .before .before .before .before .before .before .before .before .pre) _ (c .before .enum-told8 .given .1)
+begin-table-requires c κs = begin-ready (c .before .before .before .before .before .before .before .before .pre) _ (c .before .enum-told8 .given .1)
 
 begun-requires : tie.Need-begun-requires
-begun-requires c κs = jumpable (c .before .before .before .before .before .before .before .before .before .args .numbers .now) (c .before .before .before .before .before .before .before .before .before .args .strings .now) (c .before .before .before .before .before .before .before .before .before .args .words .now) (c .before .before .before .before .before .before .before .before .before .pre)
+begun-requires c κs = jumpable (c .before .before .before .before .before .before .before .before .before .pre)
 
 enum-known-form-3 : tie.Need-enum-known-form-3
 enum-known-form-3 c = search needs
 
 end-table-requires : tie.Need-end-table-requires
-end-table-requires c κs = end-ready (c .before .before .before .before .before .before .before .before .before .args .numbers .now) (c .before .before .before .before .before .before .before .before .before .args .strings .now) (c .before .before .before .before .before .before .before .before .before .args .words .now) (c .before .before .before .before .before .before .before .before .before .pre)
+end-table-requires c κs = end-ready (c .before .before .before .before .before .before .before .before .before .pre)
 
 ended-requires : tie.Need-ended-requires
 ended-requires c κs = search needs
@@ -98,7 +98,7 @@ enum-known-form-4 : tie.Need-enum-known-form-4
 enum-known-form-4 c = search needs
 
 fetch-records-requires : tie.Need-fetch-records-requires
-fetch-records-requires c κs = records-ready (c .before .before .before .before .before .before .before .before .before .before .before .args .numbers .now) (c .before .before .before .before .before .before .before .before .before .before .before .args .strings .now) (c .before .before .before .before .before .before .before .before .before .before .before .args .words .now) (c .before .before .before .before .before .before .before .before .before .before .before .pre) _ (c .before .before .before .before .form4 .given .1)
+fetch-records-requires c κs = records-ready (c .before .before .before .before .before .before .before .before .before .before .before .pre) _ (c .before .before .before .before .form4 .given .1)
 
 onward-requires-2 : tie.Need-onward-requires-2
 onward-requires-2 c κs = search needs
@@ -107,7 +107,7 @@ enum-known-form-5 : tie.Need-enum-known-form-5
 enum-known-form-5 c = search needs
 
 fetch-entries-requires : tie.Need-fetch-entries-requires
-fetch-entries-requires c κs = entries-ready (c .before .before .before .before .before .before .before .before .before .before .before .args .numbers .now) (c .before .before .before .before .before .before .before .before .before .before .before .args .strings .now) (c .before .before .before .before .before .before .before .before .before .before .before .args .words .now) (c .before .before .before .before .before .before .before .before .before .before .before .pre) _ (c .before .before .before .before .form5 .given .1)
+fetch-entries-requires c κs = entries-ready (c .before .before .before .before .before .before .before .before .before .before .before .pre) _ (c .before .before .before .before .form5 .given .1)
 
 onward-requires-3 : tie.Need-onward-requires-3
 onward-requires-3 c κs = search needs
@@ -134,13 +134,13 @@ enum-known-form-7 : tie.Need-enum-known-form-7
 enum-known-form-7 c = search needs
 
 new-page-requires : tie.Need-new-page-requires
-new-page-requires c κs = turn-ready (c .before .before .before .before .before .before .before .before .before .args .numbers .now) (c .before .before .before .before .before .before .before .before .before .args .strings .now) (c .before .before .before .before .before .before .before .before .before .args .words .now) (c .before .before .before .before .before .before .before .before .before .pre)
+new-page-requires c κs = turn-ready (c .before .before .before .before .before .before .before .before .before .pre)
 
 enum-known-form-8 : tie.Need-enum-known-form-8
 enum-known-form-8 c = search needs
 
 heading-line-requires : tie.Need-heading-line-requires
-heading-line-requires c κs = heading-small (c .before .before .before .before .before .before .before .before .before .args .numbers .now) (c .before .before .before .before .before .before .before .before .before .args .strings .now) (c .before .before .before .before .before .before .before .before .before .args .words .now) (c .before .before .before .before .before .before .before .before .before .pre) _ _ (c .before .before .form8 .given .1)
+heading-line-requires c κs = heading-small (c .before .before .before .before .before .before .before .before .before .pre) _ _ (c .before .before .form8 .given .1)
 
 enum-known-form-9 : tie.Need-enum-known-form-9
 enum-known-form-9 c = search needs
@@ -156,63 +156,63 @@ went-requires-4 c κs = search needs
 
 returns : tie.Need-returns
 unfolding formWith formMeaning
-returns c = record { executes = went-line (c .before .before .before .before .before .before .before .before .args .numbers .now) (c .before .before .before .before .before .before .before .before .args .strings .now) (c .before .before .before .before .before .before .before .before .args .words .now) (c .before .before .before .before .before .before .before .before .pre) _ _ _ _ _ (c .before .enum-told .given .1) refl (c .went .ensures) }
+returns c = record { executes = went-line (c .before .before .before .before .before .before .before .before .pre) _ _ _ _ _ (c .before .enum-told .given .1) refl (c .went .ensures) }
 
 returns-2 : tie.Need-returns-2
-returns-2 c = record { executes = text-line (c .before .before .before .before .before .before .before .before .before .before .before .before .before .before .before .before .before .args .numbers .now) (c .before .before .before .before .before .before .before .before .before .before .before .before .before .before .before .before .before .args .strings .now) (c .before .before .before .before .before .before .before .before .before .before .before .before .before .before .before .before .before .args .words .now) (c .before .before .before .before .before .before .before .before .before .before .before .before .before .before .before .before .before .pre) _ _ _ _ _ _ _ (c .before .before .before .before .before .before .before .before .before .before .enum-told2 .given .1) (c .before .before .before .step .ensures) (c .paged .ensures) }
+returns-2 c = record { executes = text-line (c .before .before .before .before .before .before .before .before .before .before .before .before .before .before .before .before .before .pre) _ _ _ _ _ _ _ (c .before .before .before .before .before .before .before .before .before .before .enum-told2 .given .1) (c .before .before .before .step .ensures) (c .paged .ensures) }
 
 returns-3 : tie.Need-returns-3
-returns-3 c = record { executes = section-line (c .before .before .before .before .before .before .before .before .before .before .args .numbers .now) (c .before .before .before .before .before .before .before .before .before .before .args .strings .now) (c .before .before .before .before .before .before .before .before .before .before .args .words .now) (c .before .before .before .before .before .before .before .before .before .before .pre) _ _ _ _ _ _ _ _ (c .before .before .before .enum-told3 .given .1) (c .section-line .ensures) }
+returns-3 c = record { executes = section-line (c .before .before .before .before .before .before .before .before .before .before .pre) _ _ _ _ _ _ _ _ (c .before .before .before .enum-told3 .given .1) (c .section-line .ensures) }
 
 returns-4 : tie.Need-returns-4
-returns-4 c = record { executes = set-line (c .before .before .before .before .before .before .before .before .before .before .before .before .before .args .numbers .now) (c .before .before .before .before .before .before .before .before .before .before .before .before .before .args .strings .now) (c .before .before .before .before .before .before .before .before .before .before .before .before .before .args .words .now) (c .before .before .before .before .before .before .before .before .before .before .before .before .before .pre) _ _ _ _ _ _ _ _ _ _ (c .before .before .before .before .before .before .form .given .1) (c .before .assigned .ensures) (c .onward .ensures) }
+returns-4 c = record { executes = set-line (c .before .before .before .before .before .before .before .before .before .before .before .before .before .pre) _ _ _ _ _ _ _ _ _ _ (c .before .before .before .before .before .before .form .given .1) (c .before .assigned .ensures) (c .onward .ensures) }
 
 returns-5 : tie.Need-returns-5
-returns-5 c = record { executes = if-zero-line (c .before .before .before .before .before .before .before .before .before .args .numbers .now) (c .before .before .before .before .before .before .before .before .before .args .strings .now) (c .before .before .before .before .before .before .before .before .before .args .words .now) (c .before .before .before .before .before .before .before .before .before .pre) _ _ _ _ _ _ _ (c .before .before .enum-told4 .given .1) (c .before .if-zero .ensures) (c .branched .ensures) }
+returns-5 c = record { executes = if-zero-line (c .before .before .before .before .before .before .before .before .before .pre) _ _ _ _ _ _ _ (c .before .before .enum-told4 .given .1) (c .before .if-zero .ensures) (c .branched .ensures) }
 
 returns-6 : tie.Need-returns-6
-returns-6 c = record { executes = if-non-zero-line (c .before .before .before .before .before .before .before .before .before .args .numbers .now) (c .before .before .before .before .before .before .before .before .before .args .strings .now) (c .before .before .before .before .before .before .before .before .before .args .words .now) (c .before .before .before .before .before .before .before .before .before .pre) _ _ _ _ _ _ _ (c .before .before .enum-told5 .given .1) (c .before .if-zero2 .ensures) (c .branched2 .ensures) }
+returns-6 c = record { executes = if-non-zero-line (c .before .before .before .before .before .before .before .before .before .pre) _ _ _ _ _ _ _ (c .before .before .enum-told5 .given .1) (c .before .if-zero2 .ensures) (c .branched2 .ensures) }
 
 returns-7 : tie.Need-returns-7
-returns-7 c = record { executes = compare-line (c .before .before .before .before .before .before .before .before .before .before .before .args .numbers .now) (c .before .before .before .before .before .before .before .before .before .before .before .args .strings .now) (c .before .before .before .before .before .before .before .before .before .before .before .args .words .now) (c .before .before .before .before .before .before .before .before .before .before .before .pre) _ _ _ _ _ (c .before .compare .result) _ _ _ (c .before .before .before .before .form2 .given .1) (c .before .compare .ensures) (c .branched3 .ensures) }
+returns-7 c = record { executes = compare-line (c .before .before .before .before .before .before .before .before .before .before .before .pre) _ _ _ _ _ (c .before .compare .result) _ _ _ (c .before .before .before .before .form2 .given .1) (c .before .compare .ensures) (c .branched3 .ensures) }
 
 returns-8 : tie.Need-returns-8
-returns-8 c = record { executes = else-line (c .before .before .before .before .before .before .before .before .args .numbers .now) (c .before .before .before .before .before .before .before .before .args .strings .now) (c .before .before .before .before .before .before .before .before .args .words .now) (c .before .before .before .before .before .before .before .before .pre) _ _ _ _ (c .before .enum-told6 .given .1) (c .turned-away .ensures) }
+returns-8 c = record { executes = else-line (c .before .before .before .before .before .before .before .before .pre) _ _ _ _ (c .before .enum-told6 .given .1) (c .turned-away .ensures) }
 
 returns-9 : tie.Need-returns-9
 unfolding formWith formMeaning
-returns-9 c = record { executes = went-line (c .before .before .before .before .before .before .before .before .args .numbers .now) (c .before .before .before .before .before .before .before .before .args .strings .now) (c .before .before .before .before .before .before .before .before .args .words .now) (c .before .before .before .before .before .before .before .before .pre) _ _ _ _ _ (c .before .enum-told7 .given .1) refl (c .went2 .ensures) }
+returns-9 c = record { executes = went-line (c .before .before .before .before .before .before .before .before .pre) _ _ _ _ _ (c .before .enum-told7 .given .1) refl (c .went2 .ensures) }
 
 returns-10 : tie.Need-returns-10
-returns-10 c = record { executes = begin-line (c .before .before .before .before .before .before .before .before .before .before .args .numbers .now) (c .before .before .before .before .before .before .before .before .before .before .args .strings .now) (c .before .before .before .before .before .before .before .before .before .before .args .words .now) (c .before .before .before .before .before .before .before .before .before .before .pre) _ _ _ _ _ _ _ _ (c .before .before .before .enum-told8 .given .1) (c .before .begin-table .ensures) (c .begun .ensures) }
+returns-10 c = record { executes = begin-line (c .before .before .before .before .before .before .before .before .before .before .pre) _ _ _ _ _ _ _ _ (c .before .before .before .enum-told8 .given .1) (c .before .begin-table .ensures) (c .begun .ensures) }
 
 returns-11 : tie.Need-returns-11
-returns-11 c = record { executes = end-line (c .before .before .before .before .before .before .before .before .before .before .before .before .args .numbers .now) (c .before .before .before .before .before .before .before .before .before .before .before .before .args .strings .now) (c .before .before .before .before .before .before .before .before .before .before .before .before .args .words .now) (c .before .before .before .before .before .before .before .before .before .before .before .before .pre) _ _ _ _ _ _ _ _ (c .before .before .before .before .before .form3 .given .1) (c .before .before .end-table .ensures) (c .ended .ensures) }
+returns-11 c = record { executes = end-line (c .before .before .before .before .before .before .before .before .before .before .before .before .pre) _ _ _ _ _ _ _ _ (c .before .before .before .before .before .form3 .given .1) (c .before .before .end-table .ensures) (c .ended .ensures) }
 
 returns-12 : tie.Need-returns-12
-returns-12 c = record { executes = records-line (c .before .before .before .before .before .before .before .before .before .before .before .before .before .args .numbers .now) (c .before .before .before .before .before .before .before .before .before .before .before .before .before .args .strings .now) (c .before .before .before .before .before .before .before .before .before .before .before .before .before .args .words .now) (c .before .before .before .before .before .before .before .before .before .before .before .before .before .pre) _ _ _ _ _ _ _ _ (c .before .before .before .before .before .before .form4 .given .1) (c .before .fetch-records .ensures) (c .onward2 .ensures) }
+returns-12 c = record { executes = records-line (c .before .before .before .before .before .before .before .before .before .before .before .before .before .pre) _ _ _ _ _ _ _ _ (c .before .before .before .before .before .before .form4 .given .1) (c .before .fetch-records .ensures) (c .onward2 .ensures) }
 
 returns-13 : tie.Need-returns-13
-returns-13 c = record { executes = entries-line (c .before .before .before .before .before .before .before .before .before .before .before .before .before .args .numbers .now) (c .before .before .before .before .before .before .before .before .before .before .before .before .before .args .strings .now) (c .before .before .before .before .before .before .before .before .before .before .before .before .before .args .words .now) (c .before .before .before .before .before .before .before .before .before .before .before .before .before .pre) _ _ _ _ _ _ _ _ (c .before .before .before .before .before .before .form5 .given .1) (c .before .fetch-entries .ensures) (c .onward3 .ensures) }
+returns-13 c = record { executes = entries-line (c .before .before .before .before .before .before .before .before .before .before .before .before .before .pre) _ _ _ _ _ _ _ _ (c .before .before .before .before .before .before .form5 .given .1) (c .before .fetch-entries .ensures) (c .onward3 .ensures) }
 
 returns-14 : tie.Need-returns-14
-returns-14 c = record { executes = datasource-line (c .before .before .before .before .before .before .before .before .before .before .before .args .numbers .now) (c .before .before .before .before .before .before .before .before .before .before .before .args .strings .now) (c .before .before .before .before .before .before .before .before .before .before .before .args .words .now) (c .before .before .before .before .before .before .before .before .before .before .before .pre) _ _ _ _ _ _ (c .before .before .before .before .form6 .given .1) (c .before .select .ensures) (c .selected .ensures) }
+returns-14 c = record { executes = datasource-line (c .before .before .before .before .before .before .before .before .before .before .before .pre) _ _ _ _ _ _ (c .before .before .before .before .form6 .given .1) (c .before .select .ensures) (c .selected .ensures) }
 
 returns-15 : tie.Need-returns-15
-returns-15 c = record { executes = no-form-feed-line (c .before .before .before .before .before .before .before .before .before .args .numbers .now) (c .before .before .before .before .before .before .before .before .before .args .strings .now) (c .before .before .before .before .before .before .before .before .before .args .words .now) (c .before .before .before .before .before .before .before .before .before .pre) _ _ _ _ _ (c .before .before .enum-told9 .given .1) (c .before .with-feeds .ensures) (c .went3 .ensures) }
+returns-15 c = record { executes = no-form-feed-line (c .before .before .before .before .before .before .before .before .before .pre) _ _ _ _ _ (c .before .before .enum-told9 .given .1) (c .before .with-feeds .ensures) (c .went3 .ensures) }
 
 returns-16 : tie.Need-returns-16
-returns-16 c = record { executes = new-page-line (c .before .before .before .before .before .before .before .before .before .before .before .before .args .numbers .now) (c .before .before .before .before .before .before .before .before .before .before .before .before .args .strings .now) (c .before .before .before .before .before .before .before .before .before .before .before .before .args .words .now) (c .before .before .before .before .before .before .before .before .before .before .before .before .pre) _ _ _ _ _ _ _ (c .before .before .before .before .before .form7 .given .1) (c .before .before .new-page .ensures) }
+returns-16 c = record { executes = new-page-line (c .before .before .before .before .before .before .before .before .before .before .before .before .pre) _ _ _ _ _ _ _ (c .before .before .before .before .before .form7 .given .1) (c .before .before .new-page .ensures) }
 
 returns-17 : tie.Need-returns-17
-returns-17 c = record { executes = heading-line (c .before .before .before .before .before .before .before .before .before .before .args .numbers .now) (c .before .before .before .before .before .before .before .before .before .before .args .strings .now) (c .before .before .before .before .before .before .before .before .before .before .args .words .now) (c .before .before .before .before .before .before .before .before .before .before .pre) _ _ _ _ _ _ _ (c .before .before .before .form8 .given .1) (c .heading-line .ensures) }
+returns-17 c = record { executes = heading-line (c .before .before .before .before .before .before .before .before .before .before .pre) _ _ _ _ _ _ _ (c .before .before .before .form8 .given .1) (c .heading-line .ensures) }
 
 returns-18 : tie.Need-returns-18
-returns-18 c = record { executes = no-heading-line (c .before .before .before .before .before .before .before .before .before .before .args .numbers .now) (c .before .before .before .before .before .before .before .before .before .before .args .strings .now) (c .before .before .before .before .before .before .before .before .before .before .args .words .now) (c .before .before .before .before .before .before .before .before .before .before .pre) _ _ _ _ _ _ (c .before .before .before .form9 .given .1) (c .no-heading-line .ensures) }
+returns-18 c = record { executes = no-heading-line (c .before .before .before .before .before .before .before .before .before .before .pre) _ _ _ _ _ _ (c .before .before .before .form9 .given .1) (c .no-heading-line .ensures) }
 
 returns-19 : tie.Need-returns-19
 unfolding formWith formMeaning
-returns-19 c = record { executes = went-line (c .before .before .before .before .before .before .before .before .args .numbers .now) (c .before .before .before .before .before .before .before .before .args .strings .now) (c .before .before .before .before .before .before .before .before .args .words .now) (c .before .before .before .before .before .before .before .before .pre) _ _ _ _ _ (c .before .enum-told10 .given .1) refl (c .went4 .ensures) }
+returns-19 c = record { executes = went-line (c .before .before .before .before .before .before .before .before .pre) _ _ _ _ _ (c .before .enum-told10 .given .1) refl (c .went4 .ensures) }
 
 same-length : tie.Need-same-length
 same-length c = search needs
