@@ -1,4 +1,4 @@
-//! What README.md and docs/ cite is there: definitions, theorems, must-fail edits, crates.
+//! What README.md and docs/ cite is there: definitions, theorems, functions, must-fail edits, crates. What definitions stand on.
 
 use std::collections::BTreeSet;
 use std::fs;
@@ -95,6 +95,61 @@ fn cited_definitions_and_theorems_are_there() {
     }
 }
 
+/// The sources that a citation can mean: of `crate::module::name` and `crate::name` those of the crate, of `module::name` and
+/// `Type::name` those of any.
+fn cited_sources<'a>(
+    parts: &[&str],
+    all: &'a [(PathBuf, BTreeSet<String>)],
+) -> Vec<&'a BTreeSet<String>> {
+    let of_crate = crates().contains(parts[0]);
+    let module = parts[usize::from(of_crate)..parts.len() - 1].first();
+    let meant = |path: &Path, names: &BTreeSet<String>| {
+        let of = !of_crate || path.starts_with(root().join("crates").join(parts[0]));
+        let within = |m: &&str| path.file_stem().unwrap() == *m || names.contains(*m);
+        of && module.is_none_or(within)
+    };
+    let sources = all.iter().filter(|(path, names)| meant(path, names));
+    sources.map(|(_, names)| names).collect()
+}
+
+/// The functions, types, constants and modules that a source declares.
+fn declared(file: &Path) -> BTreeSet<String> {
+    let text = fs::read_to_string(file).unwrap();
+    let kinds = ["fn", "struct", "enum", "const", "type", "mod"];
+    let words: Vec<&str> = text
+        .split(|c: char| !c.is_alphanumeric() && c != '_')
+        .filter(|word| !word.is_empty())
+        .collect();
+    let pairs = words.windows(2).filter(|pair| kinds.contains(&pair[0]));
+    pairs.map(|pair| pair[1].to_string()).collect()
+}
+
+#[test]
+fn cited_functions_are_there() {
+    let files = below(&root().join("crates"));
+    let sources = files
+        .into_iter()
+        .filter(|file| file.extension().is_some_and(|e| e == "rt"));
+    let all: Vec<_> = sources
+        .map(|file| (file.clone(), declared(&file)))
+        .collect();
+    for document in ["README.md", "docs/CLAIMS.md", "docs/DECISIONS.md"] {
+        let text = read(document);
+        for span in code(&text).into_iter().filter(|span| span.contains("::")) {
+            let parts: Vec<&str> = span.split("::").collect();
+            if parts[0] == "crate" {
+                continue;
+            }
+            let name = *parts.last().unwrap();
+            let sources = cited_sources(&parts, &all);
+            assert!(
+                sources.iter().any(|names| names.contains(name)),
+                "{document}: {span} is nowhere"
+            );
+        }
+    }
+}
+
 /// The edits that a text cites as `crate/must-fail/name, name`.
 fn cited_edits(text: &str) -> BTreeSet<(String, String)> {
     let mut edits = BTreeSet::new();
@@ -153,5 +208,28 @@ fn the_map_and_the_table_of_times_have_every_crate() {
             row.ends_with(&format!("| {edits} |")),
             "{name} has {edits} edits"
         );
+    }
+}
+
+/// Whether a crate has functions, and not theorems alone.
+fn has_code(name: &str) -> bool {
+    let sources = below(&root().join("crates").join(name).join("src"));
+    let code = |file: &PathBuf| fs::read_to_string(file).unwrap().contains("fn ");
+    sources.iter().any(code)
+}
+
+#[test]
+fn definitions_stand_on_definitions() {
+    let theorems: Vec<String> = crates().into_iter().filter(|c| !has_code(c)).collect();
+    for name in crates() {
+        for file in below(&root().join("crates").join(&name).join("specs")) {
+            let text = fs::read_to_string(&file).unwrap();
+            for line in text.lines().filter(|line| line.contains("use Rattle·")) {
+                let of = |crate_name: &String| line.contains(&format!("Rattle.{crate_name}."));
+                let theorem = has_code(&name) && theorems.iter().any(of);
+                let proof = line.contains(".proofs");
+                assert!(!proof && !theorem, "{}: {line}", file.display());
+            }
+        }
     }
 }

@@ -1,5 +1,5 @@
 -- "The store: A run of cells, 0 to 65,536 bytes."
-use mathlib.Core.Bool.{Bool, true, cond, _&&_}
+use mathlib.Core.Bool.{Bool, true, false, cond, _&&_}
 use mathlib.Core.List.{List, [], _∷_, _++_}
 use mathlib.Core.Option.{Option, none, some}
 use Prim.Native.Nat.{ℕ, zero, suc}
@@ -55,3 +55,8 @@ cells s = ordered (cellRun (length s) s)
 -- The store handed in as a buffer and a length. 1: "The store breaks its form or is longer than its buffer."
 unfoldable pub held : List ℕ → ℕ → Option (List Cell)
 held b n = cond (leb n (length b) && leb n capacity) (cells (take n b)) none
+
+-- whether it is in form
+unfoldable pub isHeld : Option (List Cell) → Bool
+isHeld none = false
+isHeld (some cs) = true

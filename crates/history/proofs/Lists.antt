@@ -7,9 +7,10 @@ use lib.ListN.{length, replicate}
 use Rattle.meaning.specs.declared.refusal.Refusal.the-variants.{BadStore}
 use Rattle.meaning.specs.declared.end.Ended.{Ended}
 use Rattle.cells.specs.Cell.{Cell}
+use Rattle.cells.specs.Store.{isHeld}
 use Rattle.cells.specs.Asking.{refusedWith}
 use Rattle.store.specs.Edit.{Edit, refusedEdit}
-use Rattle.history.specs.State.{State, heldBy, isHeld, inForm}
+use Rattle.history.specs.State.{State, heldBy, inForm}
 use Rattle.history.specs.Change.{Change, handedBack, handedOn, next, edited}
 use Rattle.history.specs.History.{after, ends, cellsAfter, endsOn, heldAfter, endsAfter}
 use Rattle.history.proofs.Form.{form-kept, end-kept, out-of-form-once}

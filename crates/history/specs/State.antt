@@ -1,14 +1,14 @@
 -- A store between two calls: "one store in the same buffer, at the length last handed back".
 use mathlib.Core.Path.{_≡_}
-use mathlib.Core.Bool.{Bool, true, false}
+use mathlib.Core.Bool.{Bool}
 use mathlib.Core.List.{List}
-use mathlib.Core.Option.{Option, none, some}
+use mathlib.Core.Option.{Option}
 use Prim.Native.Nat.{ℕ}
 use Rattle.meaning.specs.Answer.{Answer}
 use Rattle.meaning.specs.Each.{Each}
 use Rattle.meaning.specs.declared.question.Question.{Question}
 use Rattle.cells.specs.Cell.{Key, Cell}
-use Rattle.cells.specs.Store.{held}
+use Rattle.cells.specs.Store.{held, isHeld}
 use Rattle.cells.specs.Asking.{Reply, askOf}
 
 pub record State : Type 0 where
@@ -18,10 +18,6 @@ pub record State : Type 0 where
 -- the cells that it holds, or none where it is out of form
 abbrev pub heldBy : State → Option (List Cell)
 heldBy m = held (m .buffer) (m .length)
-
-unfoldable pub isHeld : Option (List Cell) → Bool
-isHeld none = false
-isHeld (some cs) = true
 
 -- 1: "The store breaks its form or is longer than its buffer."
 abbrev pub inForm : State → Bool

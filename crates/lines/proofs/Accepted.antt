@@ -2,13 +2,11 @@
 use mathlib.Core.Path.{_≡_, refl, subst}
 use mathlib.Core.Bool.{Bool, true, false, cond}
 use mathlib.Core.List.{List}
-use Prim.Native.Nat.{ℕ, _≤_}
-use lib.ListN.{length}
+use Prim.Native.Nat.{ℕ}
 use Rattle.scan.specs.Line.{byteIs}
 use Rattle.scan.proofs.TestLaws.{picked}
 use Rattle.scan.proofs.WordLaws.{EachForm, all, _besides_, found-form}
 use Rattle.arguments.specs.declared.argument.Argument.{Argument}
-use Rattle.arguments.specs.inner.Parameter.{parameterOf}
 use Rattle.arguments.proofs.Parsed.{Between, IndexWithin, ArgumentWithin, small-parameter}
 use Rattle.texts.specs.readers.Text.{textFits}
 use Rattle.lines.specs.declared.command.Operation.{Operation}
@@ -20,6 +18,7 @@ use Rattle.lines.specs.declared.command.Line.the-variants.{NoForm, Text,
 use Rattle.lines.specs.readers.Set.{setAt}
 use Rattle.lines.specs.readers.Compare.{compareAt}
 use Rattle.lines.specs.readers.Command.{commands, parseLine}
+use Rattle.lines.specs.inner.Sound.{Small, SmallOptional, Sound}
 use Rattle.lines.proofs.Makes.{set-makes, datasource-makes, compare-makes, single-makes, bare-makes, optional-makes, fetch-makes, section-makes, heading-makes, remark-makes}
 pub use Rattle.lines.proofs.Makes.{TargetWithin, OptionalWithin, FetchWithin, HeadingWithin}
 
@@ -50,35 +49,6 @@ record Fine (l : List ℕ) (f : Line) : Type 0 where
 
 fine : {l : List ℕ} {f : Line} → Bounded l f → Fine l f
 fine h = record { is = h }
-
--- the same for the code, which asks less: "n 1–65,535"
-abbrev pub Small : Argument → Type 0
-Small a = parameterOf (a .operand) ≤ 65535
-
-abbrev pub SmallOptional : Optional → Type 0
-SmallOptional (Given a) = Small a
-SmallOptional Absent = Unit {0}
-
-abbrev pub Sound : List ℕ → Line → Type 0
-Sound l NoForm = Unit {0}
-Sound l Text = textFits l 0 ≡ true
-Sound l (Section a e) = Unit {0}
-Sound l (Set o t a) = Small a
-Sound l (IfZero a) = Small a
-Sound l (IfNonZero a) = Small a
-Sound l (Compare c a b) = Small a × Small b
-Sound l Else = Unit {0}
-Sound l EndIf = Unit {0}
-Sound l (BeginTable a) = Small a
-Sound l (EndTable k) = SmallOptional k
-Sound l (Records f) = f .parameter ≤ 65535
-Sound l (Entries f) = f .parameter ≤ 65535
-Sound l (Datasource i) = Unit {0}
-Sound l NoFormFeed = Unit {0}
-Sound l (NewPage n) = SmallOptional n
-Sound l (Heading n at) = (textFits l at ≡ true) × (at ≤ length l)
-Sound l (NoHeading n) = Unit {0}
-Sound l Remark = Unit {0}
 
 small : (l : List ℕ) (a : Argument) → ArgumentWithin l a → Small a
 small l a h = small-parameter l (a .operand) (h .operand)

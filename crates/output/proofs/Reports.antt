@@ -24,10 +24,9 @@ use Rattle.shapes.specs.declared.seek.Sought.the-variants.{TableEnd}
 use Rattle.template.specs.Order.{templateChecked}
 use Rattle.template.proofs.Accepted.{accepted-runs}
 use Rattle.cells.specs.Cell.{each, between, printable}
-use Rattle.cells.specs.Store.{held}
+use Rattle.cells.specs.Store.{held, isHeld}
 use Rattle.cells.proofs.BigEndian.{and-true}
 use Rattle.cells.proofs.Limits.{AnswerHas, Lettered, ask-lettered}
-use Rattle.history.specs.State.{isHeld}
 use Rattle.meaning.specs.Answer as A
 use Rattle.meaning.specs.Answer.{Answer}
 use Rattle.meaning.specs.Each.{Each}

@@ -11,9 +11,8 @@ use Rattle.template.specs.declared.Checked.{Checked}
 use Rattle.template.specs.declared.Checked.the-variants.{Accepted, Refused}
 use Rattle.template.specs.Order.{templateChecked}
 use Rattle.template.proofs.Accepted.{accepted-runs}
-use Rattle.cells.specs.Store.{held}
+use Rattle.cells.specs.Store.{held, isHeld}
 use Rattle.cells.proofs.Limits.{AnswerWithin}
-use Rattle.history.specs.State.{isHeld}
 use Rattle.meaning.specs.Each.{Each}
 use Rattle.meaning.specs.Tree.{done, stop, bind}
 use Rattle.meaning.specs.Rule.{pageLimit}

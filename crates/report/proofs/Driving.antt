@@ -7,7 +7,7 @@ use native.Mathlib.Omega.{arith}
 use native.Mathlib.Nat.{sub-zero}
 use lib.ListN.{length, take, replicate, length-map, length-replicate}
 use lib.Seq.{sets, length-sets}
-use Rattle.history.specs.State.{isHeld}
+use Rattle.cells.specs.Store.{isHeld}
 use Rattle.meaning.specs.Answer.{Answer}
 use Rattle.meaning.specs.Tree.{End, finished, run}
 use Rattle.meaning.specs.Place.{Place, at, Does}

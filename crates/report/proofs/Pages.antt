@@ -12,8 +12,7 @@ use Rattle.template.specs.declared.Checked.{Checked}
 use Rattle.template.specs.declared.Checked.the-variants.{Accepted, Refused}
 use Rattle.template.specs.Order.{templateChecked}
 use Rattle.template.proofs.Accepted.{accepted-runs, Early, refused-early}
-use Rattle.cells.specs.Store.{held}
-use Rattle.history.specs.State.{isHeld}
+use Rattle.cells.specs.Store.{held, isHeld}
 use Rattle.meaning.specs.Answer.{Answer}
 use Rattle.meaning.specs.Each.{Each}
 use Rattle.meaning.specs.Event.{breaks, pageFrom, laterPages, pages}

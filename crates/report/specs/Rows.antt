@@ -32,8 +32,7 @@ use Rattle.lines.specs.readers.Title.{nameAt, sectionAt}
 use Rattle.lines.specs.readers.Command.{commands, parseLine}
 use Rattle.nesting.specs.Nest.{allClosed, inSection, sectionBegun, tableEnded as nestingTableEnded, tables, testEnded, testTurned, tests, behind}
 use Rattle.names.specs.Name.{nameOf}
-use Rattle.cells.specs.Store.{above, rising, ordered, before as cellsBefore, cellRun as cellsRun, cells, held}
-use Rattle.history.specs.State.{isHeld}
+use Rattle.cells.specs.Store.{above, rising, ordered, before as cellsBefore, cellRun as cellsRun, cells, held, isHeld}
 use Rattle.meaning.specs.Event.{breaks, joined}
 use Rattle.meaning.specs.Tree.{run as meaningRun}
 use Rattle.shapes.specs.Seek.{atMost, orSkip, past, amongTables, amongTests, atElse, roleOf, skipFrom, skipped}

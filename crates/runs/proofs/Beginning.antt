@@ -8,12 +8,11 @@ use Rattle.template.specs.declared.Run.{Run}
 use Rattle.template.specs.declared.Checked.{Checked}
 use Rattle.template.specs.declared.Checked.the-variants.{Accepted, Refused}
 use Rattle.template.specs.Order.{templateChecked}
-use Rattle.cells.specs.Store.{held}
+use Rattle.cells.specs.Store.{held, isHeld}
 use Rattle.cells.specs.inner.Index.{Indexes}
 use Rattle.cells.specs.declared.index.Indexed.{Indexed}
 use Rattle.cells.specs.declared.index.Indexed.the-variants.{Count, BadStore}
 use Rattle.cells.proofs.Replies.{not-held}
-use Rattle.history.specs.State.{isHeld}
 use Rattle.meaning.specs.Event.{joined}
 use Rattle.meaning.specs.declared.refusal.Refusal.{Refusal}
 use Rattle.meaning.specs.declared.refusal.Refusal.the-variants as refusal

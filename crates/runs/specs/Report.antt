@@ -8,8 +8,7 @@ use Rattle.template.specs.declared.Run.{Run}
 use Rattle.template.specs.declared.Checked.{Checked}
 use Rattle.template.specs.declared.Checked.the-variants.{Accepted, Refused}
 use Rattle.template.specs.Order.{templateChecked}
-use Rattle.cells.specs.Store.{held}
-use Rattle.history.specs.State.{isHeld}
+use Rattle.cells.specs.Store.{held, isHeld}
 use Rattle.meaning.specs.Answer.{Answer}
 use Rattle.meaning.specs.Event.{Event, joined, breaks}
 use Rattle.meaning.specs.Tree as tree

@@ -20,7 +20,7 @@ use Rattle.arguments.specs.declared.argument.Argument.{Argument}
 use Rattle.lines.specs.declared.command.Line.{Line}
 use Rattle.lines.specs.declared.command.Line.the-variants.{BeginTable}
 use Rattle.pages.specs.inner.Packed.{headingsOf}
-use Rattle.lines.proofs.Accepted as parsed
+use Rattle.lines.specs.inner.Sound as parsed
 use Rattle.control.specs.inner.Going.{sceneOf}
 use Rattle.control.specs.declared.state.Flow.{Flow}
 use Rattle.control.specs.declared.state.Lined.{Lined}
