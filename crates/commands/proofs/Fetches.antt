@@ -53,7 +53,7 @@ kept source along words zero w = refl
 kept source along words (suc n) w = map-set (fetched source along) words n w
 
 module _ (numbers : List ℤ) (words : List ℕ) (sc : Scene) (f : Fetch) (log : List ℕ) (a p : ℕ) (log′ : List ℕ) (v : Fetched) where
-  module _ (d : FetchValue numbers sc Records (f .parameter) (f .first) (f .second) (f .count) log a p log′ v) where
+  module _ (d : FetchValue numbers sc Records f log a p log′ v) where
     pub records-over : (h : Halt) (l : ℕ) → v .end ≡ Halted h l → TakesRecords numbers words sc f log a p words log′ (record { end = Halted h l; asked = v .asked })
     unfolding recordsMeaning
     records-over h l e = record {
@@ -74,7 +74,7 @@ module _ (numbers : List ℤ) (words : List ℕ) (sc : Scene) (f : Fetch) (log :
       };
     }
 
-  module _ (d : FetchValue numbers sc Entries (f .parameter) (f .first) (f .second) (f .count) log a p log′ v) where
+  module _ (d : FetchValue numbers sc Entries f log a p log′ v) where
     pub entries-over : (h : Halt) (l : ℕ) → v .end ≡ Halted h l → TakesEntries numbers words sc f log a p words log′ (record { end = Halted h l; asked = v .asked })
     unfolding entriesMeaning
     entries-over h l e = record {

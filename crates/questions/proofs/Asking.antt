@@ -16,10 +16,9 @@ use Rattle.meaning.specs.declared.question.Question.{Question}
 use Rattle.meaning.specs.declared.refusal.Refusal.the-variants.{BadIndex}
 use Rattle.meaning.specs.declared.refusal.Overflow.the-variants.{ReadList}
 use Rattle.meaning.specs.declared.end.Halt.the-variants.{Refused, Cut}
-use Rattle.meaning.specs.declared.end.Ended.the-variants.{Finished, Halted}
+use Rattle.meaning.specs.declared.end.Ended.the-variants.{Finished}
 use Rattle.meaning.proofs.Doing.{does-stop, does-ask, does-ask-full}
 use Rattle.cells.specs.declared.Answered.{Answered}
-use Rattle.cells.specs.declared.Answered.the-variants.{Missing}
 use Rattle.cells.specs.inner.Index.{Answers}
 use Rattle.cells.proofs.Limits.{same-answer}
 use Rattle.arguments.specs.declared.index.Index.{Index}
@@ -29,48 +28,48 @@ use Rattle.questions.specs.Machine.{Machine}
 use Rattle.questions.specs.Indexes.{indexNumber, indexValue}
 use Rattle.questions.specs.Asking.{question, asks, cellMeaning}
 use Rattle.questions.specs.Source.{answers}
-use Rattle.questions.specs.inner.Hearing.{Hears, cellAt, placeOf}
+use Rattle.questions.specs.inner.Hearing.{Hears, unheard, cellAt, placeOf}
 use Rattle.questions.proofs.Words.{unpacked-packed}
 use Rattle.questions.proofs.Indexes.{limited-is}
 
-module _ (b index : List ℕ) (q : Question) (line : ℕ) (log : List ℕ) (a p : ℕ) where
-  pub hears : (v : Answered) (w : ℕ) → a < p → w ≡ packed q → Small q → Answers b index (length index) q v → Hears b index (asks line q) log a p (set log a w) (record { end = Finished; answer = v; asked = a + 1 })
-  unfolding asks
-  hears v w h e s g = record {
-    does = λ n cs r text m k.
-        let l : questions (set log a w) ≡ set (questions log) a q = map-set unpacked log a w ∙ ap (λ x. set (questions log) a x) (ap unpacked e ∙ unpacked-packed q s) in
-        rw (same-answer b n index (length index) cs q v r g, l) (does-ask (answers b n) (at text m (questions log) a p k) q line (λ x. x) h);
+module _ (b index : List ℕ) (line : ℕ) (q : Question) (log : List ℕ) (a p : ℕ) where
+  abbrev Hearing : List ℕ → Heard → Type 0
+  Hearing log′ r = Hears b index (cellAt line q) log a p log′ r
+
+  outside : (r : Heard) → r ≡ unheard (Refused BadIndex) line a → cellAt line q ≡ stop BadIndex line → Hearing log r
+  outside r e h = rw e (record {
+    does = λ n cs k text m g. rw h (does-stop (answers b n) (at text m (questions log) a p g) BadIndex line);
     few = omega arith;
-  }
+  })
 
-  pub hears-full : p ≤ a → Hears b index (asks line q) log a p log (record { end = Halted (Cut ReadList) line; answer = Missing; asked = a })
-  unfolding asks
-  hears-full h = record {
-    does = λ n cs r text m k. does-ask-full (answers b n) (at text m (questions log) a p k) q line (λ x. done x) h;
-    few = omega arith;
-  }
-
-module _ (b index : List ℕ) (line d kind p r e : ℕ) (log : List ℕ) (a places : ℕ) where
-  abbrev Outside : Type 0
-  Outside = Hears b index (cellAt line d kind p r e) log a places log (record { end = Halted (Refused BadIndex) line; answer = Missing; asked = a })
-
-  outside : cellAt line d kind p r e ≡ stop BadIndex line → Outside
-  outside h = record {
-    does = λ n cs k text m g. rw h (does-stop (answers b n) (at text m (questions log) a places g) BadIndex line);
-    few = omega arith;
-  }
-
-  pub record-outside : 999 < r → Outside
+  pub record-outside : (r : Heard) → r ≡ unheard (Refused BadIndex) line a → 999 < q .«record» → Hearing log r
   unfolding cellAt
-  record-outside h = outside (rw (lt-leb r 999 h))
+  record-outside r e h = outside r e (rw (lt-leb (q .«record») 999 h))
 
-  pub entry-outside : r ≤ 999 → 999 < e → Outside
+  pub entry-outside : (r : Heard) → r ≡ unheard (Refused BadIndex) line a → q .«record» ≤ 999 → 999 < q .entry → Hearing log r
   unfolding cellAt
-  entry-outside l h = outside (rw (le-leb r 999 l, lt-leb e 999 h))
+  entry-outside r e l h = outside r e (rw (le-leb (q .«record») 999 l, lt-leb (q .entry) 999 h))
 
-  pub cell-inside : (log′ : List ℕ) (x : Heard) → r ≤ 999 → e ≤ 999 → Hears b index (asks line (question d kind p r e)) log a places log′ x → Hears b index (cellAt line d kind p r e) log a places log′ x
-  unfolding cellAt
-  cell-inside log′ x l h y = rw (le-leb r 999 l, le-leb e 999 h) y
+  module _ (l : q .«record» ≤ 999) (k : q .entry ≤ 999) where
+    inside : cellAt line q ≡ asks line q
+    unfolding cellAt
+    inside = rw (le-leb (q .«record») 999 l, le-leb (q .entry) 999 k)
+
+    pub no-place : (r : Heard) → r ≡ unheard (Cut ReadList) line a → p ≤ a → Hearing log r
+    unfolding asks
+    no-place r e h = rw e (record {
+      does = λ n cs y text m g. rw inside (does-ask-full (answers b n) (at text m (questions log) a p g) q line (λ x. done x) h);
+      few = omega arith;
+    })
+
+    pub hears : (v : Answered) (w : ℕ) → a < p → w ≡ packed q → Small q → Answers b index (length index) q v → Hearing (set log a w) (record { end = Finished; answer = v; asked = a + 1 })
+    unfolding asks
+    hears v w h e s g = record {
+      does = λ n cs r text m y.
+          let z : questions (set log a w) ≡ set (questions log) a q = map-set unpacked log a w ∙ ap (λ x. set (questions log) a x) (ap unpacked e ∙ unpacked-packed q s) in
+          rw (inside, same-answer b n index (length index) cs q v r g, z) (does-ask (answers b n) (at text m (questions log) a p y) q line (λ x. x) h);
+      few = omega arith;
+    }
 
 -- ---- a cell, by the places that the code works out
 
@@ -79,7 +78,7 @@ both line true true r e f = refl
 both line true false r e f = refl
 both line false u r e f = refl
 
-pub cell-is : (m : Machine) (line kind p : ℕ) (i j : Index) → cellMeaning m line kind p i j ≡ cellAt line (m .datasource) kind p (placeOf (indexNumber (m .variables .integers) (m .counter) i)) (placeOf (indexNumber (m .variables .integers) (m .counter) j))
+pub cell-is : (m : Machine) (line kind p : ℕ) (i j : Index) → cellMeaning m line kind p i j ≡ cellAt line (question (m .datasource) kind p (placeOf (indexNumber (m .variables .integers) (m .counter) i)) (placeOf (indexNumber (m .variables .integers) (m .counter) j)))
 unfolding cellMeaning indexValue cellAt
 cell-is m line kind p i j =
     let x = indexNumber (m .variables .integers) (m .counter) i in

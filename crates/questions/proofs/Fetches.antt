@@ -25,6 +25,7 @@ use Rattle.meaning.specs.declared.end.Ended.the-variants.{Finished, Halted}
 use Rattle.meaning.proofs.Doing.{does-stop}
 use Rattle.meaning.proofs.Asking.{asks-all, asks-cut}
 use Rattle.arguments.specs.declared.index.Index.{Index}
+use Rattle.lines.specs.declared.command.Fetch.{Fetch}
 use Rattle.questions.specs.declared.fetch.Along.{Along}
 use Rattle.questions.specs.declared.fetch.Along.the-variants.{Records, Entries}
 use Rattle.questions.specs.declared.fetch.Fetched.{Fetched}
@@ -137,40 +138,45 @@ within along r e n h =
       last = leb-true (firstOf along r e + n) 1000 (z .1);
     }
 
-module _ {first r e n d c a : ℕ} (h : Within first r e n) (k : Fetchable d c a) where
-  pub first-small : Small (question d 1 c r e)
-  first-small = record { kind = omega arith; datasource = omega (arith, k .datasource); parameter = omega (arith, k .parameter); at = omega (arith, h .records); entry = omega (arith, h .entries) }
+-- where the question of the first element is of kind 1, and its record and entry are within their limits
+module _ {q : Question} {first n a : ℕ} (h : Within first (q .«record») (q .entry) n) (k : (q .kind ≡ 1) × Fetchable (q .datasource) (q .parameter) a) where
+  pub first-small : Small q
+  first-small = record { kind = omega (arith, k .0); datasource = omega (arith, k .1 .datasource); parameter = omega (arith, k .1 .parameter); at = omega (arith, h .records); entry = omega (arith, h .entries) }
 
-  pub word-most : (w : ℕ) → w ≡ packed (question d 1 c r e) → w < 17592186044416
+  pub word-most : (w : ℕ) → w ≡ packed q → w < 17592186044416
   unfolding packed
-  word-most w g = omega (arith, g, k .datasource, k .parameter, h .records, h .entries)
+  word-most w g = omega (arith, g, k .0, k .1 .datasource, k .1 .parameter, h .records, h .entries)
 
 -- ---- the three ends
 
-module _ (line d : ℕ) (along : Along) (c r e n : ℕ) (log : List ℕ) (a p : ℕ) where
-  pub fetch-refused : fetchAllowed along r e n ≡ false → FetchAt line d along c r e n log a p log (record { end = Halted (Refused BadIndex) line; fetched = 0; asked = a })
+module _ (line : ℕ) (along : Along) (q : Question) (n : ℕ) (log : List ℕ) (a p : ℕ) where
+  pub fetch-refused : fetchAllowed along (q .«record») (q .entry) n ≡ false → FetchAt line along q n log a p log (record { end = Halted (Refused BadIndex) line; fetched = 0; asked = a })
   unfolding fetchAt
   fetch-refused h = record {
     fetches = record { does = λ source text m g. rw h (does-stop source (at text m (questions log) a p g) BadIndex line); few = omega arith };
   }
 
-  module _ (h : fetchAllowed along r e n ≡ true) where
-    module _ (k : Fetchable d c a) (w : ℕ) (g : w ≡ packed (question d 1 c r e)) where
-      in-limits : Within (firstOf along r e) r e n
-      in-limits = within along r e n h
+  module _ (h : fetchAllowed along (q .«record») (q .entry) n ≡ true) where
+    module _ (k : (q .kind ≡ 1) × Fetchable (q .datasource) (q .parameter) a) (w : ℕ) (g : w ≡ packed q) where
+      in-limits : Within (firstOf along (q .«record») (q .entry)) (q .«record») (q .entry) n
+      in-limits = within along (q .«record») (q .entry) n h
 
       abbrev Asked : List Question
-      Asked = elementQuestions (elementQuestion d along c r e) 0 n
+      Asked = elementQuestions (elementQuestion (q .datasource) along (q .parameter) (q .«record») (q .entry)) 0 n
+
+      of-kind-1 : w ≡ packed (question (q .datasource) 1 (q .parameter) (q .«record») (q .entry))
+      unfolding packed
+      of-kind-1 = omega (arith, g, k .0)
 
       words : questions (wordsFrom (stepOf along) w n) ≡ Asked
-      words = elements-are d c r e n (k .datasource) (k .parameter) (in-limits .records) (in-limits .entries) along w (in-limits .last) g
+      words = elements-are (q .datasource) (q .parameter) (q .«record») (q .entry) n (k .1 .datasource) (k .1 .parameter) (in-limits .records) (in-limits .entries) along w (in-limits .last) of-kind-1
 
       count : length Asked ≡ n
-      count = length-questions (elementQuestion d along c r e) 0 n
+      count = length-questions (elementQuestion (q .datasource) along (q .parameter) (q .«record») (q .entry)) 0 n
 
-      pub fetch-all : (log′ : List ℕ) (f : ℕ) → n ≤ p - a → log′ ≡ sets log a (wordsFrom (stepOf along) w n) → f ≡ w * 128 + n → FetchAt line d along c r e n log a p log′ (record { end = Finished; fetched = f; asked = a + n })
+      pub fetch-all : (log′ : List ℕ) (f : ℕ) → n ≤ p - a → log′ ≡ sets log a (wordsFrom (stepOf along) w n) → f ≡ w * 128 + n → FetchAt line along q n log a p log′ (record { end = Finished; fetched = f; asked = a + n })
       unfolding fetchAt fetched
-      fetch-all log′ f room l q = record {
+      fetch-all log′ f room l x = record {
         fetches = record {
           does = λ source text m z.
               let first : f / 128 ≡ w = omega (arith, in-limits .count) in
@@ -181,14 +187,14 @@ module _ (line d : ℕ) (along : Along) (c r e n : ℕ) (log : List ℕ) (a p : 
         };
       }
 
-      pub fetch-cut : (log′ : List ℕ) (left : ℕ) → left ≡ p - a → left < n → log′ ≡ sets log a (wordsFrom (stepOf along) w left) → FetchAt line d along c r e n log a p log′ (record { end = Halted (Cut ReadList) line; fetched = 0; asked = a + left })
+      pub fetch-cut : (log′ : List ℕ) (left : ℕ) → left ≡ p - a → left < n → log′ ≡ sets log a (wordsFrom (stepOf along) w left) → FetchAt line along q n log a p log′ (record { end = Halted (Cut ReadList) line; fetched = 0; asked = a + left })
       unfolding fetchAt
-      fetch-cut log′ left q room l = record {
+      fetch-cut log′ left x room l = record {
         fetches = record {
           does = λ source text m z.
               let some : take left Asked ≡ questions (wordsFrom (stepOf along) w left) = ap (take left) (sym words) ∙ take-words (stepOf along) w n left (omega arith) in
               let there : sets (questions log) a (take left Asked) ≡ questions log′ = ap (sets (questions log) a) some ∙ sym (map-sets unpacked log a (wordsFrom (stepOf along) w left)) ∙ ap questions (sym l) in
-              rw (h, ← there) (asks-cut source line text m p z Asked (questions log) a left q (omega (arith, count)));
+              rw (h, ← there) (asks-cut source line text m p z Asked (questions log) a left x (omega (arith, count)));
           few = omega (arith, in-limits .count);
         };
       }
@@ -210,7 +216,7 @@ all-four line true true false y r e n f = refl
 all-four line true false v y r e n f = refl
 all-four line false u v y r e n f = refl
 
-fetch-is : (m : Machine) (line : ℕ) (along : Along) (c : ℕ) (i j k : Index) → fetchMeaning m line along c i j k ≡ fetchAt line (m .datasource) along c (placeOf (indexNumber (m .variables .integers) (m .counter) i)) (placeOf (indexNumber (m .variables .integers) (m .counter) j)) (placeOf (indexNumber (m .variables .integers) (m .counter) k))
+fetch-is : (m : Machine) (line : ℕ) (along : Along) (c : ℕ) (i j k : Index) → fetchMeaning m line along c i j k ≡ fetchAt line along (question (m .datasource) 1 c (placeOf (indexNumber (m .variables .integers) (m .counter) i)) (placeOf (indexNumber (m .variables .integers) (m .counter) j))) (placeOf (indexNumber (m .variables .integers) (m .counter) k))
 unfolding fetchMeaning indexValue asksElements fetchAt fetchAllowed
 fetch-is m line along c i j k =
     let x = indexNumber (m .variables .integers) (m .counter) i in
@@ -218,14 +224,11 @@ fetch-is m line along c i j k =
     let z = indexNumber (m .variables .integers) (m .counter) k in
     rw (limited-is line x, limited-is line y, counted-is line z) (all-four line (leb (placeOf x) 999) (leb (placeOf y) 999) (leb (placeOf z) 64) (λ r e n. leb (firstOf along r e + n) 1000) (placeOf x) (placeOf y) (placeOf z) (λ r e n. asksEach line (elementQuestions (elementQuestion (m .datasource) along c r e) 0 n)))
 
-pub fetch-value : (numbers : List ℤ) (sc : Scene) (along : Along) (c : ℕ) (i j k : Index) (log : List ℕ) (a p : ℕ) (log′ : List ℕ) (v : Fetched) (r e n : ℕ) (z z′ z″ : ℤ) → z ≡ sc .turn → z′ ≡ sc .turn → z″ ≡ sc .turn → r ≡ placeOf (indexNumber (integersIn numbers) z i) → e ≡ placeOf (indexNumber (integersIn numbers) z′ j) → n ≡ placeOf (indexNumber (integersIn numbers) z″ k) → FetchAt (sc .number) (sc .datasource) along c r e n log a p log′ v → FetchValue numbers sc along c i j k log a p log′ v
-fetch-value numbers sc along c i j k log a p log′ v r e n z z′ z″ q q′ q″ hr he hn d = record {
+pub fetch-value : (numbers : List ℤ) (sc : Scene) (along : Along) (f : Fetch) (log : List ℕ) (a p : ℕ) (log′ : List ℕ) (v : Fetched) (r e n : ℕ) (z : ℤ) → z ≡ sc .turn → r ≡ placeOf (indexNumber (integersIn numbers) z (f .first)) → e ≡ placeOf (indexNumber (integersIn numbers) z (f .second)) → n ≡ placeOf (indexNumber (integersIn numbers) z (f .count)) → FetchAt (sc .number) along (question (sc .datasource) 1 (f .parameter) r e) n log a p log′ v → FetchValue numbers sc along f log a p log′ v
+fetch-value numbers sc along f log a p log′ v r e n z q hr he hn d = record {
   fetches = λ rows words. record {
     does = λ source text m g.
-        let x : r ≡ placeOf (indexNumber (integersIn numbers) (sc .turn) i) = hr ∙ ap (λ t. placeOf (indexNumber (integersIn numbers) t i)) q in
-        let y : e ≡ placeOf (indexNumber (integersIn numbers) (sc .turn) j) = he ∙ ap (λ t. placeOf (indexNumber (integersIn numbers) t j)) q′ in
-        let w : n ≡ placeOf (indexNumber (integersIn numbers) (sc .turn) k) = hn ∙ ap (λ t. placeOf (indexNumber (integersIn numbers) t k)) q″ in
-        rw (fetch-is (machine source (held numbers rows words) sc) (sc .number) along c i j k, ← x, ← y, ← w) (d .fetches .does source text m g);
+        rw (fetch-is (machine source (held numbers rows words) sc) (sc .number) along (f .parameter) (f .first) (f .second) (f .count), ← q, ← hr, ← he, ← hn) (d .fetches .does source text m g);
     few = d .fetches .few;
   };
 }

@@ -3,8 +3,8 @@ use crate::scene;
 use crate::scene::Numbers;
 use crate::scene::Scene;
 use crate::word;
-use arguments::index::Index;
 use cells::Answered;
+use lines::command::Fetch;
 use meaning::end::Ended;
 use meaning::end::Halt;
 use meaning::question::Question;
@@ -103,35 +103,26 @@ fn note(log: &mut [u64; 512], at: usize, along: Along, word: u64, n: usize)
     }
 }
 
+// The elements from a question on: 8 before any is asked, then each.
 fn fetch_at(
     along: Along,
-    datasource: u32,
-    line: u32,
-    parameter: usize,
-    at: u32,
-    entry: u32,
+    question: Question,
     n: u32,
+    line: u32,
     log: &mut [u64; 512],
     asked: usize,
     places: usize,
 ) -> Fetched
-    requires { ⌜ Fetchable datasource parameter asked ⌝ }
-    ensures { λ r. ⌜ FetchAt line datasource along parameter at entry n (now (log .entry)) asked places (now (log .exit)) r ⌝ }
+    requires { ⌜ (question .kind ≡ 1) × (Fetchable (question .datasource) (question .parameter) asked) ⌝ }
+    ensures { λ r. ⌜ FetchAt line along question n (now (log .entry)) asked places (now (log .exit)) r ⌝ }
 {
-    if !allowed(along, at, entry, n) {
+    if !allowed(along, question.record, question.entry, n) {
         return Fetched {
             end: Ended::Halted(Halt::Refused(Refusal::BadIndex), line),
             fetched: 0,
             asked,
         };
     }
-    let question = Question {
-        kind: 1,
-        datasource,
-        parameter: parameter as u32,
-        record: at,
-        entry,
-    };
     let word = word::packed(question);
     let count = n as usize;
     let left = scene::less(places, asked);
@@ -154,32 +145,28 @@ fn fetch_at(
 // What `$REC n Pm record entry count` and `$TBL` fetch: 8 before any question, then each element's.
 pub fn fetch(
     along: Along,
-    parameter: usize,
-    i: Index,
-    j: Index,
-    n: Index,
+    f: Fetch,
     scene: Scene,
     numbers: &Numbers,
     log: &mut [u64; 512],
     asked: usize,
     places: usize,
 ) -> Fetched
-    requires { ⌜ Fetchable (scene .datasource) parameter asked ⌝ }
-    ensures { λ r. ⌜ FetchValue (now (numbers .entry)) scene along parameter i j n (now (log .entry)) asked places (now (log .exit)) r ⌝ }
+    requires { ⌜ Fetchable (scene .datasource) (f .parameter) asked ⌝ }
+    ensures { λ r. ⌜ FetchValue (now (numbers .entry)) scene along f (now (log .entry)) asked places (now (log .exit)) r ⌝ }
 {
-    let at = scene::index_place(i, scene.turn, numbers);
-    let entry = scene::index_place(j, scene.turn, numbers);
-    let count = scene::index_place(n, scene.turn, numbers);
-    fetch_at(
-        along,
-        scene.datasource,
-        scene.number,
-        parameter,
-        at,
+    let first = f.first;
+    let second = f.second;
+    let third = f.count;
+    let at = scene::index_place(first, scene.turn, numbers);
+    let entry = scene::index_place(second, scene.turn, numbers);
+    let count = scene::index_place(third, scene.turn, numbers);
+    let question = Question {
+        kind: 1,
+        datasource: scene.datasource,
+        parameter: f.parameter as u32,
+        record: at,
         entry,
-        count,
-        log,
-        asked,
-        places,
-    )
+    };
+    fetch_at(along, question, count, scene.number, log, asked, places)
 }

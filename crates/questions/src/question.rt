@@ -6,10 +6,8 @@ use meaning::end::Halt;
 use meaning::question::Question;
 use meaning::refusal::Overflow;
 use meaning::refusal::Refusal;
-ghost use Prim.Native.Nat.{_<_};
-ghost use Rattle.questions.specs.inner.Word.{Small};
-ghost use Rattle.questions.specs.Asking.{asks};
-ghost use Rattle.questions.specs.inner.Hearing.{Hears, Askable, cellAt};
+ghost use mathlib.Core.Path.{_≡_};
+ghost use Rattle.questions.specs.inner.Hearing.{unheard, Hears, Askable, cellAt};
 
 // How a question ended, its answer, and how many questions have been asked now.
 pub struct Heard {
@@ -18,8 +16,19 @@ pub struct Heard {
     pub asked: usize,
 }
 
-// One question, where the read list has a place for it.
-fn ask(
+// No answer, since the line is refused or cut.
+fn unheard(halt: Halt, line: u32, asked: usize) -> Heard
+    ensures { λ r. ⌜ r ≡ unheard halt line asked ⌝ }
+{
+    Heard {
+        end: Ended::Halted(halt, line),
+        answer: Answered::Missing,
+        asked,
+    }
+}
+
+// "8 then 9": a record and an entry from 0 to 999, then the question, where the read list has a place for it.
+pub fn ask_cell(
     store: &[u8],
     index: &[u16],
     question: Question,
@@ -28,62 +37,23 @@ fn ask(
     asked: usize,
     places: usize,
 ) -> Heard
-    requires { ⌜ (Small question) × (asked < 512) ⌝ }
-    ensures { λ r. ⌜ Hears (now (store .entry)) (now (index .entry)) (asks line question) (now (log .entry)) asked places (now (log .exit)) r ⌝ }
+    requires { ⌜ Askable (question .datasource) (question .kind) (question .parameter) asked ⌝ }
+    ensures { λ r. ⌜ Hears (now (store .entry)) (now (index .entry)) (cellAt line question) (now (log .entry)) asked places (now (log .exit)) r ⌝ }
 {
-    if asked < places {
-        log[asked] = word::packed(question);
-        let answer = cells::question::answer(store, index, index.len(), question);
-        return Heard {
-            end: Ended::Finished,
-            answer,
-            asked: asked + 1,
-        };
+    if 999 < question.record {
+        return unheard(Halt::Refused(Refusal::BadIndex), line, asked);
     }
+    if 999 < question.entry {
+        return unheard(Halt::Refused(Refusal::BadIndex), line, asked);
+    }
+    if places <= asked {
+        return unheard(Halt::Cut(Overflow::ReadList), line, asked);
+    }
+    log[asked] = word::packed(question);
+    let answer = cells::question::answer(store, index, index.len(), question);
     Heard {
-        end: Ended::Halted(Halt::Cut(Overflow::ReadList), line),
-        answer: Answered::Missing,
-        asked,
+        end: Ended::Finished,
+        answer,
+        asked: asked + 1,
     }
-}
-
-// "8 then 9": a record and an entry from 0 to 999, then the question.
-pub fn ask_cell(
-    store: &[u8],
-    index: &[u16],
-    datasource: u32,
-    line: u32,
-    kind: u32,
-    parameter: usize,
-    at: u32,
-    entry: u32,
-    log: &mut [u64; 512],
-    asked: usize,
-    places: usize,
-) -> Heard
-    requires { ⌜ Askable datasource kind parameter asked ⌝ }
-    ensures { λ r. ⌜ Hears (now (store .entry)) (now (index .entry)) (cellAt line datasource kind parameter at entry) (now (log .entry)) asked places (now (log .exit)) r ⌝ }
-{
-    if 999 < at {
-        return Heard {
-            end: Ended::Halted(Halt::Refused(Refusal::BadIndex), line),
-            answer: Answered::Missing,
-            asked,
-        };
-    }
-    if 999 < entry {
-        return Heard {
-            end: Ended::Halted(Halt::Refused(Refusal::BadIndex), line),
-            answer: Answered::Missing,
-            asked,
-        };
-    }
-    let question = Question {
-        kind,
-        datasource,
-        parameter: parameter as u32,
-        record: at,
-        entry,
-    };
-    ask(store, index, question, line, log, asked, places)
 }

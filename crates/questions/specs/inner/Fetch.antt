@@ -17,7 +17,7 @@ use Rattle.cells.specs.declared.Answered.{Answered}
 use Rattle.cells.specs.Asking as C
 use Rattle.cells.specs.Cell.{Cell}
 use Rattle.cells.specs.inner.Index.{Ready}
-use Rattle.arguments.specs.declared.index.Index.{Index}
+use Rattle.lines.specs.declared.command.Fetch.{Fetch}
 use Rattle.questions.specs.declared.fetch.Along.{Along}
 use Rattle.questions.specs.declared.fetch.Fetched.{Fetched}
 use Rattle.questions.specs.declared.scene.Scene.{Scene}
@@ -30,9 +30,10 @@ use Rattle.questions.specs.Fetching.{elementQuestion, elementQuestions, 
 unfoldable pub fetchAllowed : Along → ℕ → ℕ → ℕ → Bool
 fetchAllowed along r e n = leb r 999 && (leb e 999 && (leb n 64 && leb (firstOf along r e + n) 1000))
 
-unfoldable pub fetchAt : ℕ → ℕ → Along → ℕ → ℕ → ℕ → ℕ → Meaning (List Answer)
-fetchAt line d along p r e n =
-    cond (fetchAllowed along r e n) (asksEach line (elementQuestions (elementQuestion d along p r e) 0 n)) (stop BadIndex line)
+-- the elements from a question on
+unfoldable pub fetchAt : ℕ → Along → Question → ℕ → Meaning (List Answer)
+fetchAt line along q n =
+    cond (fetchAllowed along (q .«record») (q .entry) n) (asksEach line (elementQuestions (elementQuestion (q .datasource) along (q .parameter) (q .«record») (q .entry)) 0 n)) (stop BadIndex line)
 
 -- What a call that fetches says, of any source of answers, since it looks none up: from a log filled up to a, with p places in
 -- all, t led to log′, and the number that r keeps stands for the answers.
@@ -40,11 +41,11 @@ pub record Fetches (t : (Question → Answer) → Meaning (List Answer)) (along 
   pub does : (source : Question → Answer) (text : List ℕ) (m g : ℕ) → Does source (t source) (at text m (questions log) a p g) (at text m (questions log′) (r .asked) p g) (endOf (fetched source along (r .fetched)) (r .end))
   pub few : r .asked ≤ a + 64
 
-pub record FetchAt (line d : ℕ) (along : Along) (c r e n : ℕ) (log : List ℕ) (a p : ℕ) (log′ : List ℕ) (v : Fetched) : Type 0 where
-  pub fetches : Fetches (λ source. fetchAt line d along c r e n) along log a p log′ v
+pub record FetchAt (line : ℕ) (along : Along) (q : Question) (n : ℕ) (log : List ℕ) (a p : ℕ) (log′ : List ℕ) (v : Fetched) : Type 0 where
+  pub fetches : Fetches (λ source. fetchAt line along q n) along log a p log′ v
 
-pub record FetchValue (numbers : List ℤ) (scene : Scene) (along : Along) (c : ℕ) (i j k : Index) (log : List ℕ) (a p : ℕ) (log′ : List ℕ) (v : Fetched) : Type 0 where
-  pub fetches : (rows : List (List ℕ)) (words : List ℕ) → Fetches (λ source. fetchMeaning (machine source (held numbers rows words) scene) (scene .number) along c i j k) along log a p log′ v
+pub record FetchValue (numbers : List ℤ) (scene : Scene) (along : Along) (f : Fetch) (log : List ℕ) (a p : ℕ) (log′ : List ℕ) (v : Fetched) : Type 0 where
+  pub fetches : (rows : List (List ℕ)) (words : List ℕ) → Fetches (λ source. fetchMeaning (machine source (held numbers rows words) scene) (scene .number) along (f .parameter) (f .first) (f .second) (f .count)) along log a p log′ v
 
 -- What such a call requires: a datasource and a parameter within their limits, and 64 places in the log.
 pub record Fetchable (d c a : ℕ) : Type 0 where

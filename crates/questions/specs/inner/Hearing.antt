@@ -10,13 +10,17 @@ use Rattle.meaning.specs.Tree.{stop}
 use Rattle.meaning.specs.Meaning.{Meaning}
 use Rattle.meaning.specs.Number.{endOf}
 use Rattle.meaning.specs.Place.{at, Does}
+use Rattle.meaning.specs.declared.question.Question.{Question}
 use Rattle.meaning.specs.declared.refusal.Refusal.the-variants.{BadIndex}
+use Rattle.meaning.specs.declared.end.Halt.{Halt}
+use Rattle.meaning.specs.declared.end.Ended.the-variants.{Halted}
+use Rattle.cells.specs.declared.Answered.the-variants.{Missing}
 use Rattle.cells.specs.Asking as C
 use Rattle.cells.specs.Cell.{Cell}
 use Rattle.cells.specs.inner.Index.{Ready}
 use Rattle.questions.specs.declared.question.Heard.{Heard}
 use Rattle.questions.specs.inner.Word.{questions}
-use Rattle.questions.specs.Asking.{question, asks}
+use Rattle.questions.specs.Asking.{asks}
 use Rattle.questions.specs.Source.{answers}
 
 -- an index from 0 to 999, or 1000
@@ -25,9 +29,13 @@ placeOf (pos k) = cond (leb k 999) k 1000
 placeOf (negsuc k) = 1000
 
 -- the same as a cell's meaning, for the code: its record and entry are from 0 to 999, or 1000
-unfoldable pub cellAt : ℕ → ℕ → ℕ → ℕ → ℕ → ℕ → Meaning Answer
-cellAt line d kind p r e =
-    cond (leb r 999) (cond (leb e 999) (asks line (question d kind p r e)) (stop BadIndex line)) (stop BadIndex line)
+unfoldable pub cellAt : ℕ → Question → Meaning Answer
+cellAt line q =
+    cond (leb (q .«record») 999) (cond (leb (q .entry) 999) (asks line q) (stop BadIndex line)) (stop BadIndex line)
+
+-- no answer, since the line is refused or cut
+abbrev pub unheard : Halt → ℕ → ℕ → Heard
+unheard h line a = record { end = Halted h line; answer = Missing; asked = a }
 
 -- A call that only asks, over the store and its index: from a log filled up to a, with p places in all, t led to log′ and
 -- was answered by r, whatever the text is and however many pages there are.

@@ -2,6 +2,7 @@
 use mathlib.Core.Path.{_≡_}
 use mathlib.Core.List.{List}
 use Prim.Native.Nat.{ℕ, _+_, _≤_}
+use lib.IntN.{ℤ}
 use lib.ListN.{length}
 use Rattle.meaning.specs.Answer.{Answer}
 use Rattle.meaning.specs.Meaning.{Meaning}
@@ -19,7 +20,7 @@ use Rattle.questions.specs.declared.question.Heard.{Heard}
 use Rattle.questions.specs.declared.scene.Scene.{Scene}
 use Rattle.questions.specs.inner.Word.{questions}
 use Rattle.questions.specs.Source.{answers}
-use Rattle.questions.specs.inner.State.{Held, machine}
+use Rattle.questions.specs.inner.State.{Held, held, machine}
 use Rattle.values.specs.declared.worth.Worth as D
 use Rattle.values.specs.declared.worth.Worth.the-variants as W
 use Rattle.values.specs.declared.worth.Valued.{Valued}
@@ -51,9 +52,9 @@ pub record ValuedOf (h : Heard) (r : Valued) : Type 0 where
   pub worth : Tells (h .answer) (r .worth)
   pub asked : r .asked ≡ h .asked
 
--- What `operand_value` and `argument_value` say, by all that they are handed and hand back.
-pub record OperandValue (line store index : List ℕ) (vars : Held) (scene : Scene) (kind : ℕ) (o : Operand) (log : List ℕ) (a p : ℕ) (log′ : List ℕ) (r : Valued) : Type 0 where
-  pub yields : Yields (strings line store (vars .rows)) index (λ source. operandMeaning (machine source vars scene) line (scene .number) kind o) log a p log′ r
+-- What `operand_value` and `argument_value` say, by all that they are handed and hand back; the first wherever strings lie.
+pub record OperandValue (store index : List ℕ) (numbers : List ℤ) (words : List ℕ) (scene : Scene) (kind : ℕ) (o : Operand) (log : List ℕ) (a p : ℕ) (log′ : List ℕ) (r : Valued) : Type 0 where
+  pub yields : (line : List ℕ) (rows : List (List ℕ)) → Yields (strings line store rows) index (λ source. operandMeaning (machine source (held numbers rows words) scene) line (scene .number) kind o) log a p log′ r
 
 pub record ArgumentValue (line store index : List ℕ) (vars : Held) (scene : Scene) (x : Argument) (log : List ℕ) (a p : ℕ) (log′ : List ℕ) (r : Valued) : Type 0 where
   pub yields : Yields (strings line store (vars .rows)) index (λ source. argumentMeaning (machine source vars scene) line (scene .number) x) log a p log′ r

@@ -20,7 +20,10 @@ fetch-at-requires : tie.Need-fetch-at-requires
 fetch-at-requires c κs = search needs
 
 returns : tie.Need-returns
-returns c = let f : SFits w64 (c .before .before .before .before .before .before .before .before .args .scene .turn) = search needs in fetch-value _ _ _ _ _ _ _ _ _ _ _ _ _ _ _ _ _ _ (toZ-ofZ w64 _ f) (toZ-ofZ w64 _ f) (toZ-ofZ w64 _ f) (c .before .before .before .before .before .before .index-place .ensures) (c .before .before .before .before .index-place2 .ensures) (c .before .before .index-place3 .ensures) (c .fetch-at .ensures)
+returns c = let f : SFits w64 (c .before .before .before .before .before .before .before .before .before .args .scene .turn) = search needs in fetch-value _ _ _ _ _ _ _ _ _ _ _ _ _ (toZ-ofZ w64 _ f) (c .before .before .before .before .before .before .before .index-place .ensures) (c .before .before .before .before .before .index-place2 .ensures) (c .before .before .before .index-place3 .ensures) (c .fetch-at .ensures)
+
+cast-t15 : tie.Need-cast-t15
+cast-t15 c = search needs
 
 pub fetch-spec : {M : Type 1} → statement M
 fetch-spec =
@@ -29,5 +32,6 @@ fetch-spec =
     index-place-requires
     index-place-requires-2
     index-place-requires-3
+    cast-t15
     fetch-at-requires
     returns)
