@@ -1,61 +1,13 @@
 //! Reports beside the second interpreter and beside plain Rust that draws one fixed sheet without an interpreter.
 
-use crate::{stack, time};
+use crate::lent::Lent;
+use crate::sheets::{load, twelve};
+use crate::time;
 use second::{Question, Value};
-use station_tests::report::{report, Asked};
-use station_tests::store::{cell, index, key, look_up, put, remove, Handed, MOST_CELLS};
+use station_tests::report::Asked;
+use station_tests::store::{cell, index, look_up, Handed, MOST_CELLS};
 use station_tests::template::check;
-use std::fmt::Write;
 use std::hint::black_box;
-
-const ROOM: usize = 65_536;
-const PLACES: usize = 4_096;
-
-/// What a report is lent, for ours and for the second interpreter.
-struct Lent {
-    text: Vec<u8>,
-    reads: Vec<Asked>,
-    other: Vec<Question>,
-}
-
-impl Lent {
-    fn new() -> Self {
-        Lent {
-            text: vec![0; ROOM],
-            reads: vec![Asked::default(); PLACES],
-            other: vec![Question::default(); PLACES],
-        }
-    }
-
-    fn clear(&mut self) {
-        self.text.fill(0);
-        self.reads.fill(Asked::default());
-        self.other.fill(Question::default());
-    }
-
-    fn ours(&mut self, template: &[u8], store: &[u8]) -> second::Report {
-        report(
-            template,
-            b"",
-            store,
-            store.len(),
-            &mut self.text,
-            &mut self.reads,
-        )
-    }
-
-    fn theirs(&mut self, template: &[u8], store: &[u8]) -> second::Report {
-        let length = store.len();
-        second::report(
-            template,
-            b"",
-            store,
-            length,
-            &mut self.text,
-            &mut self.other,
-        )
-    }
-}
 
 /// Nanoseconds of a report by ours and by the second interpreter, buffers cleared before each; both must end alike.
 fn both(rounds: usize, template: &[u8], store: &[u8]) -> (f64, f64, second::Report) {
@@ -86,42 +38,7 @@ fn both(rounds: usize, template: &[u8], store: &[u8]) -> (f64, f64, second::Repo
     (ours - cleared, theirs - cleared, end)
 }
 
-// ---- document 02, Eleven and Twelve
-
-/// The store after 3,000 edits from seed 0.
-fn load() -> Vec<u8> {
-    let mut seed = 0_u32;
-    let mut draw = || {
-        seed = seed.wrapping_mul(1_664_525).wrapping_add(1_013_904_223);
-        (seed / 65_536) as u16
-    };
-    let mut buffer = vec![0; 65_536];
-    let mut length = 0;
-    for _ in 0..3_000 {
-        let [first, datasource, parameter, record, value] = [(); 5].map(|()| draw());
-        let place = [1 + datasource % 35, 1 + parameter % 500, record % 20, 0];
-        let edited = match first % 2 {
-            1 => remove(&mut buffer, length, &key(place)),
-            _ => put(
-                &mut buffer,
-                length,
-                &cell(place, &Value::Integer(value.into())),
-            ),
-        };
-        length = edited.length;
-    }
-    buffer.truncate(length);
-    buffer
-}
-
-/// "a table of 20 passes prints `{Pn.LOOP,11}` for n from 1 to 100, a line each", in datasource 35.
-fn twelve() -> Vec<u8> {
-    let mut template = String::from("$SEC A\n$SETDS 35\n$BT 20\n");
-    for n in 1..=100 {
-        let _ = writeln!(template, "{{P{n}.LOOP,11}}");
-    }
-    (template + "$ET\n").into_bytes()
-}
+// ---- document 02, Twelve
 
 fn key_at(store: &[u8], at: usize) -> u64 {
     u64::from_be_bytes(store[at..at + 8].try_into().expect("eight bytes")) & 0x00ff_ffff_ffff_ffff
@@ -229,6 +146,12 @@ fn sheet_of_twelve() {
     let (mut a, mut b, mut c, mut d) = (Lent::new(), Lent::new(), Lent::new(), Lent::new());
     let end = a.ours(&template, &store);
     assert_eq!((end.number, end.questions), (0, 2_000));
+    let lines = a.text[..end.text_bytes].split_inclusive(|&b| b == b'\n');
+    let found = |line: &&[u8]| !line.contains(&b'?');
+    assert_eq!(
+        (lines.clone().count(), lines.filter(found).count()),
+        (2_000, 8)
+    );
     assert_eq!(end, b.theirs(&template, &store));
     for (l, draw) in [
         (&mut c, by_index as fn(&[u8], &mut Lent) -> (usize, usize)),
@@ -420,19 +343,8 @@ fn other_cells() {
     }
 }
 
-fn stacks() {
-    let (store, template) = (load(), twelve());
-    let mut l = Lent::new();
-    let used = stack::used(move || {
-        black_box(l.ours(&template, &store));
-    });
-    println!("\nstack in bytes, of 65,536: report {used}\n");
-    assert!(used < 65_536, "report uses more than 64 KB of stack");
-}
-
 pub fn run() {
     sheet_of_twelve();
     other_reports();
     other_cells();
-    stacks();
 }
