@@ -7,10 +7,7 @@ use native.Mathlib.Omega.{arith}
 use native.Mathlib.Nat.{le-antisymm}
 use lib.ListN.{length, take, drop, getD, set, length-set, length-take}
 use lib.Seq.{sets, sets-eq, take-all, take-at, length-take-le}
-use Rattle.meaning.specs.Tree.{finished}
 use Rattle.meaning.specs.declared.refusal.Refusal.{Refusal}
-use Rattle.meaning.specs.declared.end.Halt.the-variants as H
-use Rattle.meaning.specs.declared.end.Ended.the-variants.{Finished, Halted}
 use Rattle.buffers.proofs.Laws.{copied-more}
 use Rattle.strings.specs.declared.part.Text.{Text}
 use Rattle.strings.specs.Letters.{letter}
@@ -19,9 +16,11 @@ use Rattle.strings.proofs.Texts.{text-is, length-cased}
 use Rattle.questions.specs.inner.State.{texts, bank, lengthsIn}
 use Rattle.values.specs.declared.worth.Worth.{Worth}
 use Rattle.values.proofs.Keeping.{strings-kept}
+use Rattle.coercions.specs.declared.settle.Verdict.the-variants as Ve
 use Rattle.coercions.specs.declared.settle.Phrase.{Phrase}
 use Rattle.coercions.specs.declared.settle.Phrase.the-variants.{String, NoString}
 use Rattle.assignments.specs.Setting.{setNumbered, stored, stringNew}
+use Rattle.coercions.specs.Settling.{settled}
 use Rattle.coercions.specs.inner.Contracts.{TakesText}
 use Rattle.assignments.specs.inner.Contracts.{Rowed, Puts, PutsString, StoresString}
 use Rattle.assignments.proofs.Sets.{put-none, put-in, put-past}
@@ -104,19 +103,19 @@ module _ (rows : List (List ℕ)) (words : List ℕ) (n : ℕ) (row : List ℕ) 
 
 -- ---- a value in hand
 
-module _ (line store : List ℕ) (rows : List (List ℕ)) (words : List ℕ) (n number : ℕ) (w : Worth) (k : Rowed rows) (phrase : Phrase) (d : TakesText w phrase) where
+module _ (line store : List ℕ) (rows : List (List ℕ)) (words : List ℕ) (n : ℕ) (w : Worth) (k : Rowed rows) (phrase : Phrase) (d : TakesText w phrase) where
   abbrev Here : Strings
   Here = strings line store rows
 
-  pub string-refused : (e : Refusal) → phrase ≡ NoString e → StoresString line store rows words n number w rows words (Halted (H.Refused e) number)
+  pub string-refused : (e : Refusal) → phrase ≡ NoString e → StoresString line store rows words n w rows words (Ve.Refused e)
   unfolding stored stringNew
-  string-refused e h = record { concludes = record { same = rw (← (d .same Here), h) }; held = k; above = λ i k g. refl }
+  string-refused e h = record { same = rw (← (d .same Here), h); held = k; above = λ i k g. refl }
 
   module _ (t : Text) (h : phrase ≡ String t) (row found : List ℕ) (r : row ≡ rowFor rows (t .source)) (f : found ≡ take (t .count) (drop (t .at) (chosen line store row (t .source)))) where
-    pub string-stored : (copy : List ℕ) (count : ℕ) → copy ≡ sets zeros 0 (take 16 (cased (t .upper) found)) → count ≡ length (take 16 found) → (rows′ : List (List ℕ)) (words′ : List ℕ) → PutsString rows words n (take count copy) rows′ words′ → StoresString line store rows words n number w rows′ words′ Finished
+    pub string-stored : (copy : List ℕ) (count : ℕ) → copy ≡ sets zeros 0 (take 16 (cased (t .upper) found)) → count ≡ length (take 16 found) → (rows′ : List (List ℕ)) (words′ : List ℕ) → PutsString rows words n (take count copy) rows′ words′ → StoresString line store rows words n w rows′ words′ Ve.Passed
     unfolding stored stringNew
     string-stored copy count e l rows′ words′ p = record {
-      concludes = record { same = rw (← (d .same Here), h) (ap finished (p .put ∙ ap (λ (s : List ℕ). setNumbered (texts rows 0 (lengthsIn words)) n s) (copy-is found (t .upper) copy count e l ∙ ap (take 16) (text-is Here t row found r f)))) };
+      same = rw (← (d .same Here), h) (ap settled (sym (p .put ∙ ap (λ (s : List ℕ). setNumbered (texts rows 0 (lengthsIn words)) n s) (copy-is found (t .upper) copy count e l ∙ ap (take 16) (text-is Here t row found r f)))));
       held = p .held;
       above = p .above;
     }

@@ -9,9 +9,6 @@ use lib.Seq.{set-out, drop-set-add, take-set-le, take-set-lt, drop-set-lt}
 use Rattle.meaning.specs.Answer.{Answer}
 use Rattle.meaning.specs.declared.question.Question.{Question}
 use Rattle.meaning.specs.declared.refusal.Refusal.{Refusal}
-use Rattle.meaning.specs.declared.end.Halt.the-variants as H
-use Rattle.meaning.specs.declared.end.Ended.{Ended}
-use Rattle.meaning.specs.declared.end.Ended.the-variants.{Finished, Halted}
 use Rattle.numbers.specs.Outcome.{Outcome}
 use Rattle.lines.specs.declared.command.Operation.{Operation}
 use Rattle.lines.specs.declared.command.Target.{Target}
@@ -24,11 +21,12 @@ use Rattle.values.specs.Worth as D
 use Rattle.values.specs.inner.Yielding.{meant}
 use Rattle.coercions.specs.declared.settle.Taken.{Taken}
 use Rattle.coercions.specs.declared.settle.Taken.the-variants.{Value, Refused}
-use Rattle.coercions.specs.Settling.{Settled, resultOf}
+use Rattle.coercions.specs.declared.settle.Verdict.{Verdict}
+use Rattle.coercions.specs.declared.settle.Verdict.the-variants as Ve
+use Rattle.coercions.specs.Settling.{Settled, settled, against, resultOf}
 use Rattle.assignments.specs.Setting.{setNumbered, stored, newFrom, integerNew, decimalNew, stringNew, withIntegers, withDecimals, withStrings, setOf}
-use Rattle.coercions.specs.inner.Contracts.{takenOf, Takes}
+use Rattle.coercions.specs.inner.Contracts.{takenOf, verdictOf, mapped, Takes}
 use Rattle.assignments.specs.inner.Contracts.{Rowed, Puts, StoresNumber, StoresString, Assigns}
-use Rattle.coercions.proofs.Running.{concludes-in}
 
 -- ---- what a variable becomes
 
@@ -86,46 +84,51 @@ module _ {A : Type 0} (l : List A) (from size n : ℕ) (x : A) where
     above = λ i j g. ap (take j) (drop-set-lt i l (from + (n - 1)) y (omega arith));
   }
 
-module _ (l : List ℤ) (from n : ℕ) (t : Taken) (line : ℕ) where
-  pub stored-refused : (e : Refusal) → t ≡ Refused e → StoresNumber l from n t line l (Halted (H.Refused e) line)
+module _ (l : List ℤ) (from n : ℕ) (t : Taken) where
+  pub stored-refused : (e : Refusal) → t ≡ Refused e → StoresNumber l from n t l (Ve.Refused e)
   unfolding stored
-  stored-refused e h = record { concludes = record { same = rw h }; below = λ i k g. refl; above = λ i k g. refl }
+  stored-refused e h = record { same = rw h; below = λ i k g. refl; above = λ i k g. refl }
 
-  pub stored-value : (l′ : List ℤ) (z : ℤ) → t ≡ Value z → Puts l from 99 n z l′ → StoresNumber l from n t line l′ Finished
+  pub stored-value : (l′ : List ℤ) (z : ℤ) → t ≡ Value z → Puts l from 99 n z l′ → StoresNumber l from n t l′ Ve.Passed
   unfolding stored
-  stored-value l′ z h d = record { concludes = record { same = rw (h, d .own) }; below = d .below; above = d .above }
+  stored-value l′ z h d = record { same = rw (h, d .own); below = d .below; above = d .above }
 
 -- ---- a value in hand
 
-module _ (line store : List ℕ) (numbers : List ℤ) (rows : List (List ℕ)) (words : List ℕ) (number : ℕ) (o : Operation) (t : Target) (w : Worth) (n : ℕ) (end : Ended) (r : Rowed rows) where
+-- what is stored, put into the machine
+stored-in : {A B C : Type 0} (f : A → B) (a : A) (x : Settled A) (y : Settled C) → x ≡ mapped (λ _. a) y → mapped f x ≡ mapped (λ _. f a) y
+stored-in f a x (settled c) e = rw e
+stored-in f a x (against r) e = rw e
+
+module _ (line store : List ℕ) (numbers : List ℤ) (rows : List (List ℕ)) (words : List ℕ) (o : Operation) (t : Target) (w : Worth) (n : ℕ) (v : Verdict) (r : Rowed rows) where
   abbrev Here : Strings
   Here = strings line store rows
 
   abbrev Now : (Question → Answer) → Variables
   Now source = variablesOf source (held numbers rows words)
 
-  pub assigned-integer : t ≡ IntegerTarget n → (a : ℤ) → a ≡ numbered (pos 0) (integersIn numbers) n → (taken : Taken) → Takes (integerNew o a) w taken → (numbers′ : List ℤ) → StoresNumber numbers 0 n taken number numbers′ end → Assigns line store (held numbers rows words) number o t w (held numbers′ rows words) end
+  pub assigned-integer : t ≡ IntegerTarget n → (a : ℤ) → a ≡ numbered (pos 0) (integersIn numbers) n → (taken : Taken) → Takes (integerNew o a) w taken → (numbers′ : List ℤ) → StoresNumber numbers 0 n taken numbers′ v → Assigns line store (held numbers rows words) o t w (held numbers′ rows words) v
   unfolding setOf
   assigned-integer h a e taken d numbers′ k = record {
-    concludes = λ source. rw (h, ← e, ← (d .same Here), k .above 99 99 (omega arith)) (concludes-in (withIntegers (Now source)) (stored (integersIn numbers) n (takenOf taken)) number (integersIn numbers′) end (k .concludes));
+    same = λ source. rw (h, ← e, ← (d .same Here), k .above 99 99 (omega arith)) (stored-in (withIntegers (Now source)) (integersIn numbers′) (stored (integersIn numbers) n (takenOf taken)) (verdictOf v) (k .same));
     held = r;
     headings = refl;
     tables = refl;
   }
 
-  pub assigned-decimal : t ≡ DecimalTarget n → (a : ℤ) → a ≡ numbered (pos 0) (decimalsIn numbers) n → (taken : Taken) → Takes (decimalNew o a) w taken → (numbers′ : List ℤ) → StoresNumber numbers 99 n taken number numbers′ end → Assigns line store (held numbers rows words) number o t w (held numbers′ rows words) end
+  pub assigned-decimal : t ≡ DecimalTarget n → (a : ℤ) → a ≡ numbered (pos 0) (decimalsIn numbers) n → (taken : Taken) → Takes (decimalNew o a) w taken → (numbers′ : List ℤ) → StoresNumber numbers 99 n taken numbers′ v → Assigns line store (held numbers rows words) o t w (held numbers′ rows words) v
   unfolding setOf
   assigned-decimal h a e taken d numbers′ k = record {
-    concludes = λ source. rw (h, ← e, ← (d .same Here), k .below 0 99 (omega arith)) (concludes-in (withDecimals (Now source)) (stored (decimalsIn numbers) n (takenOf taken)) number (decimalsIn numbers′) end (k .concludes));
+    same = λ source. rw (h, ← e, ← (d .same Here), k .below 0 99 (omega arith)) (stored-in (withDecimals (Now source)) (decimalsIn numbers′) (stored (decimalsIn numbers) n (takenOf taken)) (verdictOf v) (k .same));
     held = r;
     headings = refl;
     tables = refl;
   }
 
-  pub assigned-string : t ≡ StringTarget n → (rows′ : List (List ℕ)) (words′ : List ℕ) → StoresString line store rows words n number w rows′ words′ end → Assigns line store (held numbers rows words) number o t w (held numbers rows′ words′) end
+  pub assigned-string : t ≡ StringTarget n → (rows′ : List (List ℕ)) (words′ : List ℕ) → StoresString line store rows words n w rows′ words′ v → Assigns line store (held numbers rows words) o t w (held numbers rows′ words′) v
   unfolding setOf
   assigned-string h rows′ words′ d = record {
-    concludes = λ source. rw (h, d .above 99 10 (omega arith), d .above 109 10 (omega arith)) (concludes-in (withStrings (Now source)) (stored (texts rows 0 (lengthsIn words)) n (stringNew (meant Here w))) number (texts rows′ 0 (lengthsIn words′)) end (d .concludes));
+    same = λ source. rw (h, d .above 99 10 (omega arith), d .above 109 10 (omega arith)) (stored-in (withStrings (Now source)) (texts rows′ 0 (lengthsIn words′)) (stored (texts rows 0 (lengthsIn words)) n (stringNew (meant Here w))) (verdictOf v) (d .same));
     held = d .held;
     headings = d .above 119 9 (omega arith);
     tables = d .above 128 20 (omega arith);

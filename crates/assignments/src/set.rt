@@ -3,17 +3,15 @@ use crate::register;
 use crate::string;
 use coercions::settle;
 use coercions::settle::Taken;
+use coercions::settle::Verdict;
 use lines::command::Operation;
 use lines::command::Target;
-use meaning::end::Ended;
-use meaning::end::Halt;
 use numbers::Number;
 use numbers::decimal;
 use numbers::integer;
 use questions::scene;
 use questions::scene::Numbers;
 use questions::scene::Words;
-use values::value;
 use values::worth::Worth;
 ghost use mathlib.Core.Path.{_≡_};
 ghost use Rattle.numbers.specs.Outcome.{outcome};
@@ -49,15 +47,15 @@ fn decimal_result(o: Operation, a: i64, b: i64) -> Number
 }
 
 // A result as IVn or FVn, or the refusal.
-fn stored(taken: Taken, from: usize, n: usize, number: u32, numbers: &mut Numbers) -> Ended
+fn stored(taken: Taken, from: usize, n: usize, numbers: &mut Numbers) -> Verdict
     requires { ⌜ from ≤ 99 ⌝ }
-    ensures { λ r. ⌜ StoresNumber (now (numbers .entry)) from n taken number (now (numbers .exit)) r ⌝ }
+    ensures { λ r. ⌜ StoresNumber (now (numbers .entry)) from n taken (now (numbers .exit)) r ⌝ }
 {
     match taken {
-        Taken::Refused(e) => Ended::Halted(Halt::Refused(e), number),
+        Taken::Refused(e) => Verdict::Refused(e),
         Taken::Value(z) => {
             register::put_number(numbers, from, 99, n, z);
-            Ended::Finished
+            Verdict::Passed
         }
     }
 }
@@ -90,25 +88,24 @@ pub fn assigned<'a>(
     numbers: &mut Numbers,
     strings: &mut [[u8; 16]; 99],
     words: &mut Words,
-    number: u32,
     o: Operation,
     target: Target,
     worth: Worth,
-) -> Ended
+) -> Verdict
     requires { ⌜ Rowed (now strings) ⌝ }
-    ensures { λ r. ⌜ Assigns (now (line .entry)) (now (store .entry)) (held (now (numbers .entry)) (now (strings .entry)) (now (words .entry))) number o target worth (held (now (numbers .exit)) (now (strings .exit)) (now (words .exit))) r ⌝ }
+    ensures { λ r. ⌜ Assigns (now (line .entry)) (now (store .entry)) (held (now (numbers .entry)) (now (strings .entry)) (now (words .entry))) o target worth (held (now (numbers .exit)) (now (strings .exit)) (now (words .exit))) r ⌝ }
 {
     match target {
         Target::IntegerTarget(n) => {
             let a = scene::integer(numbers, n);
             let taken = integer_new(o, a, worth);
-            stored(taken, 0, n, number, numbers)
+            stored(taken, 0, n, numbers)
         }
         Target::DecimalTarget(n) => {
             let a = scene::decimal(numbers, n);
             let taken = decimal_new(o, a, worth);
-            stored(taken, 99, n, number, numbers)
+            stored(taken, 99, n, numbers)
         }
-        Target::StringTarget(n) => string::stored(line, store, strings, words, n, number, worth),
+        Target::StringTarget(n) => string::stored(line, store, strings, words, n, worth),
     }
 }

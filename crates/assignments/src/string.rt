@@ -2,8 +2,7 @@
 use crate::register;
 use coercions::settle;
 use coercions::settle::Phrase;
-use meaning::end::Ended;
-use meaning::end::Halt;
+use coercions::settle::Verdict;
 use questions::scene::Words;
 use strings::part;
 use values::worth::Worth;
@@ -61,22 +60,21 @@ pub fn stored<'a>(
     strings: &mut [[u8; 16]; 99],
     words: &mut Words,
     n: usize,
-    number: u32,
     worth: Worth,
-) -> Ended
+) -> Verdict
     requires { ⌜ Rowed (now strings) ⌝ }
-    ensures { λ r. ⌜ StoresString (now (line .entry)) (now (store .entry)) (now (strings .entry)) (now (words .entry)) n number worth (now (strings .exit)) (now (words .exit)) r ⌝ }
+    ensures { λ r. ⌜ StoresString (now (line .entry)) (now (store .entry)) (now (strings .entry)) (now (words .entry)) n worth (now (strings .exit)) (now (words .exit)) r ⌝ }
 {
     let phrase = settle::text_of(worth);
     match phrase {
-        Phrase::NoString(e) => Ended::Halted(Halt::Refused(e), number),
+        Phrase::NoString(e) => Verdict::Refused(e),
         Phrase::String(text) => {
             let source = text.source;
             let row = part::row_for(strings, source);
             let bytes = part::bytes_of(line, store, &row, text);
             let copy = copied(bytes, text.upper);
             put(strings, words, n, copy, count_of(bytes));
-            Ended::Finished
+            Verdict::Passed
         }
     }
 }

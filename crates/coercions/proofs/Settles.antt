@@ -8,6 +8,9 @@ use Rattle.numbers.specs.declared.Quantity.{Quantity}
 use Rattle.numbers.specs.declared.Quantity.the-variants.{Integer, Decimal}
 use Rattle.numbers.specs.Outcome.{Outcome, outcome}
 use Rattle.numbers.specs.Arithmetic.{inMillionths}
+use Rattle.arguments.specs.declared.argument.Argument.{Argument}
+use Rattle.lines.specs.declared.command.Optional.{Optional}
+use Rattle.lines.specs.declared.command.Optional.the-variants.{Given, Absent}
 use Rattle.strings.specs.declared.part.Text.{Text}
 use Rattle.values.specs.declared.worth.Worth.{Worth}
 use Rattle.values.specs.declared.worth.Worth.the-variants as W
@@ -17,7 +20,7 @@ use Rattle.coercions.specs.declared.settle.Taken.the-variants.{Value, Re
 use Rattle.coercions.specs.declared.settle.Amount.the-variants as A
 use Rattle.coercions.specs.declared.settle.Phrase.the-variants as P
 use Rattle.coercions.specs.Settling.{settled, against, integerFrom, quantityFrom, stringFrom, decimalFrom, resultOf, millionthsOf}
-use Rattle.coercions.specs.inner.Contracts.{takenOf, Takes, TakesQuantity, TakesText}
+use Rattle.coercions.specs.inner.Contracts.{takenOf, integerOr, Takes, TakesQuantity, TakesText}
 
 module _ (n : Number) where
   pub result-value : (z m : ℤ) → n ≡ N.Value z → m ≡ z → settled m ≡ resultOf (outcome n)
@@ -64,6 +67,14 @@ module _ (w : Worth) where
   pub integer-text : (t : Text) → w ≡ W.Text t → Takes integerFrom w (Refused R.WrongKind)
   unfolding integerFrom meant
   integer-text t h = record { same = λ s. rw h }
+
+  pub integer-absent : (z m : ℤ) (o : Optional) → o ≡ Absent → m ≡ z → Takes (integerOr z o) w (Value m)
+  unfolding integerOr
+  integer-absent z m o h e = record { same = λ s. rw (h, e) }
+
+  pub integer-given : (z : ℤ) (o : Optional) (a : Argument) (r : Taken) → o ≡ Given a → Takes integerFrom w r → Takes (integerOr z o) w r
+  unfolding integerOr
+  integer-given z o a r h d = record { same = λ s. rw h (d .same s) }
 
   pub decimal-missing : w ≡ W.Missing → Takes decimalFrom w (Refused R.MissingArgument)
   unfolding decimalFrom quantityFrom meant

@@ -1,5 +1,5 @@
-// What a command takes from the value of an argument, and how its line ends.
-use meaning::end::Ended;
+// What a command takes from the value of an argument and what it comes to, or why its line is refused.
+use lines::command::Optional;
 use meaning::refusal::Refusal;
 use numbers::Number;
 use numbers::Quantity;
@@ -8,13 +8,7 @@ use values::worth::Worth;
 ghost use mathlib.Core.Path.{_≡_};
 ghost use Rattle.numbers.specs.Outcome.{outcome};
 ghost use Rattle.coercions.specs.Settling.{resultOf, millionthsOf, integerFrom, decimalFrom};
-ghost use Rattle.coercions.specs.inner.Contracts.{takenOf, Takes, TakesQuantity, TakesText};
-
-// How a line ended, and how many questions have been asked now.
-pub struct Done {
-    pub end: Ended,
-    pub asked: usize,
-}
+ghost use Rattle.coercions.specs.inner.Contracts.{takenOf, integerOr, Takes, TakesQuantity, TakesText};
 
 // A number, or why the line is refused.
 pub enum Taken {
@@ -32,6 +26,18 @@ pub enum Amount {
 pub enum Phrase {
     String(Text),
     NoString(Refusal),
+}
+
+// Whether a test holds or a table has another pass, or why the line is refused.
+pub enum Judged {
+    Holds(bool),
+    Refused(Refusal),
+}
+
+// The line goes on, or why it is refused.
+pub enum Verdict {
+    Passed,
+    Refused(Refusal),
 }
 
 // 12 and 13
@@ -73,6 +79,16 @@ pub fn integer_of(worth: Worth) -> Taken
         Worth::Wrong => Taken::Refused(Refusal::WrongKind),
         Worth::Number(q) => integer_in(q),
         Worth::Text(_) => Taken::Refused(Refusal::WrongKind),
+    }
+}
+
+// `$ET [k]`, `$NP [n]`: the integer, or the one that stands for none
+pub fn integer_or(absent: i64, optional: Optional, worth: Worth) -> Taken
+    ensures { λ r. ⌜ Takes (integerOr absent optional) worth r ⌝ }
+{
+    match optional {
+        Optional::Absent => Taken::Value(absent),
+        Optional::Given(_) => integer_of(worth),
     }
 }
 

@@ -1,5 +1,3 @@
-pub mod Fetches
-pub mod Selections
 pub mod Clearing
 pub mod Giving
 pub mod Ranges

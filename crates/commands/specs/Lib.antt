@@ -1,4 +1,3 @@
 pub mod Fetching
 pub mod Selecting
 pub mod Rows
-pub mod inner

@@ -1,9 +1,5 @@
-// What the other commands do when their line runs, and theorems on all of them (specs/Rows, proofs/).
+// What a $SEC sets to 0, the definitions of $REC, $TBL and $SETDS (specs/), and theorems on all commands (specs/Rows, proofs/).
 //
-// fetching::fetch_records, fetch_entries     $REC, $TBL
-// datasource::select                         $SETDS
-// clear::numbers, words                      what a $SEC sets to 0
+// clear::numbers, words    rows of zeros
 
-pub mod fetching; // fetching.rt: $REC and $TBL
-pub mod datasource; // datasource.rt: $SETDS
 pub mod clear; // clear.rt: rows of zeros

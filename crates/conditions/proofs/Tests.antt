@@ -18,13 +18,13 @@ use Rattle.coercions.specs.declared.settle.Amount.{Amount}
 use Rattle.coercions.specs.declared.settle.Amount.the-variants.{Number, NoNumber}
 use Rattle.coercions.specs.declared.settle.Phrase.{Phrase}
 use Rattle.coercions.specs.declared.settle.Phrase.the-variants.{String, NoString}
-use Rattle.conditions.specs.declared.test.Judged.{Judged}
-use Rattle.conditions.specs.declared.test.Judged.the-variants.{Holds, Refused}
+use Rattle.coercions.specs.declared.settle.Judged.{Judged}
+use Rattle.coercions.specs.declared.settle.Judged.the-variants.{Holds, Refused}
 use Rattle.coercions.specs.Settling.{settled, against}
 use Rattle.conditions.specs.Testing.{zeroTest, zeroJudged, ofNumbers, ofStrings, judged, isMissing, compared}
 use Rattle.conditions.specs.inner.Kinds.{textual, ignoring, numbersHold}
-use Rattle.conditions.specs.inner.Contracts.{judgedOf, Lacks, JudgesNumbers, JudgesZero}
-use Rattle.coercions.specs.inner.Contracts.{TakesQuantity, TakesText}
+use Rattle.conditions.specs.inner.Contracts.{Lacks, JudgesNumbers, JudgesZero}
+use Rattle.coercions.specs.inner.Contracts.{judgedOf, TakesQuantity, TakesText}
 
 -- ---- whether a value is missing
 

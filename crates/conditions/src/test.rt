@@ -1,6 +1,7 @@
 // $IF, $IFNOT, $IFEQ to $IFGE, $IFEQSS, $IFEQSI.
 use coercions::settle;
 use coercions::settle::Amount;
+use coercions::settle::Judged;
 use coercions::settle::Phrase;
 use lines::command::Comparison;
 use meaning::refusal::Refusal;
@@ -13,13 +14,8 @@ ghost use Rattle.strings.specs.inner.Texts.{strings as stringsOf};
 ghost use Rattle.values.specs.inner.Yielding.{meant};
 ghost use Rattle.conditions.specs.Testing as T;
 ghost use Rattle.conditions.specs.inner.Kinds as K;
-ghost use Rattle.conditions.specs.inner.Contracts.{judgedOf, Lacks, JudgesNumbers, JudgesZero};
-
-// Whether a test holds, or why the line is refused.
-pub enum Judged {
-    Holds(bool),
-    Refused(Refusal),
-}
+ghost use Rattle.coercions.specs.inner.Contracts.{judgedOf};
+ghost use Rattle.conditions.specs.inner.Contracts.{Lacks, JudgesNumbers, JudgesZero};
 
 fn lacks(worth: Worth) -> bool
     ensures { λ r. ⌜ Lacks worth r ⌝ }

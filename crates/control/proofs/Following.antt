@@ -1,32 +1,33 @@
 -- Where the run goes on behind a command, one law for each return of arms.rt.
 use mathlib.Core.Path.{_≡_, refl, sym, ap, _∙_}
-use mathlib.Core.Bool.{Bool, true, false, false≢true}
+use mathlib.Core.Bool.{Bool, true, false, cond, false≢true}
 use mathlib.Core.List.{List, []}
 use Prim.Native.Nat.{ℕ, zero, suc, _+_, _-_, _≤_, _<_}
 use native.Mathlib.Omega.{arith}
 use native.Mathlib.Nat.{add-zero}
-use lib.IntN.{ℤ, pos}
+use borrow.Author.Tests.{le-leb, lt-leb, leb-false}
+use lib.Dec.{leb}
+use lib.IntN.{ℤ, pos, negsuc}
 use lib.Signed.{ltZ}
 use lib.ListN.{length, drop, take, set, drop-of-length-le, length-take}
 use Rattle.buffers.proofs.Laws.{map-set}
 use Rattle.shapes.specs.declared.seek.Sought.{Sought}
-use Rattle.shapes.specs.declared.seek.Sought.the-variants.{Branch, TableEnd}
 use Rattle.shapes.specs.declared.seek.Skip.{Skip}
 use Rattle.shapes.specs.Lines.{linesWithin, linesOf}
 use Rattle.shapes.specs.Seek.{atMost, skipFrom, skipped}
 use Rattle.template.proofs.Reach.{found-inside, part-skip}
 use Rattle.meaning.specs.declared.refusal.Refusal.{Refusal}
+use Rattle.meaning.specs.declared.refusal.Refusal.the-variants.{BadIndex}
 use Rattle.meaning.specs.declared.end.Halt.{Halt}
 use Rattle.meaning.specs.declared.end.Halt.the-variants.{Refused}
-use Rattle.meaning.specs.declared.end.Ended.{Ended}
 use Rattle.meaning.specs.declared.end.Ended.the-variants.{Finished, Halted}
 use Rattle.questions.specs.declared.scene.Scene.{Scene}
-use Rattle.tables.specs.declared.table.Looped.{Looped}
+use Rattle.questions.specs.declared.fetch.Fetched.{Fetched}
+use Rattle.questions.specs.inner.Hearing.{placeOf}
+use Rattle.coercions.specs.Settling.{Settled, settled, against}
+use Rattle.commands.specs.Selecting.{datasourceFrom}
 use Rattle.coercions.specs.declared.settle.Taken.{Taken}
 use Rattle.coercions.specs.declared.settle.Taken.the-variants as K
-use Rattle.conditions.specs.declared.test.Judged.{Judged}
-use Rattle.conditions.specs.declared.test.Judged.the-variants as J
-use Rattle.conditions.specs.inner.Contracts.{judgedOf}
 use Rattle.questions.specs.inner.State.{headingsIn}
 use Rattle.assignments.specs.inner.Contracts.{Puts}
 use Rattle.tables.specs.Looping.{loop}
@@ -38,8 +39,8 @@ use Rattle.pages.specs.inner.Packed.{headingIn, headingsOf}
 use Rattle.pages.specs.inner.Paging.{Breaks}
 use Rattle.control.specs.declared.state.Flow.{Flow}
 use Rattle.control.specs.declared.state.Lined.{Lined}
-use Rattle.control.specs.inner.Going.{endedIn, sceneOf, placedAt, pageIn, depthIn, jumpedIn, againIn}
-use Rattle.control.specs.inner.Arms.{Jumpable, Follows, settledIn, branchedIn, begunIn, overIn, Heads, BreaksLine, PagesLine}
+use Rattle.control.specs.inner.Going.{endedIn, sceneOf, placedAt, pageIn, jumpedIn}
+use Rattle.control.specs.inner.Arms.{Jumpable, Settles, datasourceAt, Refills, Heads, BreaksLine, PagesLine}
 
 -- ---- the flow
 
@@ -65,37 +66,46 @@ jump-sums t f q k h l e =
     let i = found-inside (take (length t - f .at) (drop (f .at) t)) q k e in
     (omega (arith, i .bytes, i .lines, h .short, h .few, length-take (length t - f .at) (drop (f .at) t)), omega (arith, i .bytes, h .short, length-take (length t - f .at) (drop (f .at) t)))
 
--- ---- a line that ended, and one that goes on
+-- ---- a line that is refused, and one that goes on
 
-pub follows-halted : (end : Ended) (f f′ : Flow) (u a : ℕ) (h : Halt) (l : ℕ) → end ≡ Halted h l → Follows end f f′ u a (endedIn end f u a)
-follows-halted end f f′ u a h l e = record { end-same = refl; printed = refl; asked = refl; page = refl; goes = λ q. absurd (let z : _≡_ {A = ℕ} 0 1 = cc in omega arith) }
+module _ {A : Type 0} {l : ℕ} {f : Flow} {u a : ℕ} {to : A → Flow} {x : Settled A} {r : Lined} where
+  pub settles-refused : (e : Refusal) → x ≡ against e → r ≡ endedIn (Halted (Refused e) l) f u a → Settles l f u a to x r
+  settles-refused e h i = record { same = rw h i }
 
-pub follows-went : (end : Ended) (f f′ g : Flow) (u a : ℕ) (r : Lined) → end ≡ Finished → g ≡ f′ → f′ .page ≡ f .page → r ≡ endedIn Finished g u a → Follows end f f′ u a r
-follows-went end f f′ g u a r e q p i = rw (i, e, q) (record { end-same = refl; printed = refl; asked = refl; page = p; goes = λ _. refl })
+  pub settles-on : (y : A) (g : Flow) → x ≡ settled y → g ≡ to y → r ≡ endedIn Finished g u a → Settles l f u a to x r
+  settles-on y g h q i = record { same = rw h (i ∙ ap (λ (z : Flow). endedIn Finished z u a) q) }
 
-pub branch-refused : (t : List ℕ) (l : ℕ) (f : Flow) (u a : ℕ) (x : Judged) (e : Refusal) → x ≡ J.Refused e → endedIn (Halted (Refused e) l) f u a ≡ settledIn l f u a (branchedIn t f) (judgedOf x)
-branch-refused t l f u a x e h = rw h
+-- ---- $SETDS
 
-module _ (t : List ℕ) (l : ℕ) (f : Flow) (u a : ℕ) (r : Lined) (x : Judged) where
-  pub branch-holds : (holds : Bool) → x ≡ J.Holds holds → holds ≡ true → r ≡ endedIn Finished f u a → r ≡ settledIn l f u a (branchedIn t f) (judgedOf x)
-  branch-holds holds h b i = rw (h, b) i
+pub datasource-is : (z : ℤ) → datasourceFrom z ≡ datasourceAt (placeOf z)
+unfolding datasourceFrom placeOf datasourceAt
+datasource-is (negsuc k) = refl
+datasource-is (pos k) = by (leb k 999) refl
+  where
+    by : (b : Bool) → leb k 999 ≡ b → datasourceFrom (pos k) ≡ datasourceAt (cond b k 1000)
+    by true e = refl
+    by false e = let h : 999 < k = leb-false k 999 e in rw (le-leb 1 k (omega arith), lt-leb k 35 (omega arith))
 
-  pub branch-fails : (holds : Bool) (g : Flow) → x ≡ J.Holds holds → holds ≡ false → g ≡ jumpedIn t f Branch → r ≡ endedIn Finished g u a → r ≡ settledIn l f u a (branchedIn t f) (judgedOf x)
-  branch-fails holds g h b q i = rw (h, b) (i ∙ ap (λ (y : Flow). endedIn Finished y u a) q)
+pub datasource-low : (n : ℕ) → n < 1 → datasourceAt n ≡ against BadIndex
+unfolding datasourceAt
+datasource-low n h = rw (lt-leb 1 n h)
 
-module _ (t : List ℕ) (f : Flow) (u a : ℕ) (r : Lined) (x : Looped) (e : x .end ≡ Finished) where
-  pub begun-skipped : (g : Flow) → x .jumps ≡ true → g ≡ jumpedIn t f TableEnd → r ≡ endedIn Finished g u a → Follows (x .end) f (begunIn t f x) u a r
-  begun-skipped g b q i = rw b (follows-went (x .end) f (jumpedIn t f TableEnd) g u a r e q refl i)
+pub datasource-high : (n : ℕ) → 1 ≤ n → 35 < n → datasourceAt n ≡ against BadIndex
+unfolding datasourceAt
+datasource-high n h k = rw (le-leb 1 n h, lt-leb n 35 k)
 
-  pub begun-opened : (g : Flow) → x .jumps ≡ false → g ≡ depthIn f (x .depth) → r ≡ endedIn Finished g u a → Follows (x .end) f (begunIn t f x) u a r
-  begun-opened g b q i = rw b (follows-went (x .end) f (depthIn f (x .depth)) g u a r e q refl i)
+pub datasource-in : (n : ℕ) → 1 ≤ n → n ≤ 35 → datasourceAt n ≡ settled n
+unfolding datasourceAt
+datasource-in n h k = rw (le-leb 1 n h, le-leb n 35 k)
 
-module _ (ws : List ℕ) (f : Flow) (u a : ℕ) (r : Lined) (x : Looped) (e : x .end ≡ Finished) where
-  pub over-again : (g g′ : Flow) → x .jumps ≡ true → g ≡ depthIn f (x .depth) → g′ ≡ againIn ws g → r ≡ endedIn Finished g′ u a → Follows (x .end) f (overIn ws f x) u a r
-  over-again g g′ b q k i = rw b (follows-went (x .end) f (againIn ws (depthIn f (x .depth))) g′ u a r e (k ∙ ap (againIn ws) q) refl i)
+-- ---- $REC and $TBL
 
-  pub over-ended : (g : Flow) → x .jumps ≡ false → g ≡ depthIn f (x .depth) → r ≡ endedIn Finished g u a → Follows (x .end) f (overIn ws f x) u a r
-  over-ended g b q i = rw b (follows-went (x .end) f (depthIn f (x .depth)) g u a r e q refl i)
+module _ (from n : ℕ) (v : Fetched) (words : List ℕ) (f : Flow) (u : ℕ) (r : Lined) where
+  pub refill-over : (h : Halt) (l : ℕ) → v .end ≡ Halted h l → r ≡ endedIn (Halted h l) f u (v .asked) → Refills from n v words f u words r
+  refill-over h l e i = record { went = rw e i; puts = λ q. absurd (let z : _≡_ {A = ℕ} 0 1 = cc in omega arith); tables = refl }
+
+  pub refills : v .end ≡ Finished → from + 10 ≤ 128 → (words′ : List ℕ) → Puts words from 10 n (v .fetched) words′ → r ≡ endedIn Finished f u (v .asked) → Refills from n v words f u words′ r
+  refills e k words′ p i = record { went = rw e i; puts = λ _. p; tables = p .above 128 20 k }
 
 -- ---- a break, and $NP
 
@@ -103,9 +113,9 @@ pub break-line : (l : ℕ) (f g : Flow) (T : List ℕ) (u a : ℕ) (T′ : List 
 break-line l f g T u a T′ x d q = rw q (record { does = d .does; flow = refl; asked = refl; kept = d .kept })
 
 module _ (t : Taken) (l : ℕ) (f : Flow) (T : List ℕ) (u a : ℕ) where
-  pub page-refused : (e : Refusal) → t ≡ K.Refused e → PagesLine t l f T u a T (endedIn (Halted (Refused e) l) f u a)
-  page-refused e h = record {
-    refused = λ x q. let g : x ≡ e = cc in rw g (refl, refl);
+  pub page-refused : (e : Refusal) (r : Lined) → t ≡ K.Refused e → r ≡ endedIn (Halted (Refused e) l) f u a → PagesLine t l f T u a T r
+  page-refused e r h i = record {
+    refused = λ x q. let g : x ≡ e = cc in rw g (i, refl);
     stays = λ z q. absurd (let z : _≡_ {A = ℕ} 0 1 = cc in omega arith);
     breaks = λ z q. absurd (let z : _≡_ {A = ℕ} 0 1 = cc in omega arith);
     kept = refl;

@@ -2,8 +2,10 @@
 use mathlib.Core.Path.{_≡_, refl, sym, ap, _∙_}
 use mathlib.Core.Bool.{true, false}
 use mathlib.Core.List.{List}
-use Prim.Native.Nat.{ℕ}
-use lib.IntN.{ℤ}
+use Prim.Native.Nat.{ℕ, _-_}
+use native.Mathlib.Omega.{arith}
+use borrow.Author.Tests.{lt-ltb}
+use lib.IntN.{ℤ, pos}
 use Rattle.arguments.specs.declared.argument.Argument.{Argument}
 use Rattle.lines.specs.declared.command.Optional.{Optional}
 use Rattle.lines.specs.declared.command.Optional.the-variants.{Given, Absent}
@@ -16,13 +18,14 @@ use Rattle.values.specs.Worth.{Worth, missing}
 use Rattle.values.specs.Meanings.{argumentMeaning}
 use Rattle.values.specs.inner.Working.{worths, inputsMeaning}
 use Rattle.coercions.specs.Settling.{Settled, settled, against, andThen, concluded, integerFrom, integerMeaning}
+use Rattle.coercions.specs.inner.Contracts.{integerOr}
 use Rattle.assignments.specs.Setting.{setOf, setMeaning}
 use Rattle.conditions.specs.Testing.{zeroJudged, compared, zeroMeaning, testMeaning}
 use Rattle.tables.specs.Looping.{begun, counted, beginMeaning, endMeaning}
 use Rattle.tables.specs.inner.Open.{beginFrom, endFrom}
 use Rattle.control.specs.State.{State, seen, withVariables}
 use Rattle.control.specs.Line.{branched, tableBegun, tableEnded, breakingFor, newPageMeaning, formMeaning}
-use Rattle.control.specs.inner.Forms.{optionalInput, inputsOf, settling, newPageWith, formWith}
+use Rattle.control.specs.inner.Forms.{optionalInput, inputsOf, settling, formWith}
 
 -- what is concluded from a value, and then from that
 concluded-then : {A B : Type 0} (l : ℕ) (x : Settled A) (f : A → Settled B) → bind (concluded l x) (λ z. concluded l (f z)) ≡ concluded l (andThen x f)
@@ -42,14 +45,14 @@ module _ (t : List ℕ) (start l : ℕ) (body : List ℕ) (s : State) where
   unfolding integerMeaning
   integer-then x f = bind-assoc (A x) (λ w. concluded l (integerFrom w)) (λ z. concluded l (f z)) ∙ ap (bind (A x)) (λ i w. concluded-then l (integerFrom w) f i)
 
-  end-inputs : (k : Optional) → bind (endMeaning (seen s) body l (s .tables) k) (λ x. done (tableEnded s x)) ≡ bind (inputsMeaning (seen s) body l (optionalInput k)) (λ v. settling l (endFrom (s .tables) k (v .first)) (tableEnded s))
-  unfolding endMeaning endFrom optionalInput inputsMeaning
+  end-inputs : (k : Optional) → bind (endMeaning (seen s) body l (s .tables) k) (λ x. done (tableEnded s x)) ≡ bind (inputsMeaning (seen s) body l (optionalInput k)) (λ v. settling l (endFrom (s .tables) (integerOr (pos 1) k (v .first))) (tableEnded s))
+  unfolding endMeaning integerOr optionalInput inputsMeaning
   end-inputs Absent = refl
-  end-inputs (Given x) = ap (λ m. bind m (λ y. done (tableEnded s y))) (integer-then x (counted (s .tables))) ∙ one x (λ w. andThen (integerFrom w) (λ k. counted (s .tables) k)) (tableEnded s)
+  end-inputs (Given x) = ap (λ m. bind m (λ y. done (tableEnded s y))) (integer-then x (counted (s .tables))) ∙ one x (λ w. endFrom (s .tables) (integerFrom w)) (tableEnded s)
 
-  page-inputs : (k : Optional) → newPageMeaning l body s k ≡ bind (inputsMeaning (seen s) body l (optionalInput k)) (λ v. newPageWith l s k (v .first))
-  unfolding newPageMeaning newPageWith optionalInput inputsMeaning integerMeaning
-  page-inputs Absent = refl
+  page-inputs : (k : Optional) → newPageMeaning l body s k ≡ bind (inputsMeaning (seen s) body l (optionalInput k)) (λ v. bind (concluded l (integerOr (pos 62) k (v .first))) (breakingFor l s))
+  unfolding newPageMeaning breakingFor integerOr optionalInput inputsMeaning integerMeaning
+  page-inputs Absent = rw (lt-ltb (61 - s .page .line) 62 (omega arith))
   page-inputs (Given x) =
       bind-assoc (A x) (λ w. concluded l (integerFrom w)) (breakingFor l s) ∙ sym (bind-assoc (A x) (λ v. done (worths v missing)) (λ v. bind (concluded l (integerFrom (v .first))) (breakingFor l s)))
 
@@ -68,7 +71,7 @@ module _ (t : List ℕ) (start l : ℕ) (body : List ℕ) (s : State) where
   form-inputs form.Else = refl
   form-inputs form.EndIf = refl
   form-inputs (form.BeginTable a) =
-      ap (λ m. bind m (λ y. done (tableBegun t s y))) (integer-then a (λ z. settled (begun (s .tables) (s .due .at) (s .due .line) z))) ∙ one a (beginFrom (s .tables) (s .due .at) (s .due .line)) (tableBegun t s)
+      ap (λ m. bind m (λ y. done (tableBegun t s y))) (integer-then a (λ z. settled (begun (s .tables) (s .due .at) (s .due .line) z))) ∙ one a (λ w. beginFrom (s .tables) (s .due .at) (s .due .line) (integerFrom w)) (tableBegun t s)
   form-inputs (form.EndTable k) = end-inputs k
   form-inputs (form.Records f) = refl
   form-inputs (form.Entries f) = refl

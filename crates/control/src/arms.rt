@@ -3,35 +3,38 @@ use crate::flow;
 use crate::state::Flow;
 use crate::state::Lined;
 use assignments::register;
+use coercions::settle::Judged;
 use coercions::settle::Taken;
+use coercions::settle::Verdict;
 use commands::clear;
-use commands::datasource::Selected;
-use conditions::test::Judged;
 use meaning::end::Ended;
 use meaning::end::Halt;
+use meaning::refusal::Refusal;
 use pages::heading;
 use pages::heading::Heading;
 use pages::page;
 use pages::step::Paged;
+use questions::fetch::Fetched;
+use questions::scene;
 use questions::scene::Numbers;
 use questions::scene::Words;
 use shapes::seek::Sought;
-use tables::table::Looped;
 use values::worth;
 ghost use mathlib.Core.Path.{_≡_};
-ghost use Prim.Native.Nat.{_-_, _≤_};
+ghost use Prim.Native.Nat.{_+_, _-_, _≤_};
 ghost use lib.IntN.{pos};
 ghost use lib.Signed.{ltZ};
 ghost use Rattle.shapes.specs.declared.seek.Sought.the-variants.{TestEnd};
-ghost use Rattle.meaning.specs.declared.end.Ended.the-variants.{Finished};
+ghost use Rattle.meaning.specs.declared.end.Ended.the-variants.{Finished, Halted};
+ghost use Rattle.meaning.specs.declared.end.Halt.the-variants.{Refused};
 ghost use lib.ListN.{length};
-ghost use Rattle.conditions.specs.inner.Contracts.{judgedOf};
+ghost use Rattle.coercions.specs.inner.Contracts.{judgedOf, verdictOf};
 ghost use Rattle.questions.specs.inner.State.{tablesIn};
 ghost use Rattle.pages.specs.Heading.{noHeading};
 ghost use Rattle.pages.specs.inner.Packed.{Small};
 ghost use Rattle.pages.specs.inner.Paging.{TurnReady};
 ghost use Rattle.control.specs.inner.Going.{endedIn, datasourceIn, pageIn, jumpedIn};
-ghost use Rattle.control.specs.inner.Arms.{Jumpable, Follows, settledIn, branchedIn, begunIn, overIn, Clears, Heads, BreaksLine, PagesLine};
+ghost use Rattle.control.specs.inner.Arms.{Jumpable, Settles, keptIn, branchedIn, begunIn, overIn, datasourceAt, Refills, Clears, Heads, BreaksLine, PagesLine};
 
 // A line that does no more than go on.
 pub fn went(flow: Flow, printed: usize, asked: usize) -> Lined
@@ -57,6 +60,28 @@ pub fn onward(end: Ended, flow: Flow, printed: usize, asked: usize) -> Lined
     }
 }
 
+// A line that is refused.
+fn refused(refusal: Refusal, number: u32, flow: Flow, printed: usize, asked: usize) -> Lined
+    ensures { λ r. ⌜ r ≡ endedIn (Halted (Refused refusal) number) flow printed asked ⌝ }
+{
+    Lined {
+        end: Ended::Halted(Halt::Refused(refusal), number),
+        flow,
+        printed,
+        asked,
+    }
+}
+
+// A variable is set, or not.
+pub fn settled(verdict: Verdict, number: u32, flow: Flow, printed: usize, asked: usize) -> Lined
+    ensures { λ r. ⌜ Settles number flow printed asked (keptIn flow) (verdictOf verdict) r ⌝ }
+{
+    match verdict {
+        Verdict::Refused(e) => refused(e, number, flow, printed, asked),
+        Verdict::Passed => went(flow, printed, asked),
+    }
+}
+
 // "A failed one continues at the line after its matching `$ELSE`, or `$ENDIF` if there is none"
 pub fn branched(
     judged: Judged,
@@ -67,16 +92,11 @@ pub fn branched(
     asked: usize,
 ) -> Lined
     requires { ⌜ Jumpable (now template) flow ⌝ }
-    ensures { λ r. ⌜ r ≡ settledIn number flow printed asked (branchedIn (now (template .entry)) flow) (judgedOf judged) ⌝ }
+    ensures { λ r. ⌜ Settles number flow printed asked (branchedIn (now (template .entry)) flow) (judgedOf judged) r ⌝ }
 {
     match judged {
         Judged::Refused(e) => {
-            return Lined {
-                end: Ended::Halted(Halt::Refused(e), number),
-                flow,
-                printed,
-                asked,
-            };
+            return refused(e, number, flow, printed, asked);
         }
         Judged::Holds(holds) => {
             if holds {
@@ -97,66 +117,93 @@ pub fn turned_away(template: &[u8], flow: Flow, printed: usize, asked: usize) ->
     went(next, printed, asked)
 }
 
-// Skipped, or a table more.
-pub fn begun(looped: Looped, template: &[u8], flow: Flow, printed: usize, asked: usize) -> Lined
-    requires { ⌜ Jumpable (now template) flow ⌝ }
-    ensures { λ r. ⌜ Follows (looped .end) flow (begunIn (now (template .entry)) flow looped) printed asked r ⌝ }
+// $BT: a table more, or it is skipped.
+pub fn begun(
+    judged: Judged,
+    number: u32,
+    template: &[u8],
+    flow: Flow,
+    printed: usize,
+    asked: usize,
+) -> Lined
+    requires { ⌜ (Jumpable (now template) flow) × (flow .depth ≤ 4) ⌝ }
+    ensures { λ r. ⌜ Settles number flow printed asked (begunIn (now (template .entry)) flow) (judgedOf judged) r ⌝ }
 {
-    let end = looped.end;
-    let Ended::Finished = end else {
-        return Lined {
-            end,
-            flow,
-            printed,
-            asked,
-        };
-    };
-    let jumps = looped.jumps;
-    if jumps {
-        let next = flow::jumped(template, flow, Sought::TableEnd);
-        return went(next, printed, asked);
+    match judged {
+        Judged::Refused(e) => {
+            return refused(e, number, flow, printed, asked);
+        }
+        Judged::Holds(holds) => {
+            if holds {
+                let inside = flow::with_depth(flow, flow.depth + 1);
+                return went(inside, printed, asked);
+            }
+            let next = flow::jumped(template, flow, Sought::TableEnd);
+            return went(next, printed, asked);
+        }
     }
-    let next = flow::with_depth(flow, looped.depth);
+}
+
+// $ET: "ends the table when the counter exceeds n, else goes to the line after $BT"
+pub fn ended(
+    judged: Judged,
+    number: u32,
+    words: &Words,
+    flow: Flow,
+    printed: usize,
+    asked: usize,
+) -> Lined
+    ensures { λ r. ⌜ Settles number flow printed asked (overIn (tablesIn (now (words .entry))) flow) (judgedOf judged) r ⌝ }
+{
+    match judged {
+        Judged::Refused(e) => {
+            return refused(e, number, flow, printed, asked);
+        }
+        Judged::Holds(holds) => {
+            if holds {
+                let again = flow::again(words, flow);
+                return went(again, printed, asked);
+            }
+            let outside = flow::with_depth(flow, scene::less(flow.depth, 1));
+            return went(outside, printed, asked);
+        }
+    }
+}
+
+// $SETDS: 8 "a $SETDS number outside 1–35"
+pub fn selected(place: u32, number: u32, flow: Flow, printed: usize, asked: usize) -> Lined
+    ensures { λ r. ⌜ Settles number flow printed asked (datasourceIn flow) (datasourceAt place) r ⌝ }
+{
+    if place < 1 {
+        return refused(Refusal::BadIndex, number, flow, printed, asked);
+    }
+    if 35 < place {
+        return refused(Refusal::BadIndex, number, flow, printed, asked);
+    }
+    let next = flow::with_datasource(flow, place);
     went(next, printed, asked)
 }
 
-// "ends the table when the counter exceeds n, else goes to the line after $BT"
-pub fn ended(looped: Looped, words: &Words, flow: Flow, printed: usize, asked: usize) -> Lined
-    ensures { λ r. ⌜ Follows (looped .end) flow (overIn (tablesIn (now (words .entry))) flow looped) printed asked r ⌝ }
+// $REC, $TBL: what was fetched, as Rn or Tn, which begin at a place of the words.
+pub fn fetched(
+    v: Fetched,
+    from: usize,
+    n: usize,
+    words: &mut Words,
+    flow: Flow,
+    printed: usize,
+) -> Lined
+    requires { ⌜ from + 10 ≤ 128 ⌝ }
+    ensures { λ r. ⌜ Refills from n v (now (words .entry)) flow printed (now (words .exit)) r ⌝ }
 {
-    let end = looped.end;
-    let Ended::Finished = end else {
-        return Lined {
-            end,
-            flow,
-            printed,
-            asked,
-        };
-    };
-    let next = flow::with_depth(flow, looped.depth);
-    let jumps = looped.jumps;
-    if jumps {
-        let again = flow::again(words, next);
-        return went(again, printed, asked);
+    let end = v.end;
+    match end {
+        Ended::Halted(h, l) => onward(Ended::Halted(h, l), flow, printed, v.asked),
+        Ended::Finished => {
+            register::put_word(words, from, 10, n, v.fetched);
+            went(flow, printed, v.asked)
+        }
     }
-    went(next, printed, asked)
-}
-
-// $SETDS
-pub fn selected(selected: Selected, flow: Flow, printed: usize, asked: usize) -> Lined
-    ensures { λ r. ⌜ Follows (selected .end) flow (datasourceIn flow (selected .datasource)) printed asked r ⌝ }
-{
-    let end = selected.end;
-    let Ended::Finished = end else {
-        return Lined {
-            end,
-            flow,
-            printed,
-            asked,
-        };
-    };
-    let next = flow::with_datasource(flow, selected.datasource);
-    went(next, printed, asked)
 }
 
 // A text line on its page.
@@ -262,12 +309,7 @@ pub fn page_for(
 {
     match taken {
         Taken::Refused(e) => {
-            return Lined {
-                end: Ended::Halted(Halt::Refused(e), number),
-                flow,
-                printed,
-                asked,
-            };
+            return refused(e, number, flow, printed, asked);
         }
         Taken::Value(n) => {
             let page = flow.page;

@@ -14,47 +14,49 @@ use Rattle.lines.specs.declared.command.Operation.{Operation}
 use Rattle.lines.specs.declared.command.Target.{Target}
 use Rattle.lines.specs.declared.command.Fetch.{Fetch}
 use Rattle.lines.specs.declared.command.Optional.{Optional}
-use Rattle.lines.specs.declared.command.Optional.the-variants.{Given, Absent}
 use Rattle.lines.specs.declared.command.Line.{Line}
 use Rattle.lines.specs.declared.command.Line.the-variants as form
 use Rattle.lines.specs.inner.Sound as parsed
 use Rattle.shapes.specs.declared.seek.Sought.the-variants.{TestEnd, TableEnd}
 use Rattle.texts.proofs.FieldLaws.{fields-few}
+use Rattle.buffers.proofs.Laws.{map-set}
+use Rattle.meaning.specs.Answer.{Answer}
+use Rattle.meaning.specs.declared.question.Question.{Question}
+use Rattle.meaning.proofs.Binding.{bind-assoc}
 use Rattle.meaning.specs.Each.{Each}
 use Rattle.meaning.specs.Tree.{done, bind}
-use Rattle.meaning.specs.Place.{at, Does}
-use Rattle.meaning.specs.Number.{endOf}
-use Rattle.meaning.specs.declared.end.Ended.{Ended}
-use Rattle.meaning.specs.declared.end.Ended.the-variants.{Finished, Halted}
-use Rattle.meaning.proofs.Doing.{then-does, then-over, does-done, does-stop}
+use Rattle.meaning.specs.Place.{at}
+use Rattle.meaning.specs.declared.end.Ended.the-variants.{Finished}
+use Rattle.meaning.proofs.Doing.{does-done, does-stop}
 use Rattle.strings.specs.inner.Texts.{Strings, strings}
 use Rattle.questions.specs.declared.scene.Scene.{Scene}
+use Rattle.questions.specs.declared.fetch.Along.{Along}
 use Rattle.questions.specs.declared.fetch.Along.the-variants.{Records, Entries}
+use Rattle.questions.specs.declared.fetch.Fetched.{Fetched}
+use Rattle.questions.specs.Machine.{Machine, Variables}
+use Rattle.questions.specs.Fetching.{fetchMeaning}
+use Rattle.questions.specs.inner.Hearing.{placeOf}
 use Rattle.questions.specs.Indexes.{indexNumber}
 use Rattle.questions.specs.inner.Word.{questions}
-use Rattle.questions.specs.inner.Fetch.{Fetchable}
+use Rattle.questions.specs.inner.Fetch.{Fetchable, FetchValue}
 use Rattle.questions.specs.inner.State.{texts, fetched, bank, integersIn, decimalsIn, lengthsIn, recordsIn, entriesIn, headingsIn, tablesIn, Held, held, machine, variablesOf}
 use Rattle.values.specs.declared.worth.Worth as W
 use Rattle.values.specs.Worth.{Worth}
 use Rattle.values.specs.inner.Yielding.{meant}
 use Rattle.values.specs.inner.Working.{Worths, worths}
-use Rattle.coercions.specs.declared.settle.Done.{Done}
+use Rattle.coercions.specs.declared.settle.Judged.{Judged}
+use Rattle.coercions.specs.declared.settle.Verdict.{Verdict}
 use Rattle.coercions.specs.declared.settle.Taken.{Taken}
 use Rattle.coercions.specs.declared.settle.Taken.the-variants as K
-use Rattle.coercions.specs.Settling.{concluded, integerFrom}
-use Rattle.coercions.specs.inner.Contracts.{takenOf, Takes}
-use Rattle.assignments.specs.Setting.{setOf}
-use Rattle.assignments.specs.inner.Contracts.{Rowed, Assigns}
-use Rattle.conditions.specs.declared.test.Judged.{Judged}
+use Rattle.coercions.specs.Settling.{Settled, concluded, integerFrom}
+use Rattle.coercions.specs.inner.Contracts.{takenOf, judgedOf, verdictOf, integerOr, Takes}
+use Rattle.assignments.specs.Setting.{setNumbered, setOf}
+use Rattle.assignments.specs.inner.Contracts.{Rowed, Puts, Assigns}
 use Rattle.conditions.specs.Testing.{compared}
-use Rattle.conditions.specs.inner.Contracts.{judgedOf, JudgesZero}
-use Rattle.tables.specs.declared.table.Looped.{Looped}
-use Rattle.tables.specs.inner.Open.{opened, openOf, loopingOf, AtMostOpen, Stays, beginFrom, endFrom, BeginsTable, EndsTable}
-use Rattle.commands.specs.declared.datasource.Selected.{Selected}
+use Rattle.conditions.specs.inner.Contracts.{JudgesZero}
+use Rattle.tables.specs.inner.Open.{opened, openOf, beginning, passing, AtMostOpen, Stays, beginFrom, endFrom, BeginsTable, EndsTable}
 use Rattle.commands.specs.Selecting.{datasourceFrom, datasourceMeaning}
-use Rattle.commands.specs.Fetching.{recordsMeaning, entriesMeaning}
-use Rattle.commands.specs.inner.Selects.{Selects}
-use Rattle.commands.specs.inner.Fetches.{TakesRecords, TakesEntries}
+use Rattle.commands.specs.Fetching.{withRecords, withEntries, recordsMeaning, entriesMeaning}
 use Rattle.commands.proofs.Clearing.{zeros-bank, zeros-behind, texts-cleared, fetched-cleared}
 use Rattle.rendering.specs.inner.Pass.{lent}
 use Rattle.pages.specs.declared.heading.Heading.{Heading}
@@ -71,10 +73,10 @@ use Rattle.control.specs.Line.{jumped, branched, tableBegun, tableEnded, breaki
 use Rattle.control.specs.inner.Sound.{Fit}
 use Rattle.control.specs.inner.Going.{endedIn, datasourceIn, depthIn, feedsIn, pageIn, jumpedIn, againIn}
 use Rattle.control.specs.inner.Executing.{sourceOf, stateAt, machineIn, Executes, FormReady}
-use Rattle.control.specs.inner.Arms.{Jumpable, Follows, settledIn, branchedIn, begunIn, overIn, Clears, Heads, BreaksLine, PagesLine}
-use Rattle.control.specs.inner.Forms.{newPageWith, formWith}
-use Rattle.control.proofs.Commanding.{command, went-executes, concludes-executes, settles-executes}
-use Rattle.dispatch.specs.inner.Performing.{NewPages, PagesFor}
+use Rattle.control.specs.inner.Arms.{Jumpable, Settles, keptIn, branchedIn, begunIn, overIn, datasourceAt, Refills, Clears, Heads, BreaksLine, PagesLine}
+use Rattle.control.specs.inner.Forms.{formWith}
+use Rattle.control.proofs.Commanding.{then-executes, went-executes, settles-executes, mapped-same}
+use Rattle.control.proofs.Following.{datasource-is}
 
 all-fit : (t : List ℕ) (hs : List Heading) (n : ℕ) → Each (Fit t) hs → AllFit t (take n hs)
 all-fit t hs zero e = tt
@@ -91,6 +93,12 @@ unfolding headingIn
 headings-cleared zero = refl
 headings-cleared (suc n) = ap (λ (l : List Heading). noHeading ∷ l) (headings-cleared n)
 
+-- what is kept as Rn or Tn stands for the answers
+fetched-kept : (source : Question → Answer) (along : Along) (words : List ℕ) (n w : ℕ) → map (fetched source along) (setNumbered words n w) ≡ setNumbered (map (fetched source along) words) n (fetched source along w)
+unfolding setNumbered
+fetched-kept source along words zero w = refl
+fetched-kept source along words (suc n) w = map-set (fetched source along) words n w
+
 -- a part that is full ends inside its row
 bank-full : {A : Type 0} (l : List A) (i k : ℕ) → length (bank i k l) ≡ k → 1 ≤ k → i + k ≤ length l
 unfolding bank
@@ -99,14 +107,6 @@ bank-full l i k e h = omega (arith, e, length-take k (drop i l), length-drop i l
 bank-long : {A : Type 0} (l l′ : List A) (i k : ℕ) → length l′ ≡ length l → length (bank i k l′) ≡ length (bank i k l)
 unfolding bank
 bank-long l l′ i k e = omega (arith, e, length-take k (drop i l), length-drop i l, length-take k (drop i l′), length-drop i l′)
-
--- ---- $NP
-
-pub page-always : (k : Optional) (w : W.Worth) (l : ℕ) (f : Flow) (T : List ℕ) (u a : ℕ) (T′ : List ℕ) (r : Lined) → k ≡ Absent → BreaksLine l f T u a T′ r → NewPages k w l f T u a T′ r
-page-always k w l f T u a T′ r e d = record { always = λ _. d; given = λ x q. absurd (let z : _≡_ {A = ℕ} 0 1 = cc in omega arith); kept = d .kept }
-
-pub page-given : (k : Optional) (w : W.Worth) (l : ℕ) (f : Flow) (T : List ℕ) (u a : ℕ) (T′ : List ℕ) (r : Lined) (x : Argument) (t : Taken) → k ≡ Given x → Takes integerFrom w t → PagesLine t l f T u a T′ r → NewPages k w l f T u a T′ r
-page-given k w l f T u a T′ r x t e d p = record { always = λ q. absurd (let z : _≡_ {A = ℕ} 0 1 = cc in omega arith); given = λ _ _. record { taken = t; takes = d; pages = p }; kept = p .kept }
 
 -- ---- the calls of `execute`
 
@@ -153,6 +153,9 @@ module _ {body b index t : List ℕ} {h : Held} {scene : Scene} {start : ℕ} {f
   pub begin-ready : (x : Argument) → line ≡ form.BeginTable x → AtMostOpen 4 (h .words) (f .depth)
   begin-ready x e = record { few = k .room-for-table x e; row = tables-row }
 
+  pub begun-ready : (x : Argument) → line ≡ form.BeginTable x → (Jumpable t f) × (f .depth ≤ 4)
+  begun-ready x e = (jumpable, k .room-for-table x e)
+
   pub end-ready : AtMostOpen 5 (h .words) (f .depth)
   end-ready = record { few = k .tables; row = tables-row }
 
@@ -196,21 +199,23 @@ module _ {body b index t : List ℕ} {h : Held} {scene : Scene} {start : ℕ} {f
       let q : headingsIn ws ≡ headingsIn (h .words) = d .others 119 9 (omega arith) in
       λ z. record { due = record { at = g .at; line = g .line }; variables = record { integers = integersIn (h .numbers); decimals = decimalsIn (h .numbers); strings = texts (h .rows) 0 (l z); records = map (fetched (sourceOf b) Records) (m z); entries = map (fetched (sourceOf b) Entries) (o z) }; datasource = g .datasource; tables = openOf ws (g .depth); layout = record { headings = headingsOf (q z); feeds = g .feeds }; page = g .page }
 
-  begun-same : (ws : List ℕ) (x : Looped) → Stays (h .words) ws → openOf ws (f .depth) ≡ openOf (h .words) (f .depth) → stateAt b (held (h .numbers) (h .rows) ws) (begunIn t f x) ≡ tableBegun t s (loopingOf ws x)
+  begun-same : (ws : List ℕ) → Stays (h .words) ws → openOf ws (f .depth) ≡ openOf (h .words) (f .depth) → (holds : Bool) → stateAt b (held (h .numbers) (h .rows) ws) (begunIn t f holds) ≡ tableBegun t s (beginning ws (f .depth) holds)
   unfolding tableBegun
-  begun-same ws x d e = go (x .jumps) refl
-    where
-      go : (q : Bool) → x .jumps ≡ q → stateAt b (held (h .numbers) (h .rows) ws) (begunIn t f x) ≡ tableBegun t s (loopingOf ws x)
-      go true q = rw q (tables-same ws (jumpedIn t f TableEnd) d ∙ ap (withTables (stateAt b h (jumpedIn t f TableEnd))) e)
-      go false q = rw q (tables-same ws (depthIn f (x .depth)) d)
+  begun-same ws d e true = tables-same ws (depthIn f (f .depth + 1)) d
+  begun-same ws d e false = tables-same ws (jumpedIn t f TableEnd) d ∙ ap (withTables (stateAt b h (jumpedIn t f TableEnd))) e
 
-  ended-same : (ws : List ℕ) (x : Looped) → Stays (h .words) ws → stateAt b (held (h .numbers) (h .rows) ws) (overIn (tablesIn ws) f x) ≡ tableEnded s (loopingOf ws x)
+  begun-page : (holds : Bool) → begunIn t f holds .page ≡ f .page
+  begun-page true = refl
+  begun-page false = refl
+
+  ended-same : (ws : List ℕ) → Stays (h .words) ws → (holds : Bool) → stateAt b (held (h .numbers) (h .rows) ws) (overIn (tablesIn ws) f holds) ≡ tableEnded s (passing ws (f .depth) holds)
   unfolding tableEnded
-  ended-same ws x d = go (x .jumps) refl
-    where
-      go : (q : Bool) → x .jumps ≡ q → stateAt b (held (h .numbers) (h .rows) ws) (overIn (tablesIn ws) f x) ≡ tableEnded s (loopingOf ws x)
-      go true q = rw q (tables-same ws (againIn (tablesIn ws) (depthIn f (x .depth))) d)
-      go false q = rw q (tables-same ws (depthIn f (x .depth)) d)
+  ended-same ws d true = tables-same ws (againIn (tablesIn ws) f) d
+  ended-same ws d false = tables-same ws (depthIn f (f .depth - 1)) d
+
+  ended-page : (ws : List ℕ) (holds : Bool) → overIn ws f holds .page ≡ f .page
+  ended-page ws true = refl
+  ended-page ws false = refl
 
   heads-same : (ws : List ℕ) (n : ℕ) (x : Heading) (r : Lined) → Heads (h .words) n x f u a ws r → stateAt b (held (h .numbers) (h .rows) ws) f ≡ headed s n x
   heads-same ws n x r d =
@@ -243,21 +248,15 @@ module _ {body b index t : List ℕ} {h : Held} {scene : Scene} {start : ℕ} {f
     unfolding datasourceMeaning
     selects-is y = refl
 
-    pub datasource-line : (r : Lined) (x : Selected) (y : Index) → line ≡ form.Datasource y → Selects (h .numbers) scene y x → Follows (x .end) f (datasourceIn f (x .datasource)) u a r → With T log h r
+    pub datasource-line : (r : Lined) (n : ℕ) (z : ℤ) (y : Index) → line ≡ form.Datasource y → z ≡ scene .turn → n ≡ placeOf (indexNumber (integersIn (h .numbers)) z y) → Settles (scene .number) f u a (datasourceIn f) (datasourceAt n) r → With T log h r
     unfolding formWith formMeaning
-    datasource-line r x y e d w =
-        rw (e, ← seen-same, selects-is y) (concludes-executes b h h f T u log a p r (refl, refl) (datasourceFrom (indexNumber (integersIn (h .numbers)) (scene .turn) y)) (scene .number) (x .datasource) (x .end) (datasourceIn f (x .datasource)) (withDatasource s) (d .concludes) w refl)
+    datasource-line r n z y e q g w =
+        let i = indexNumber (integersIn (h .numbers)) (scene .turn) y in
+        rw (e, ← seen-same, selects-is y) (settles-executes (datasourceAt n) (datasourceFrom i) (λ x. x) (withDatasource s) (datasource-is i ∙ ap datasourceAt (sym (g ∙ ap (λ (x : ℤ). placeOf (indexNumber (integersIn (h .numbers)) x y)) q)) ∙ mapped-same (datasourceAt n)) w (refl, refl) (λ _. refl) (λ _. refl))
 
     pub text-line : (T′ log′ : List ℕ) (r : Lined) (x : Paged) → line ≡ form.Text → Steps (lent b index (h .numbers) (h .rows) (h .words)) scene t hs (f .feeds) body (f .page) T u log a p T′ log′ x → r ≡ endedIn (x .end) (pageIn f (x .page)) (x .printed) (x .asked) → With T′ log′ h r
     unfolding formWith formMeaning
-    text-line T′ log′ r x e d i = rw (e, ← seen-same, i) (record { does = go (x .end) refl; few = omega (arith, d .few, few-fields t hs (highestOf hs 9) (k .heads), highest-most hs 9, fields-few body 0 (k .short)); rows = (refl, refl) })
-      where
-        did : Does (sourceOf b) (lineStep (machineIn b h scene) t (scene .number) (f .feeds) hs body (f .page)) (at T u (questions log) a p (f .page .number)) (at T′ (x .printed) (questions log′) (x .asked) p (x .page .number)) (endOf (x .page) (x .end))
-        did = d .moves .does (length b) (k .kept .cells) (k .kept .ready)
-
-        go : (q : Ended) → x .end ≡ q → Does (sourceOf b) (bind (lineStep (machineIn b h scene) t (scene .number) (f .feeds) hs body (f .page)) (λ y. done (withPage s y))) (at T u (questions log) a p (f .page .number)) (at T′ (x .printed) (questions log′) (x .asked) p (x .page .number)) (endOf (stateAt b h (pageIn f (x .page))) (x .end))
-        go Finished q = rw q (then-does (λ y. done (withPage s y)) (rw q at did) (does-done (sourceOf b) (at T′ (x .printed) (questions log′) (x .asked) p (x .page .number)) (withPage s (x .page))))
-        go (Halted c l) q = rw q (then-over (λ y. done (withPage s y)) (rw q at did))
+    text-line T′ log′ r x e d i = rw (e, ← seen-same, i) (then-executes (lineStep (machineIn b h scene) t (scene .number) (f .feeds) hs body (f .page)) (x .page) (withPage s) (x .end) (d .moves .does (length b) (k .kept .cells) (k .kept .ready)) (omega (arith, d .few, few-fields t hs (highestOf hs 9) (k .heads), highest-most hs 9, fields-few body 0 (k .short))) (refl, refl) (λ _. refl))
 
     pub heading-line : (ws : List ℕ) (r : Lined) (n from : ℕ) → line ≡ form.Heading n from → Heads (h .words) n (record { start = start; length = length body; from = from; number = scene .number }) f u a ws r → With T log (held (h .numbers) (h .rows) ws) r
     unfolding formWith formMeaning
@@ -267,15 +266,38 @@ module _ {body b index t : List ℕ} {h : Held} {scene : Scene} {start : ℕ} {f
     unfolding formWith formMeaning
     no-heading-line ws r n e x = rw e (went-executes b h (held (h .numbers) (h .rows) ws) f f T u log a p r (headed s n noHeading) (x .went) refl (heads-same ws n _ r x) (refl, ap length (x .tables)))
 
-    pub records-line : (ws log′ : List ℕ) (r : Lined) (x : Done) (y : Fetch) → line ≡ form.Records y → TakesRecords (h .numbers) (h .words) scene y log a p ws log′ x → r ≡ endedIn (x .end) f u (x .asked) → With T log′ (held (h .numbers) (h .rows) ws) r
+    -- what was fetched, then the variables with it
+    fetched-line : (along : Along) (from : ℕ) (put : List Answer → Variables) (ws log′ : List ℕ) (r : Lined) (x : Fetched) (y : Fetch) → FetchValue (h .numbers) scene along y log a p log′ x → Refills from (y .number) x (h .words) f u ws r → from + 10 ≤ 119 → (Puts (h .words) from 10 (y .number) (x .fetched) ws → variablesOf (sourceOf b) (held (h .numbers) (h .rows) ws) ≡ put (fetched (sourceOf b) along (x .fetched))) → Executes 330 (bind (bind (fetchMeaning (machineIn b h scene) (scene .number) along (y .parameter) (y .first) (y .second) (y .count)) (λ l. done (put l))) (λ v. done (withVariables s v))) b h f T u log a p (held (h .numbers) (h .rows) ws) T log′ r
+    fetched-line along from put ws log′ r x y d i o e =
+        let m = fetchMeaning (machineIn b h scene) (scene .number) along (y .parameter) (y .first) (y .second) (y .count) in
+        let g = d .fetches (h .rows) (h .words) in
+        rw (i .went, bind-assoc m (λ l. done (put l)) (λ z. done (withVariables s z))) (then-executes m (fetched (sourceOf b) along (x .fetched)) (λ l. withVariables s (put l)) (x .end) (g .does (sourceOf b) T u (f .page .number)) (omega (arith, g .few)) (refl, ap length (i .tables)) (λ q. let j = i .puts q in variables-same (held (h .numbers) (h .rows) ws) (j .above 119 9 (omega arith)) (i .tables) ∙ ap (withVariables s) (e j)))
+
+    abbrev putRecords : Fetch → List Answer → Variables
+    putRecords y l = withRecords (variablesOf (sourceOf b) h) (setNumbered (map (fetched (sourceOf b) Records) (recordsIn (h .words))) (y .number) l)
+
+    records-is : (y : Fetch) → recordsMeaning (machineIn b h scene) (scene .number) y ≡ bind (fetchMeaning (machineIn b h scene) (scene .number) Records (y .parameter) (y .first) (y .second) (y .count)) (λ l. done (putRecords y l))
+    unfolding recordsMeaning
+    records-is y = refl
+
+    pub records-line : (ws log′ : List ℕ) (r : Lined) (x : Fetched) (y : Fetch) → line ≡ form.Records y → FetchValue (h .numbers) scene Records y log a p log′ x → Refills 99 (y .number) x (h .words) f u ws r → With T log′ (held (h .numbers) (h .rows) ws) r
     unfolding formWith formMeaning
     records-line ws log′ r x y e d i =
-        rw (e, ← seen-same) (command (k .kept) h (held (h .numbers) (h .rows) ws) f f T u log a p log′ r (refl, ap length (d .takes .tables)) (λ source. recordsMeaning (machine source h scene) (scene .number) y) (λ source. variablesOf source (held (h .numbers) (h .rows) ws)) (withVariables s) 64 (x .asked) (x .end) (d .takes .runs b index (h .rows)) (omega arith) (rw i (record { end-same = refl; printed = refl; asked = refl; page = refl; goes = λ _. refl })) (variables-same (held (h .numbers) (h .rows) ws) (d .takes .headings) (d .takes .tables)))
+        rw (e, ← seen-same, records-is y) (fetched-line Records 99 (putRecords y) ws log′ r x y d i (omega arith) (λ q.
+        rw (q .below 0 99 (omega arith), q .above 109 10 (omega arith)) (ap (withRecords (variablesOf (sourceOf b) h)) (ap (map (fetched (sourceOf b) Records)) (q .own) ∙ fetched-kept (sourceOf b) Records (recordsIn (h .words)) (y .number) (x .fetched)))))
 
-    pub entries-line : (ws log′ : List ℕ) (r : Lined) (x : Done) (y : Fetch) → line ≡ form.Entries y → TakesEntries (h .numbers) (h .words) scene y log a p ws log′ x → r ≡ endedIn (x .end) f u (x .asked) → With T log′ (held (h .numbers) (h .rows) ws) r
+    abbrev putEntries : Fetch → List Answer → Variables
+    putEntries y l = withEntries (variablesOf (sourceOf b) h) (setNumbered (map (fetched (sourceOf b) Entries) (entriesIn (h .words))) (y .number) l)
+
+    entries-is : (y : Fetch) → entriesMeaning (machineIn b h scene) (scene .number) y ≡ bind (fetchMeaning (machineIn b h scene) (scene .number) Entries (y .parameter) (y .first) (y .second) (y .count)) (λ l. done (putEntries y l))
+    unfolding entriesMeaning
+    entries-is y = refl
+
+    pub entries-line : (ws log′ : List ℕ) (r : Lined) (x : Fetched) (y : Fetch) → line ≡ form.Entries y → FetchValue (h .numbers) scene Entries y log a p log′ x → Refills 109 (y .number) x (h .words) f u ws r → With T log′ (held (h .numbers) (h .rows) ws) r
     unfolding formWith formMeaning
     entries-line ws log′ r x y e d i =
-        rw (e, ← seen-same) (command (k .kept) h (held (h .numbers) (h .rows) ws) f f T u log a p log′ r (refl, ap length (d .takes .tables)) (λ source. entriesMeaning (machine source h scene) (scene .number) y) (λ source. variablesOf source (held (h .numbers) (h .rows) ws)) (withVariables s) 64 (x .asked) (x .end) (d .takes .runs b index (h .rows)) (omega arith) (rw i (record { end-same = refl; printed = refl; asked = refl; page = refl; goes = λ _. refl })) (variables-same (held (h .numbers) (h .rows) ws) (d .takes .headings) (d .takes .tables)))
+        rw (e, ← seen-same, entries-is y) (fetched-line Entries 109 (putEntries y) ws log′ r x y d i (omega arith) (λ q.
+        rw (q .below 0 99 (omega arith), q .below 99 10 (omega arith)) (ap (withEntries (variablesOf (sourceOf b) h)) (ap (map (fetched (sourceOf b) Entries)) (q .own) ∙ fetched-kept (sourceOf b) Entries (entriesIn (h .words)) (y .number) (x .fetched)))))
 
     pub section-line : (numbers′ : List ℤ) (words′ : List ℕ) (r : Lined) (x y : ℕ) → line ≡ form.Section x y → Clears (h .numbers) (h .words) f u a numbers′ words′ r → With T log (held numbers′ (h .rows) words′) r
     unfolding formWith formMeaning
@@ -305,69 +327,53 @@ module _ {body b index t : List ℕ} {h : Held} {scene : Scene} {start : ℕ} {f
     abbrev Valued : List ℕ → Held → Lined → Type 0
     Valued T′ h′ r = Executes 330 (formWith t start (scene .number) body s line (worths (meant S w) q)) b h f T u log a p h′ T′ log r
 
-    pub set-line : (h′ : Held) (r : Lined) (end : Ended) (o : Operation) (x : Target) (y : Argument) → line ≡ form.Set o x y → Assigns body b h (scene .number) o x w h′ end → r ≡ endedIn end f u a → Valued T h′ r
+    pub set-line : (h′ : Held) (r : Lined) (z : Verdict) (o : Operation) (x : Target) (y : Argument) → line ≡ form.Set o x y → Assigns body b h o x w h′ z → Settles (scene .number) f u a (keptIn f) (verdictOf z) r → Valued T h′ r
     unfolding formWith
-    set-line h′ r end o x y e d i =
-        rw e (concludes-executes b h h′ f T u log a p r (d .held .rows-held ∙ sym (k .rows), ap length (d .tables)) (setOf (variablesOf (sourceOf b) h) o x (meant S w)) (scene .number) (variablesOf (sourceOf b) h′) end f (withVariables s) (d .concludes (sourceOf b)) (rw i (record { end-same = refl; printed = refl; asked = refl; page = refl; goes = λ _. refl })) (variables-same h′ (d .headings) (d .tables)))
+    set-line h′ r z o x y e d i =
+        rw e (settles-executes (verdictOf z) (setOf (variablesOf (sourceOf b) h) o x (meant S w)) (λ _. variablesOf (sourceOf b) h′) (withVariables s) (d .same (sourceOf b)) i (d .held .rows-held ∙ sym (k .rows), ap length (d .tables)) (λ _. refl) (λ _. variables-same h′ (d .headings) (d .tables)))
 
-    pub if-zero-line : (r : Lined) (j : Judged) (y : Argument) → line ≡ form.IfZero y → JudgesZero true w j → r ≡ settledIn (scene .number) f u a (branchedIn t f) (judgedOf j) → Valued T h r
-    unfolding formWith
-    if-zero-line r j y e d i = rw (e, ← (d .same S)) (settles-executes b h h f T u log a p r (refl, refl) (judgedOf j) (scene .number) (branchedIn t f) (branched t s) i branch-page branch-same)
+    -- a test that came to j
+    test-does : (r : Lined) (j : Judged) (z : Settled Bool) → judgedOf j ≡ z → Settles (scene .number) f u a (branchedIn t f) (judgedOf j) r → Executes 330 (bind (concluded (scene .number) z) (λ y. done (branched t s y))) b h f T u log a p h T log r
+    test-does r j z d i = settles-executes (judgedOf j) z (λ y. y) (branched t s) (sym d ∙ mapped-same (judgedOf j)) i (refl, refl) branch-page branch-same
 
-    pub if-non-zero-line : (r : Lined) (j : Judged) (y : Argument) → line ≡ form.IfNonZero y → JudgesZero false w j → r ≡ settledIn (scene .number) f u a (branchedIn t f) (judgedOf j) → Valued T h r
+    pub if-zero-line : (r : Lined) (j : Judged) (y : Argument) → line ≡ form.IfZero y → JudgesZero true w j → Settles (scene .number) f u a (branchedIn t f) (judgedOf j) r → Valued T h r
     unfolding formWith
-    if-non-zero-line r j y e d i = rw (e, ← (d .same S)) (settles-executes b h h f T u log a p r (refl, refl) (judgedOf j) (scene .number) (branchedIn t f) (branched t s) i branch-page branch-same)
+    if-zero-line r j y e d i = rw e (test-does r j _ (d .same S) i)
 
-    pub compare-line : (r : Lined) (j : Judged) (c : Comparison) (x y : Argument) → line ≡ form.Compare c x y → judgedOf j ≡ compared c (meant S w) q → r ≡ settledIn (scene .number) f u a (branchedIn t f) (judgedOf j) → Valued T h r
+    pub if-non-zero-line : (r : Lined) (j : Judged) (y : Argument) → line ≡ form.IfNonZero y → JudgesZero false w j → Settles (scene .number) f u a (branchedIn t f) (judgedOf j) r → Valued T h r
     unfolding formWith
-    compare-line r j c x y e d i = rw (e, ← d) (settles-executes b h h f T u log a p r (refl, refl) (judgedOf j) (scene .number) (branchedIn t f) (branched t s) i branch-page branch-same)
+    if-non-zero-line r j y e d i = rw e (test-does r j _ (d .same S) i)
 
-    pub begin-line : (ws : List ℕ) (r : Lined) (x : Looped) (y : Argument) → line ≡ form.BeginTable y → BeginsTable w (f .at) (f .line) (scene .number) (h .words) (f .depth) ws x → Follows (x .end) f (begunIn t f x) u a r → Valued T (held (h .numbers) (h .rows) ws) r
+    pub compare-line : (r : Lined) (j : Judged) (c : Comparison) (x y : Argument) → line ≡ form.Compare c x y → judgedOf j ≡ compared c (meant S w) q → Settles (scene .number) f u a (branchedIn t f) (judgedOf j) r → Valued T h r
     unfolding formWith
-    begin-line ws r x y e d i =
-        let g = d .loops S .stays in
-        rw e (concludes-executes b h (held (h .numbers) (h .rows) ws) f T u log a p r (refl, bank-long (h .words) ws 128 20 (g .same)) (beginFrom (openOf (h .words) (f .depth)) (f .at) (f .line) (meant S w)) (scene .number) (loopingOf ws x) (x .end) (begunIn t f x) (tableBegun t s) (d .loops S .concludes) i (begun-same ws x g (d .rest)))
+    compare-line r j c x y e d i = rw e (test-does r j _ d i)
 
-    pub end-line : (ws : List ℕ) (r : Lined) (x : Looped) (y : Optional) → line ≡ form.EndTable y → EndsTable y w (scene .number) (h .words) (f .depth) ws x → Follows (x .end) f (overIn (tablesIn ws) f x) u a r → Valued T (held (h .numbers) (h .rows) ws) r
+    pub begin-line : (ws : List ℕ) (r : Lined) (n : Taken) (j : Judged) (y : Argument) → line ≡ form.BeginTable y → Takes integerFrom w n → BeginsTable n (f .at) (f .line) (h .words) (f .depth) ws j → Settles (scene .number) f u a (begunIn t f) (judgedOf j) r → Valued T (held (h .numbers) (h .rows) ws) r
     unfolding formWith
-    end-line ws r x y e d i =
-        let g = d .loops S .stays in
-        rw e (concludes-executes b h (held (h .numbers) (h .rows) ws) f T u log a p r (refl, bank-long (h .words) ws 128 20 (g .same)) (endFrom (openOf (h .words) (f .depth)) y (meant S w)) (scene .number) (loopingOf ws x) (x .end) (overIn (tablesIn ws) f x) (tableEnded s) (d .loops S .concludes) i (ended-same ws x g))
+    begin-line ws r n j y e d g i =
+        rw e (settles-executes (judgedOf j) (beginFrom (openOf (h .words) (f .depth)) (f .at) (f .line) (integerFrom (meant S w))) (beginning ws (f .depth)) (tableBegun t s) (ap (beginFrom (openOf (h .words) (f .depth)) (f .at) (f .line)) (sym (d .same S)) ∙ g .same) i (refl, bank-long (h .words) ws 128 20 (g .stays .same)) begun-page (begun-same ws (g .stays) (g .rest)))
+
+    pub end-line : (ws : List ℕ) (r : Lined) (n : Taken) (j : Judged) (y : Optional) → line ≡ form.EndTable y → Takes (integerOr (pos 1) y) w n → EndsTable n (h .words) (f .depth) ws j → Settles (scene .number) f u a (overIn (tablesIn ws) f) (judgedOf j) r → Valued T (held (h .numbers) (h .rows) ws) r
+    unfolding formWith
+    end-line ws r n j y e d g i =
+        rw e (settles-executes (judgedOf j) (endFrom (openOf (h .words) (f .depth)) (integerOr (pos 1) y (meant S w))) (passing ws (f .depth)) (tableEnded s) (ap (endFrom (openOf (h .words) (f .depth))) (sym (d .same S)) ∙ g .same) i (refl, bank-long (h .words) ws 128 20 (g .stays .same)) (ended-page (tablesIn ws)) (ended-same ws (g .stays)))
 
     breaks-does : (T′ : List ℕ) (r : Lined) → BreaksLine (scene .number) f T u a T′ r → Executes 330 (breaking (scene .number) s) b h f T u log a p h T′ log r
     unfolding breaking
-    breaks-does T′ r d = record { does = rw (d .asked) (go (r .end) refl); few = omega (arith, d .asked); rows = (refl, refl) }
+    breaks-does T′ r d = then-executes (breakMeaning (scene .number) (f .feeds) (f .page)) (r .flow .page) (withPage s) (r .end) (rw (d .asked) (d .does (sourceOf b) (questions log) a p)) (omega (arith, d .asked)) (refl, refl) (λ _. ap (stateAt b h) (d .flow))
+
+    pub new-page-line : (T′ : List ℕ) (r : Lined) (n : Taken) (y : Optional) → line ≡ form.NewPage y → Takes (integerOr (pos 62) y) w n → PagesLine n (scene .number) f T u a T′ r → Valued T′ h r
+    unfolding formWith breakingFor
+    new-page-line T′ r n y e d g = rw (e, ← (d .same S)) (by n refl)
       where
-        did : Does (sourceOf b) (breakMeaning (scene .number) (f .feeds) (f .page)) (at T u (questions log) a p (f .page .number)) (at T′ (r .printed) (questions log) a p (r .flow .page .number)) (endOf (r .flow .page) (r .end))
-        did = d .does (sourceOf b) (questions log) a p
-
-        stands : stateAt b h (r .flow) ≡ withPage s (r .flow .page)
-        stands = ap (stateAt b h) (d .flow)
-
-        go : (z : Ended) → r .end ≡ z → Does (sourceOf b) (bind (breakMeaning (scene .number) (f .feeds) (f .page)) (λ x. done (withPage s x))) (at T u (questions log) a p (f .page .number)) (at T′ (r .printed) (questions log) a p (r .flow .page .number)) (endOf (stateAt b h (r .flow)) (r .end))
-        go Finished z = rw (z, stands) (then-does (λ x. done (withPage s x)) (rw z at did) (does-done (sourceOf b) (at T′ (r .printed) (questions log) a p (r .flow .page .number)) (withPage s (r .flow .page))))
-        go (Halted c l) z = rw z (then-over (λ x. done (withPage s x)) (rw z at did))
-
-    page-does : (T′ : List ℕ) (r : Lined) → PagesFor w (scene .number) f T u a T′ r → Executes 330 (bind (concluded (scene .number) (integerFrom (meant S w))) (breakingFor (scene .number) s)) b h f T u log a p h T′ log r
-    unfolding breakingFor
-    page-does T′ r d = rw (← (d .takes .same S)) (by (d .taken) refl)
-      where
-        by : (z : Taken) → d .taken ≡ z → Executes 330 (bind (concluded (scene .number) (takenOf (d .taken))) (breakingFor (scene .number) s)) b h f T u log a p h T′ log r
+        by : (z : Taken) → n ≡ z → Executes 330 (bind (concluded (scene .number) (takenOf n)) (breakingFor (scene .number) s)) b h f T u log a p h T′ log r
         by (K.Refused x) z =
-            let y = d .pages .refused x z in
+            let y = g .refused x z in
             rw (z, y .0, y .1) (record { does = does-stop (sourceOf b) (at T u (questions log) a p (f .page .number)) x (scene .number); few = omega arith; rows = (refl, refl) })
-        by (K.Value n) z = rw z (choose (ltZ (pos (61 - f .page .line)) n) refl)
+        by (K.Value m) z = rw z (choose (ltZ (pos (61 - f .page .line)) m) refl)
           where
-            choose : (c : Bool) → ltZ (pos (61 - f .page .line)) n ≡ c → Executes 330 (breakingFor (scene .number) s n) b h f T u log a p h T′ log r
-            choose true c = rw c (breaks-does T′ r (d .pages .breaks n z c))
+            choose : (c : Bool) → ltZ (pos (61 - f .page .line)) m ≡ c → Executes 330 (breakingFor (scene .number) s m) b h f T u log a p h T′ log r
+            choose true c = rw c (breaks-does T′ r (g .breaks m z c))
             choose false c =
-                let y = d .pages .stays n z c in
+                let y = g .stays m z c in
                 rw (c, y .0, y .1) (record { does = does-done (sourceOf b) (at T u (questions log) a p (f .page .number)) s; few = omega arith; rows = (refl, refl) })
-
-    pub new-page-line : (T′ : List ℕ) (r : Lined) (y : Optional) → line ≡ form.NewPage y → NewPages y w (scene .number) f T u a T′ r → Valued T′ h r
-    unfolding formWith newPageWith
-    new-page-line T′ r y e d = rw e (by y refl)
-      where
-        by : (z : Optional) → y ≡ z → Executes 330 (newPageWith (scene .number) s y (meant S w)) b h f T u log a p h T′ log r
-        by Absent z = rw z (breaks-does T′ r (d .always z))
-        by (Given x) z = rw z (page-does T′ r (d .given x z))

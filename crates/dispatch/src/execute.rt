@@ -1,48 +1,25 @@
 // A line by its form and the values of its arguments.
 use assignments::set;
 use coercions::settle;
-use commands::datasource;
-use commands::fetching;
 use conditions::test;
 use control::arms;
 use control::flow;
 use control::state::Flow;
 use control::state::Lined;
 use lines::command::Line;
-use lines::command::Optional;
 use pages::heading::Heading;
 use pages::step;
+use questions::fetch;
+use questions::fetch::Along;
+use questions::scene;
 use questions::scene::Numbers;
 use questions::scene::Scene;
 use questions::scene::Words;
 use tables::table;
 use values::worth::Worth;
 ghost use Rattle.questions.specs.inner.State.{held};
-ghost use Rattle.pages.specs.inner.Paging.{TurnReady};
 ghost use Rattle.control.specs.inner.Executing.{FormReady};
-ghost use Rattle.dispatch.specs.inner.Performing.{NewPages, Performs};
-
-// $NP
-fn new_page(
-    optional: Optional,
-    worth: Worth,
-    number: u32,
-    text: &mut [u8],
-    printed: usize,
-    flow: Flow,
-    asked: usize,
-) -> Lined
-    requires { ⌜ TurnReady (flow .page) (now text) printed ⌝ }
-    ensures { λ r. ⌜ NewPages optional worth number flow (now (text .entry)) printed asked (now (text .exit)) r ⌝ }
-{
-    match optional {
-        Optional::Absent => arms::break_line(number, text, printed, flow, asked),
-        Optional::Given(_) => {
-            let taken = settle::integer_of(worth);
-            arms::page_for(taken, number, text, printed, flow, asked)
-        }
-    }
-}
+ghost use Rattle.dispatch.specs.inner.Performing.{Performs};
 
 // The line, with the flow behind it.
 pub fn execute<'a>(
@@ -93,18 +70,8 @@ pub fn execute<'a>(
         }
         Line::Section(_, _) => arms::section_line(numbers, words, flow, printed, asked),
         Line::Set(o, target, _) => {
-            let end = set::assigned(
-                body,
-                store,
-                numbers,
-                strings,
-                words,
-                scene.number,
-                o,
-                target,
-                first,
-            );
-            arms::onward(end, flow, printed, asked)
+            let verdict = set::assigned(body, store, numbers, strings, words, o, target, first);
+            arms::settled(verdict, scene.number, flow, printed, asked)
         }
         Line::IfZero(_) => {
             let judged = test::if_zero(true, first);
@@ -121,40 +88,34 @@ pub fn execute<'a>(
         Line::Else => arms::turned_away(template, flow, printed, asked),
         Line::EndIf => arms::went(flow, printed, asked),
         Line::BeginTable(_) => {
-            let looped = table::begin_table(
-                first,
-                flow.at,
-                flow.line,
-                scene.number,
-                words,
-                flow.depth,
-            );
-            arms::begun(looped, template, flow, printed, asked)
+            let n = settle::integer_of(first);
+            let judged = table::begin_table(n, flow.at, flow.line, words, flow.depth);
+            arms::begun(judged, scene.number, template, flow, printed, asked)
         }
         Line::EndTable(optional) => {
-            let looped = table::end_table(optional, first, scene.number, words, flow.depth);
-            arms::ended(looped, words, flow, printed, asked)
+            let k = settle::integer_or(1, optional, first);
+            let judged = table::end_table(k, words, flow.depth);
+            arms::ended(judged, scene.number, words, flow, printed, asked)
         }
         Line::Records(f) => {
-            let done = fetching::fetch_records(numbers, words, scene, f, log, asked, places);
-            let end = done.end;
-            arms::onward(end, flow, printed, done.asked)
+            let v = fetch::fetch(Along::Records, f, scene, numbers, log, asked, places);
+            arms::fetched(v, 99, f.number, words, flow, printed)
         }
         Line::Entries(f) => {
-            let done = fetching::fetch_entries(numbers, words, scene, f, log, asked, places);
-            let end = done.end;
-            arms::onward(end, flow, printed, done.asked)
+            let v = fetch::fetch(Along::Entries, f, scene, numbers, log, asked, places);
+            arms::fetched(v, 109, f.number, words, flow, printed)
         }
         Line::Datasource(i) => {
-            let selected = datasource::select(i, scene, numbers);
-            arms::selected(selected, flow, printed, asked)
+            let place = scene::index_place(i, scene.turn, numbers);
+            arms::selected(place, scene.number, flow, printed, asked)
         }
         Line::NoFormFeed => {
             let next = flow::with_feeds(flow, false);
             arms::went(next, printed, asked)
         }
         Line::NewPage(optional) => {
-            new_page(optional, first, scene.number, text, printed, flow, asked)
+            let n = settle::integer_or(62, optional, first);
+            arms::page_for(n, scene.number, text, printed, flow, asked)
         }
         Line::Heading(n, from) => {
             let defined = Heading {

@@ -7,25 +7,19 @@ use native.Mathlib.Omega.{arith}
 use native.Mathlib.Numerals.{add-one}
 use borrow.Author.Tests.{le-ltb, lt-ltb, ltb-false}
 use lib.Dec.{ltb}
-use lib.IntN.{ℤ, pos, natAbs}
+use lib.IntN.{ℤ, pos, negsuc, natAbs}
 use lib.Signed.{ltZ}
 use lib.ListN.{length, getD, set, take, drop, length-take, length-set, List·getD-eq-default}
 use lib.Seq.{getD-take, getD-drop, getD-set-same, getD-set-other, drop-set-add, take-set-le}
 use Rattle.meaning.specs.declared.refusal.Refusal.{Refusal}
 use Rattle.meaning.specs.declared.refusal.Refusal.the-variants.{OutOfRange}
-use Rattle.arguments.specs.declared.argument.Argument.{Argument}
-use Rattle.lines.specs.declared.command.Optional.{Optional}
-use Rattle.lines.specs.declared.command.Optional.the-variants.{Given, Absent}
 use Rattle.tables.specs.declared.table.Table.{Table}
-use Rattle.tables.specs.declared.table.Looped.{Looped}
 use Rattle.questions.specs.inner.State.{bank, tablesIn}
-use Rattle.values.specs.declared.worth.Worth as W
+use Rattle.coercions.specs.declared.settle.Judged.the-variants as J
 use Rattle.coercions.specs.declared.settle.Taken.{Taken}
 use Rattle.coercions.specs.declared.settle.Taken.the-variants.{Value, Refused}
-use Rattle.coercions.specs.Settling.{Settled, settled, against, integerFrom}
-use Rattle.coercions.specs.inner.Contracts.{Takes}
-use Rattle.tables.specs.Looping.{loop, Looping, looping, newTable, begun, noTable, innermost, exceeds, countedTo, counting, counted}
-use Rattle.tables.specs.inner.Open.{tableIn, opened, openOf, wentIn, overIn, AtMostOpen, Closes, Stays, Pushes, Loops, Begins, endFrom, BeginsTable, EndsTable}
+use Rattle.tables.specs.Looping.{loop, newTable, begun, noTable, innermost, exceeds, countedTo, counting, counted}
+use Rattle.tables.specs.inner.Open.{tableIn, opened, openOf, AtMostOpen, Stays, Pushes, BeginsTable, EndsTable}
 
 -- ---- the open tables
 
@@ -123,7 +117,7 @@ module _ (w : List ℕ) (d c l s n : ℕ) (few : d ≤ 4) (row : 148 ≤ length 
   rest-same : openOf w₄ d ≡ openOf w d
   rest-same = opened-same (tablesIn w) (tablesIn w₄) d below
 
-  pub pushes : Pushes w d (record { counter = c; last = l; start = s; line = n }) w₄ (d + 1)
+  pub pushes : Pushes w d (record { counter = c; last = l; start = s; line = n }) w₄
   unfolding opened
   pushes = record {
     more = rw (add-one d) (λ z. table-set z ∷ rest-same z);
@@ -151,67 +145,22 @@ module _ (w : List ℕ) where
       let at : (j : ℕ) → 20 ≤ j → 0 ≡ getD (tablesIn w) j 0 = past-tables w in
       (λ z. record { counter = at ((d - 1) * 4) (omega arith) z % 4294967296; last = at ((d - 1) * 4 + 1) (omega arith) z; start = at ((d - 1) * 4 + 2) (omega arith) z; line = at ((d - 1) * 4 + 3) (omega arith) z % 4294967296 }) ∙ innermost-in d h
 
-rest-in : (ws : List ℕ) (d : ℕ) → 1 ≤ d → opened ws (d - 1) ≡ drop 1 (opened ws d)
+-- without the innermost
+rest-is : (ws : List ℕ) (d : ℕ) → opened ws (d - 1) ≡ drop 1 (opened ws d)
 unfolding opened
-rest-in ws zero h = absurd (omega arith)
-rest-in ws (suc d) h = let e : suc d - 1 ≡ d = omega arith in rw e
-
-rest-none : (ws : List ℕ) (d : ℕ) → d < 1 → opened ws d ≡ drop 1 (opened ws d)
-unfolding opened
-rest-none ws zero h = refl
-rest-none ws (suc d) h = absurd (omega arith)
+rest-is ws zero = refl
+rest-is ws (suc d) = let e : suc d - 1 ≡ d = omega arith in rw e
 
 pub loop-is : (ts : List Table) → innermost ts .counter ≡ loop ts
 unfolding loop
 loop-is [] = refl
 loop-is (t ∷ ts) = refl
 
-pub closes-none : (d : ℕ) → d < 1 → Closes d d
-closes-none d h = record { rest = λ ws. rest-none ws d h; few = λ n k. omega arith }
+pub closed-few : (words : List ℕ) (d r : ℕ) → AtMostOpen 5 words d → r ≡ d - 1 → AtMostOpen 4 words r
+closed-few words d r h e = record { few = omega (arith, e, h .few); row = h .row }
 
-pub closes-in : (d : ℕ) → 1 ≤ d → Closes d (d - 1)
-closes-in d h = record { rest = λ ws. rest-in ws d h; few = λ n k. omega arith }
-
-pub closes-few : (words : List ℕ) (d r : ℕ) → AtMostOpen 5 words d → Closes d r → AtMostOpen 4 words r
-closes-few words d r h k = record { few = k .few 4 (h .few); row = h .row }
-
-pub stays-all : (words : List ℕ) → Stays words words
+stays-all : (words : List ℕ) → Stays words words
 stays-all words = record { others = λ i k h. refl; same = refl }
-
--- ---- lines with their value
-
-module _ (x : Settled Looping) (line : ℕ) (words words′ : List ℕ) (r : Looped) (g : Stays words words′) where
-  pub loops-went : (d : ℕ) (b : Bool) → x ≡ settled (looping (openOf words′ d) b) → r ≡ wentIn d b → Loops x line words words′ r
-  loops-went d b h e = rw (e, h) (record { concludes = record { same = refl }; stays = g })
-
-  pub loops-over : (e : Refusal) (d : ℕ) → x ≡ against e → r ≡ overIn e line d → Loops x line words words′ r
-  loops-over e d h i = rw (i, h) (record { concludes = record { same = refl }; stays = g })
-
-pub begins-went : (words : List ℕ) (d start next : ℕ) (z : ℤ) (words′ : List ℕ) (r : Looped) (n : ℕ) (b : Bool) → Stays words words′ → openOf words′ d ≡ openOf words d → settled (begun (openOf words d) start next z) ≡ settled (looping (openOf words′ n) b) → r ≡ wentIn n b → Begins words d start next z words′ r
-begins-went words d start next z words′ r n b g q h e = record { loops = λ line. loops-went (settled (begun (openOf words d) start next z)) line words words′ r g n b h e; rest = q }
-
-module _ (ts : List Table) (z : ℤ) (b : Bool) (e : b ≡ ltZ z (pos 1)) where
-  module _ (start next : ℕ) where
-    pub begun-skips : b ≡ true → settled (begun ts start next z) ≡ settled (looping ts true)
-    unfolding begun
-    begun-skips h = rw (← e, h)
-
-    pub begun-opens : b ≡ false → (n : ℕ) → n ≡ natAbs z → (us : List Table) → us ≡ newTable n start next ∷ ts → settled (begun ts start next z) ≡ settled (looping us false)
-    unfolding begun
-    begun-opens h n j us i = rw (← e, h, ← j, i)
-
-  pub counted-low : b ≡ true → counted ts z ≡ against OutOfRange
-  unfolding counted
-  counted-low f = rw (← e, f)
-
-  module _ (f : b ≡ false) (t : Table) (i : t ≡ innermost ts) (k c : ℕ) (j : k ≡ natAbs z) (g : c ≡ t .counter + k) (x : Bool) (y : x ≡ exceeds c (t .last)) (rest : List Table) (l : rest ≡ drop 1 ts) where
-    pub counted-ends : x ≡ true → counted ts z ≡ settled (looping rest false)
-    unfolding counted counting
-    counted-ends n = rw (← e, f, ← i, ← j, ← g, ← y, n, l)
-
-    pub counted-again : x ≡ false → (u : Table) (us : List Table) → u ≡ countedTo t c → us ≡ u ∷ rest → counted ts z ≡ settled (looping us true)
-    unfolding counted counting
-    counted-again n u us o q = rw (← e, f, ← i, ← j, ← g, ← y, n, q, o, l)
 
 -- ---- small functions
 
@@ -231,25 +180,52 @@ exceeded-not c last x e n = by (ltb 2000000000 c) refl (sym e ∙ n)
     by true u v = absurd (false≢true (sym v))
     by false u v = ltb-false 2000000000 c u
 
--- ---- lines with the value of their argument
+from-one : (z : ℤ) → ltZ z (pos 1) ≡ false → 1 ≤ natAbs z
+from-one (pos n) h = ltb-false n 1 h
+from-one (negsuc n) h = absurd (false≢true (sym h))
 
-module _ (w : W.Worth) (t : Taken) (d : Takes integerFrom w t) (line : ℕ) (words : List ℕ) (n : ℕ) (words′ : List ℕ) (r : Looped) where
+-- a counter of 1 or more exceeds the last of no table
+some-open : (words : List ℕ) (d : ℕ) (z : ℤ) → ltZ z (pos 1) ≡ false → (x : Table) → x ≡ innermost (openOf words d) → (k c : ℕ) → k ≡ natAbs z → c ≡ x .counter + k → (y : Bool) → y ≡ exceeds c (x .last) → y ≡ false → 1 ≤ d
+unfolding opened exceeds
+some-open words (suc d) z f x i k c j g y l n = omega arith
+some-open words zero z f x i k c j g y l n = absurd (by (ltb 2000000000 c) (sym n ∙ l ∙ ap (λ (t : Table). exceeds c (t .last)) i))
+  where
+    by : (t : Bool) → false ≡ t || ltb 0 c → ⊥
+    by true e = false≢true e
+    by false e = false≢true (e ∙ lt-ltb 0 c (omega (arith, j, g, from-one z f)))
+
+-- ---- $BT and $ET with their value
+
+module _ (t : Taken) (words : List ℕ) (d : ℕ) where
   module _ (start next : ℕ) where
-    pub begin-refused : (e : Refusal) → t ≡ Refused e → words′ ≡ words → r ≡ overIn e line n → BeginsTable w start next line words n words′ r
-    begin-refused e h q i = rw q (record { loops = λ s. rw (← (d .same s), h) (loops-over (against e) line words words r (stays-all words) e n refl i); rest = refl })
+    pub begin-refused : (e : Refusal) → t ≡ Refused e → BeginsTable t start next words d words (J.Refused e)
+    begin-refused e h = record { same = rw h; rest = refl; stays = stays-all words }
 
-    pub begin-follows : (z z′ : ℤ) → t ≡ Value z → z′ ≡ z → Begins words n start next z′ words′ r → BeginsTable w start next line words n words′ r
-    begin-follows z z′ h e k = record { loops = λ s. rw (← (d .same s), h, ← e) (k .loops line); rest = k .rest }
+    module _ (z : ℤ) (h : t ≡ Value z) (b : Bool) (e : b ≡ ltZ z (pos 1)) where
+      pub begin-skips : b ≡ true → BeginsTable t start next words d words (J.Holds false)
+      unfolding begun
+      begin-skips f = record { same = rw (h, ← e, f); rest = refl; stays = stays-all words }
 
-  module _ (o : Optional) (x : Argument) (g : o ≡ Given x) where
-    pub end-refused : (e : Refusal) → t ≡ Refused e → words′ ≡ words → r ≡ overIn e line n → EndsTable o w line words n words′ r
-    unfolding endFrom
-    end-refused e h q i = rw q (record { loops = λ s. rw (g, ← (d .same s), h) (loops-over (against e) line words words r (stays-all words) e n refl i) })
+      pub begin-opens : b ≡ false → (n : ℕ) → n ≡ natAbs z → (words′ : List ℕ) → Pushes words d (newTable n start next) words′ → BeginsTable t start next words d words′ (J.Holds true)
+      unfolding begun
+      begin-opens f n j words′ p = record { same = rw (h, ← e, f, ← j, p .more); rest = p .rest; stays = p .stays }
 
-    pub end-follows : (z z′ : ℤ) → t ≡ Value z → z′ ≡ z → Loops (counted (openOf words n) z′) line words words′ r → EndsTable o w line words n words′ r
-    unfolding endFrom
-    end-follows z z′ h e k = record { loops = λ s. rw (g, ← (d .same s), h, ← e) k }
+  pub end-refused : (e : Refusal) → t ≡ Refused e → EndsTable t words d words (J.Refused e)
+  end-refused e h = record { same = rw h; stays = stays-all words }
 
-pub end-absent : (w : W.Worth) (line : ℕ) (words : List ℕ) (n : ℕ) (words′ : List ℕ) (r : Looped) (o : Optional) → o ≡ Absent → Loops (counted (openOf words n) (pos 1)) line words words′ r → EndsTable o w line words n words′ r
-unfolding endFrom
-end-absent w line words n words′ r o i k = record { loops = λ s. rw i k }
+  module _ (z : ℤ) (h : t ≡ Value z) (b : Bool) (e : b ≡ ltZ z (pos 1)) where
+    pub end-low : b ≡ true → EndsTable t words d words (J.Refused OutOfRange)
+    unfolding counted
+    end-low f = record { same = rw (h, ← e, f); stays = stays-all words }
+
+    module _ (f : b ≡ false) (x : Table) (i : x ≡ innermost (openOf words d)) (k c : ℕ) (j : k ≡ natAbs z) (g : c ≡ x .counter + k) (y : Bool) (l : y ≡ exceeds c (x .last)) where
+      pub end-over : y ≡ true → EndsTable t words d words (J.Holds false)
+      unfolding counted counting
+      end-over n = record { same = rw (h, ← e, f, ← i, ← j, ← g, ← l, n, rest-is (tablesIn words) d); stays = stays-all words }
+
+      pub end-again : y ≡ false → (r : ℕ) → r ≡ d - 1 → (u : Table) → u ≡ countedTo x c → (words′ : List ℕ) → Pushes words r u words′ → EndsTable t words d words′ (J.Holds true)
+      unfolding counted counting
+      end-again n r m u o words′ p =
+          let q : r + 1 ≡ d = omega (arith, m, some-open words d z (sym e ∙ f) x i k c j g y l n) in
+          let v : openOf words′ d ≡ countedTo x c ∷ drop 1 (openOf words d) = ap (openOf words′) (sym q) ∙ p .more ∙ (λ w. o w ∷ (ap (openOf words) m ∙ rest-is (tablesIn words) d) w) in
+          record { same = rw (h, ← e, f, ← i, ← j, ← g, ← l, n, v); stays = p .stays }

@@ -1,14 +1,11 @@
 // $BT and $ET: an open table is four of the words that are lent.
-use coercions::settle;
+use coercions::settle::Judged;
 use coercions::settle::Taken;
-use lines::command::Optional;
-use meaning::end::Ended;
-use meaning::end::Halt;
 use meaning::refusal::Refusal;
 use numbers::sign;
+use questions::scene;
 use questions::scene::Words;
 use values::worth;
-use values::worth::Worth;
 ghost use mathlib.Core.Path.{_≡_};
 ghost use Prim.Native.Nat.{_<_};
 ghost use lib.IntN.{pos};
@@ -16,7 +13,7 @@ ghost use lib.Signed.{ltZ};
 ghost use Rattle.questions.specs.inner.State.{tablesIn};
 ghost use Rattle.tables.specs.Looping as L;
 ghost use Rattle.tables.specs.Looping.{noTable, countedTo};
-ghost use Rattle.tables.specs.inner.Open.{tableIn, openOf, wentIn, overIn, AtMostOpen, Closes, Pushes, Loops, Begins, BeginsTable, EndsTable};
+ghost use Rattle.tables.specs.inner.Open.{tableIn, openOf, AtMostOpen, Pushes, BeginsTable, EndsTable};
 
 // An open table: its counter, its n, and the line after its $BT by place and number.
 pub struct Table {
@@ -24,13 +21,6 @@ pub struct Table {
     pub last: u64,
     pub start: usize,
     pub line: u32,
-}
-
-// How a line ended, how many tables are open then, and whether the run goes on where the line leads.
-pub struct Looped {
-    pub end: Ended,
-    pub depth: usize,
-    pub jumps: bool,
 }
 
 fn below_one(z: i64) -> bool
@@ -90,27 +80,16 @@ pub fn turn_of(words: &Words, depth: usize) -> i64
     worth::signed(table.counter)
 }
 
-// A table more.
-fn pushed(words: &mut Words, depth: usize, table: Table) -> usize
+// A table more, behind so many.
+fn pushed(words: &mut Words, depth: usize, table: Table)
     requires { ⌜ AtMostOpen 4 (now words) depth ⌝ }
-    ensures { λ r. ⌜ Pushes (now (words .entry)) depth table (now (words .exit)) r ⌝ }
+    ensures { λ _. ⌜ Pushes (now (words .entry)) depth table (now (words .exit)) ⌝ }
 {
     let k = 128 + depth * 4;
     words[k] = table.counter as u64;
     words[k + 1] = table.last;
     words[k + 2] = table.start as u64;
     words[k + 3] = table.line as u64;
-    depth + 1
-}
-
-// Without the innermost.
-fn closed(depth: usize) -> usize
-    ensures { λ r. ⌜ Closes depth r ⌝ }
-{
-    if depth < 1 {
-        return depth;
-    }
-    depth - 1
 }
 
 fn again(table: Table, counter: u32) -> Table
@@ -134,102 +113,54 @@ fn exceeds(counter: u64, last: u64) -> bool
     last < counter
 }
 
-fn went(depth: usize, jumps: bool) -> Looped
-    ensures { λ r. ⌜ r ≡ wentIn depth jumps ⌝ }
-{
-    Looped {
-        end: Ended::Finished,
-        depth,
-        jumps,
-    }
-}
-
-fn over(refusal: Refusal, line: u32, depth: usize) -> Looped
-    ensures { λ r. ⌜ r ≡ overIn refusal line depth ⌝ }
-{
-    Looped {
-        end: Ended::Halted(Halt::Refused(refusal), line),
-        depth,
-        jumps: false,
-    }
-}
-
-// $BT with its value
-fn begun(z: i64, start: usize, next: u32, words: &mut Words, depth: usize) -> Looped
+// $BT: whether the table has a pass, so that it is open now; `start` and `next` are the line after it, by place and number.
+pub fn begin_table(taken: Taken, start: usize, next: u32, words: &mut Words, depth: usize) -> Judged
     requires { ⌜ AtMostOpen 4 (now words) depth ⌝ }
-    ensures { λ r. ⌜ Begins (now (words .entry)) depth start next z (now (words .exit)) r ⌝ }
+    ensures { λ r. ⌜ BeginsTable taken start next (now (words .entry)) depth (now (words .exit)) r ⌝ }
 {
-    if below_one(z) {
-        return went(depth, true);
-    }
-    let last = sign::magnitude(z);
-    let table = Table {
-        counter: 1,
-        last,
-        start,
-        line: next,
-    };
-    let more = pushed(words, depth, table);
-    went(more, false)
-}
-
-// $ET with its value
-fn counted(k: i64, number: u32, words: &mut Words, depth: usize) -> Looped
-    requires { ⌜ AtMostOpen 5 (now words) depth ⌝ }
-    ensures { λ r. ⌜ Loops (L.counted (openOf (now (words .entry)) depth) k) number (now (words .entry)) (now (words .exit)) r ⌝ }
-{
-    if below_one(k) {
-        return over(Refusal::OutOfRange, number, depth);
-    }
-    let table = innermost(words, depth);
-    let rest = closed(depth);
-    let step = sign::magnitude(k);
-    let counter = table.counter as u64 + step;
-    if exceeds(counter, table.last) {
-        return went(rest, false);
-    }
-    let more = pushed(words, rest, again(table, counter as u32));
-    went(more, true)
-}
-
-// $BT: `start` and `next` are the line after it, by place and number.
-pub fn begin_table(
-    worth: Worth,
-    start: usize,
-    next: u32,
-    number: u32,
-    words: &mut Words,
-    depth: usize,
-) -> Looped
-    requires { ⌜ AtMostOpen 4 (now words) depth ⌝ }
-    ensures { λ r. ⌜ BeginsTable worth start next number (now (words .entry)) depth (now (words .exit)) r ⌝ }
-{
-    let taken = settle::integer_of(worth);
     match taken {
-        Taken::Refused(e) => over(e, number, depth),
-        Taken::Value(z) => begun(z, start, next, words, depth),
+        Taken::Refused(e) => {
+            return Judged::Refused(e);
+        }
+        Taken::Value(z) => {
+            if below_one(z) {
+                return Judged::Holds(false);
+            }
+            let last = sign::magnitude(z);
+            let table = Table {
+                counter: 1,
+                last,
+                start,
+                line: next,
+            };
+            pushed(words, depth, table);
+            return Judged::Holds(true);
+        }
     }
 }
 
-// $ET
-pub fn end_table(
-    optional: Optional,
-    worth: Worth,
-    number: u32,
-    words: &mut Words,
-    depth: usize,
-) -> Looped
+// $ET: whether the table has another pass; else it is closed.
+pub fn end_table(taken: Taken, words: &mut Words, depth: usize) -> Judged
     requires { ⌜ AtMostOpen 5 (now words) depth ⌝ }
-    ensures { λ r. ⌜ EndsTable optional worth number (now (words .entry)) depth (now (words .exit)) r ⌝ }
+    ensures { λ r. ⌜ EndsTable taken (now (words .entry)) depth (now (words .exit)) r ⌝ }
 {
-    match optional {
-        Optional::Absent => counted(1, number, words, depth),
-        Optional::Given(_) => {
-            let taken = settle::integer_of(worth);
-            match taken {
-                Taken::Refused(e) => over(e, number, depth),
-                Taken::Value(k) => counted(k, number, words, depth),
+    match taken {
+        Taken::Refused(e) => {
+            return Judged::Refused(e);
+        }
+        Taken::Value(k) => {
+            if below_one(k) {
+                return Judged::Refused(Refusal::OutOfRange);
             }
+            let table = innermost(words, depth);
+            let step = sign::magnitude(k);
+            let counter = table.counter as u64 + step;
+            if exceeds(counter, table.last) {
+                return Judged::Holds(false);
+            }
+            let rest = scene::less(depth, 1);
+            pushed(words, rest, again(table, counter as u32));
+            return Judged::Holds(true);
         }
     }
 }

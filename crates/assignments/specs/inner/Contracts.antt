@@ -6,7 +6,6 @@ use lib.IntN.{ℤ}
 use lib.ListN.{length}
 use Rattle.meaning.specs.Answer.{Answer}
 use Rattle.meaning.specs.declared.question.Question.{Question}
-use Rattle.meaning.specs.declared.end.Ended.{Ended}
 use Rattle.lines.specs.declared.command.Operation.{Operation}
 use Rattle.lines.specs.declared.command.Target.{Target}
 use Rattle.strings.specs.inner.Texts.{strings}
@@ -14,7 +13,8 @@ use Rattle.questions.specs.inner.State.{texts, bank, lengthsIn, headingsIn, tab
 use Rattle.values.specs.declared.worth.Worth as W
 use Rattle.values.specs.inner.Yielding.{meant}
 use Rattle.coercions.specs.declared.settle.Taken.{Taken}
-use Rattle.coercions.specs.inner.Contracts.{takenOf, Concludes}
+use Rattle.coercions.specs.declared.settle.Verdict.{Verdict}
+use Rattle.coercions.specs.inner.Contracts.{takenOf, verdictOf, mapped}
 use Rattle.assignments.specs.Setting.{setNumbered, stored, stringNew, setOf}
 
 -- "SV1–SV99": a row for each
@@ -28,8 +28,8 @@ pub record Puts {A : Type 0} (l : List A) (from size n : ℕ) (x : A) (l′ : Li
   pub above : (i k : ℕ) → from + size ≤ i → bank i k l′ ≡ bank i k l
 
 -- a result as the n-th of IV or FV, or the refusal
-pub record StoresNumber (numbers : List ℤ) (from n : ℕ) (t : Taken) (line : ℕ) (numbers′ : List ℤ) (end : Ended) : Type 0 where
-  pub concludes : Concludes (stored (bank from 99 numbers) n (takenOf t)) line (bank from 99 numbers′) end
+pub record StoresNumber (numbers : List ℤ) (from n : ℕ) (t : Taken) (numbers′ : List ℤ) (r : Verdict) : Type 0 where
+  pub same : stored (bank from 99 numbers) n (takenOf t) ≡ mapped (λ _. bank from 99 numbers′) (verdictOf r)
   pub below : (i k : ℕ) → i + k ≤ from → bank i k numbers′ ≡ bank i k numbers
   pub above : (i k : ℕ) → from + 99 ≤ i → bank i k numbers′ ≡ bank i k numbers
 
@@ -40,14 +40,14 @@ pub record PutsString (rows : List (List ℕ)) (words : List ℕ) (n : ℕ) (s :
   pub above : (i k : ℕ) → 99 ≤ i → bank i k words′ ≡ bank i k words
 
 -- the string of a value as SVn, or the refusal
-pub record StoresString (line store : List ℕ) (rows : List (List ℕ)) (words : List ℕ) (n number : ℕ) (w : W.Worth) (rows′ : List (List ℕ)) (words′ : List ℕ) (end : Ended) : Type 0 where
-  pub concludes : Concludes (stored (texts rows 0 (lengthsIn words)) n (stringNew (meant (strings line store rows) w))) number (texts rows′ 0 (lengthsIn words′)) end
+pub record StoresString (line store : List ℕ) (rows : List (List ℕ)) (words : List ℕ) (n : ℕ) (w : W.Worth) (rows′ : List (List ℕ)) (words′ : List ℕ) (r : Verdict) : Type 0 where
+  pub same : stored (texts rows 0 (lengthsIn words)) n (stringNew (meant (strings line store rows) w)) ≡ mapped (λ _. texts rows′ 0 (lengthsIn words′)) (verdictOf r)
   pub held : Rowed rows′
   pub above : (i k : ℕ) → 99 ≤ i → bank i k words′ ≡ bank i k words
 
 -- a value given to a variable of any kind: what `assigned` says, by all that it is handed and hands back
-pub record Assigns (line store : List ℕ) (vars : Held) (number : ℕ) (o : Operation) (t : Target) (w : W.Worth) (vars′ : Held) (end : Ended) : Type 0 where
-  pub concludes : (source : Question → Answer) → Concludes (setOf (variablesOf source vars) o t (meant (strings line store (vars .rows)) w)) number (variablesOf source vars′) end
+pub record Assigns (line store : List ℕ) (vars : Held) (o : Operation) (t : Target) (w : W.Worth) (vars′ : Held) (r : Verdict) : Type 0 where
+  pub same : (source : Question → Answer) → setOf (variablesOf source vars) o t (meant (strings line store (vars .rows)) w) ≡ mapped (λ _. variablesOf source vars′) (verdictOf r)
   pub held : Rowed (vars′ .rows)
   pub headings : headingsIn (vars′ .words) ≡ headingsIn (vars .words)
   pub tables : tablesIn (vars′ .words) ≡ tablesIn (vars .words)

@@ -5,15 +5,10 @@ use Rattle.lines.specs.declared.command.Comparison.{Comparison}
 use Rattle.strings.specs.inner.Texts.{Strings}
 use Rattle.values.specs.declared.worth.Worth as W
 use Rattle.values.specs.inner.Yielding.{meant}
-use Rattle.coercions.specs.Settling.{Settled, settled, against}
-use Rattle.conditions.specs.declared.test.Judged.{Judged}
-use Rattle.conditions.specs.declared.test.Judged.the-variants as J
+use Rattle.coercions.specs.declared.settle.Judged.{Judged}
+use Rattle.coercions.specs.inner.Contracts.{judgedOf}
 use Rattle.conditions.specs.Testing.{isMissing, ofNumbers, zeroJudged}
 use Rattle.conditions.specs.inner.Kinds.{numbersHold}
-
-abbrev pub judgedOf : Judged → Settled Bool
-judgedOf (J.Holds b) = settled b
-judgedOf (J.Refused e) = against e
 
 pub record Lacks (w : W.Worth) (r : Bool) : Type 0 where
   pub same : (s : Strings) → r ≡ isMissing (meant s w)

@@ -1,8 +1,9 @@
 -- What the contracts of arms.rt say: the state behind a command, by what its values came to.
 use mathlib.Core.Path.{_≡_}
-use mathlib.Core.Bool.{Bool, true, false, cond}
+use mathlib.Core.Bool.{Bool, true, false, cond, _&&_}
 use mathlib.Core.List.{List, _++_}
 use Prim.Native.Nat.{ℕ, _+_, _-_, _≤_}
+use lib.Dec.{leb}
 use lib.IntN.{ℤ, pos}
 use lib.Signed.{ltZ}
 use lib.ListN.{length, drop, replicate}
@@ -12,15 +13,16 @@ use Rattle.meaning.specs.Place.{at, Does}
 use Rattle.meaning.specs.Number.{endOf}
 use Rattle.meaning.specs.declared.question.Question.{Question}
 use Rattle.meaning.specs.declared.refusal.Refusal.{Refusal}
+use Rattle.meaning.specs.declared.refusal.Refusal.the-variants.{BadIndex}
 use Rattle.meaning.specs.declared.end.Halt.the-variants.{Refused}
-use Rattle.meaning.specs.declared.end.Ended.{Ended}
 use Rattle.meaning.specs.declared.end.Ended.the-variants.{Finished, Halted}
-use Rattle.tables.specs.declared.table.Looped.{Looped}
 use Rattle.coercions.specs.declared.settle.Taken.{Taken}
 use Rattle.coercions.specs.declared.settle.Taken.the-variants as K
 use Rattle.coercions.specs.Settling.{Settled, settled, against}
+use Rattle.questions.specs.declared.fetch.Fetched.{Fetched}
 use Rattle.questions.specs.inner.State.{bank, headingsIn, tablesIn}
 use Rattle.assignments.specs.Setting.{setNumbered}
+use Rattle.assignments.specs.inner.Contracts.{Puts}
 use Rattle.pages.specs.declared.heading.Heading.{Heading}
 use Rattle.pages.specs.inner.Packed.{headingsOf}
 use Rattle.pages.specs.Page.{breakMeaning}
@@ -33,27 +35,36 @@ pub record Jumpable (t : List ℕ) (f : Flow) : Type 0 where
   pub short : length t ≤ 65536
   pub few : f .line ≤ 131072
 
--- a line that ended so: the page stands, and where the run goes on, it goes on at f′
-pub record Follows (end : Ended) (f f′ : Flow) (u a : ℕ) (r : Lined) : Type 0 where
-  pub end-same : r .end ≡ end
-  pub printed : r .printed ≡ u
-  pub asked : r .asked ≡ a
-  pub page : r .flow .page ≡ f .page
-  pub goes : end ≡ Finished → r .flow ≡ f′
-
 -- where a line ends that neither asks nor prints: refused, or on the flow that follows from its result
 abbrev pub settledIn : {A : Type 0} → ℕ → Flow → ℕ → ℕ → (A → Flow) → Settled A → Lined
 settledIn l f u a to (settled x) = endedIn Finished (to x) u a
 settledIn l f u a to (against e) = endedIn (Halted (Refused e) l) f u a
 
+pub record Settles {A : Type 0} (l : ℕ) (f : Flow) (u a : ℕ) (to : A → Flow) (x : Settled A) (r : Lined) : Type 0 where
+  pub same : r ≡ settledIn l f u a to x
+
+-- $SETE to $SETD
+abbrev pub keptIn : Flow → Unit {0} → Flow
+keptIn f x = f
+
 abbrev pub branchedIn : List ℕ → Flow → Bool → Flow
 branchedIn t f holds = cond holds f (jumpedIn t f Branch)
 
-abbrev pub begunIn : List ℕ → Flow → Looped → Flow
-begunIn t f x = cond (x .jumps) (jumpedIn t f TableEnd) (depthIn f (x .depth))
+abbrev pub begunIn : List ℕ → Flow → Bool → Flow
+begunIn t f holds = cond holds (depthIn f (f .depth + 1)) (jumpedIn t f TableEnd)
 
-abbrev pub overIn : List ℕ → Flow → Looped → Flow
-overIn ws f x = cond (x .jumps) (againIn ws (depthIn f (x .depth))) (depthIn f (x .depth))
+abbrev pub overIn : List ℕ → Flow → Bool → Flow
+overIn ws f holds = cond holds (againIn ws f) (depthIn f (f .depth - 1))
+
+-- $SETDS by a number from 0 to 999, or 1000 (proofs/Following: datasource-is)
+unfoldable pub datasourceAt : ℕ → Settled ℕ
+datasourceAt n = cond (leb 1 n && leb n 35) (settled n) (against BadIndex)
+
+-- $REC, $TBL: Rn or Tn, which begin at a place of the words
+pub record Refills (from n : ℕ) (v : Fetched) (words : List ℕ) (f : Flow) (u : ℕ) (words′ : List ℕ) (r : Lined) : Type 0 where
+  pub went : r ≡ endedIn (v .end) f u (v .asked)
+  pub puts : v .end ≡ Finished → Puts words from 10 n (v .fetched) words′
+  pub tables : tablesIn words′ ≡ tablesIn words
 
 -- $SEC
 pub record Clears (numbers : List ℤ) (words : List ℕ) (f : Flow) (u a : ℕ) (numbers′ : List ℤ) (words′ : List ℕ) (r : Lined) : Type 0 where

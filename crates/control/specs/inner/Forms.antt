@@ -2,6 +2,7 @@
 use mathlib.Core.Bool.{true, false}
 use mathlib.Core.List.{List}
 use Prim.Native.Nat.{ℕ}
+use lib.IntN.{pos}
 use Rattle.lines.specs.declared.command.Optional.{Optional}
 use Rattle.lines.specs.declared.command.Optional.the-variants.{Given, Absent}
 use Rattle.lines.specs.declared.command.Line.{Line}
@@ -10,14 +11,14 @@ use Rattle.meaning.specs.Tree.{done, bind}
 use Rattle.meaning.specs.Meaning.{Meaning}
 use Rattle.values.specs.declared.working.Inputs.{Inputs}
 use Rattle.values.specs.declared.working.Inputs.the-variants.{None, One, Two}
-use Rattle.values.specs.Worth.{Worth}
 use Rattle.values.specs.inner.Working.{Worths}
 use Rattle.coercions.specs.Settling.{Settled, concluded, integerFrom}
+use Rattle.coercions.specs.inner.Contracts.{integerOr}
 use Rattle.assignments.specs.Setting.{setOf}
 use Rattle.conditions.specs.Testing.{zeroJudged, compared}
 use Rattle.tables.specs.inner.Open.{beginFrom, endFrom}
-use Rattle.control.specs.State.{State, withVariables}
-use Rattle.control.specs.Line.{branched, tableBegun, tableEnded, breaking, breakingFor, formMeaning}
+use Rattle.control.specs.State.{State, seen, withVariables}
+use Rattle.control.specs.Line.{branched, tableBegun, tableEnded, breakingFor, formMeaning}
 
 unfoldable pub optionalInput : Optional → Inputs
 optionalInput Absent = None
@@ -49,10 +50,7 @@ inputsOf form.Remark = None
 abbrev pub settling : {A : Type 0} → ℕ → Settled A → (A → State) → Meaning State
 settling l x g = bind (concluded l x) (λ y. done (g y))
 
-unfoldable pub newPageWith : ℕ → State → Optional → Worth → Meaning State
-newPageWith l s Absent w = breaking l s
-newPageWith l s (Given a) w = bind (concluded l (integerFrom w)) (breakingFor l s)
-
+-- `$NP` alone is `$NP 62`: 61 − LINENUM is below 62 on every page
 unfoldable pub formWith : List ℕ → ℕ → ℕ → List ℕ → State → Line → Worths → Meaning State
 formWith t start l body s form.NoForm v = formMeaning t start l body s form.NoForm
 formWith t start l body s form.Text v = formMeaning t start l body s form.Text
@@ -64,13 +62,14 @@ formWith t start l body s (form.Compare c a b) v = settling l (compared c (v .fi
 formWith t start l body s form.Else v = formMeaning t start l body s form.Else
 formWith t start l body s form.EndIf v = formMeaning t start l body s form.EndIf
 formWith t start l body s (form.BeginTable a) v =
-    settling l (beginFrom (s .tables) (s .due .at) (s .due .line) (v .first)) (tableBegun t s)
-formWith t start l body s (form.EndTable k) v = settling l (endFrom (s .tables) k (v .first)) (tableEnded s)
+    settling l (beginFrom (s .tables) (s .due .at) (s .due .line) (integerFrom (v .first))) (tableBegun t s)
+formWith t start l body s (form.EndTable k) v =
+    settling l (endFrom (s .tables) (integerOr (pos 1) k (v .first))) (tableEnded s)
 formWith t start l body s (form.Records f) v = formMeaning t start l body s (form.Records f)
 formWith t start l body s (form.Entries f) v = formMeaning t start l body s (form.Entries f)
 formWith t start l body s (form.Datasource i) v = formMeaning t start l body s (form.Datasource i)
 formWith t start l body s form.NoFormFeed v = formMeaning t start l body s form.NoFormFeed
-formWith t start l body s (form.NewPage n) v = newPageWith l s n (v .first)
+formWith t start l body s (form.NewPage n) v = bind (concluded l (integerOr (pos 62) n (v .first))) (breakingFor l s)
 formWith t start l body s (form.Heading n from) v = formMeaning t start l body s (form.Heading n from)
 formWith t start l body s (form.NoHeading n) v = formMeaning t start l body s (form.NoHeading n)
 formWith t start l body s form.Remark v = formMeaning t start l body s form.Remark

@@ -1,11 +1,6 @@
 -- What the contracts of lines by their forms and values say.
-use mathlib.Core.Path.{_≡_}
 use mathlib.Core.List.{List}
 use Prim.Native.Nat.{ℕ}
-use lib.ListN.{length}
-use Rattle.arguments.specs.declared.argument.Argument.{Argument}
-use Rattle.lines.specs.declared.command.Optional.{Optional}
-use Rattle.lines.specs.declared.command.Optional.the-variants.{Given, Absent}
 use Rattle.lines.specs.declared.command.Line.{Line}
 use Rattle.strings.specs.inner.Texts.{strings}
 use Rattle.questions.specs.declared.scene.Scene.{Scene}
@@ -13,25 +8,10 @@ use Rattle.questions.specs.inner.State.{Held}
 use Rattle.values.specs.declared.worth.Worth.{Worth}
 use Rattle.values.specs.inner.Yielding.{meant}
 use Rattle.values.specs.inner.Working.{worths}
-use Rattle.coercions.specs.declared.settle.Taken.{Taken}
-use Rattle.coercions.specs.Settling.{integerFrom}
-use Rattle.coercions.specs.inner.Contracts.{Takes}
 use Rattle.control.specs.declared.state.Flow.{Flow}
 use Rattle.control.specs.declared.state.Lined.{Lined}
-use Rattle.control.specs.inner.Arms.{BreaksLine, PagesLine}
 use Rattle.control.specs.inner.Executing.{stateAt, Executes}
 use Rattle.control.specs.inner.Forms.{formWith}
-
--- `$NP n` with the value of n
-pub record PagesFor (w : Worth) (l : ℕ) (f : Flow) (T : List ℕ) (u a : ℕ) (T′ : List ℕ) (r : Lined) : Type 0 where
-  pub taken : Taken
-  pub takes : Takes integerFrom w taken
-  pub pages : PagesLine taken l f T u a T′ r
-
-pub record NewPages (k : Optional) (w : Worth) (l : ℕ) (f : Flow) (T : List ℕ) (u a : ℕ) (T′ : List ℕ) (r : Lined) : Type 0 where
-  pub always : k ≡ Absent → BreaksLine l f T u a T′ r
-  pub given : (x : Argument) → k ≡ Given x → PagesFor w l f T u a T′ r
-  pub kept : length T′ ≡ length T
 
 -- What `execute` says, by all that it is handed and hands back.
 pub record Performs (body b t : List ℕ) (h : Held) (scene : Scene) (start : ℕ) (f : Flow) (form : Line) (v w : Worth) (T : List ℕ) (u : ℕ) (log : List ℕ) (a p : ℕ) (h′ : Held) (T′ log′ : List ℕ) (r : Lined) : Type 0 where

@@ -38,13 +38,13 @@ stored-requires-3 : tie.Need-stored-requires-3
 stored-requires-3 c κs = search needs
 
 returns : tie.Need-returns
-returns c = let z = c .before .before .before .integer in let f : SFits w64 (z .result) = search needs in assigned-integer _ _ _ _ _ _ _ _ _ _ _ (c .before .before .before .before .before .before .before .before .before .before .pre) (c .before .before .before .before .before .before .target .given .1) _ (z .ensures) _ (rw (toZ-ofZ w64 (z .result) f) at (c .before .before .integer-new .ensures)) _ (c .stored .ensures)
+returns c = let z = c .before .before .before .integer in let f : SFits w64 (z .result) = search needs in assigned-integer _ _ _ _ _ _ _ _ _ _ (c .before .before .before .before .before .before .before .before .before .before .pre) (c .before .before .before .before .before .before .target .given .1) _ (z .ensures) _ (rw (toZ-ofZ w64 (z .result) f) at (c .before .before .integer-new .ensures)) _ (c .stored .ensures)
 
 returns-2 : tie.Need-returns-2
-returns-2 c = let z = c .before .before .before .decimal in let f : SFits w64 (z .result) = search needs in assigned-decimal _ _ _ _ _ _ _ _ _ _ _ (c .before .before .before .before .before .before .before .before .before .before .pre) (c .before .before .before .before .before .before .target2 .given .1) _ (z .ensures) _ (rw (toZ-ofZ w64 (z .result) f) at (c .before .before .decimal-new .ensures)) _ (c .stored2 .ensures)
+returns-2 c = let z = c .before .before .before .decimal in let f : SFits w64 (z .result) = search needs in assigned-decimal _ _ _ _ _ _ _ _ _ _ (c .before .before .before .before .before .before .before .before .before .before .pre) (c .before .before .before .before .before .before .target2 .given .1) _ (z .ensures) _ (rw (toZ-ofZ w64 (z .result) f) at (c .before .before .decimal-new .ensures)) _ (c .stored2 .ensures)
 
 returns-3 : tie.Need-returns-3
-returns-3 c = assigned-string _ _ _ _ _ _ _ _ _ _ _ (c .before .before .before .before .before .before .before .before .pre) (c .before .before .before .before .target3 .given .1) _ _ (c .stored3 .ensures)
+returns-3 c = assigned-string _ _ _ _ _ _ _ _ _ _ (c .before .before .before .before .before .before .before .before .pre) (c .before .before .before .before .target3 .given .1) _ _ (c .stored3 .ensures)
 
 pub assigned-spec : {M : Type 1} → statement M
 assigned-spec =

@@ -17,10 +17,10 @@ put-number-requires : tie.Need-put-number-requires
 put-number-requires c κs = search needs
 
 returns : tie.Need-returns
-returns c = stored-refused _ _ _ _ _ _ (c .before .taken .given .1)
+returns c = stored-refused _ _ _ _ _ (c .before .taken .given .1)
 
 returns-2 : tie.Need-returns-2
-returns-2 c = let v = c .before .before .before .taken2 .given in let f : SFits w64 (v .0 .0) = search needs in stored-value _ _ _ _ _ _ _ (v .1) (rw (toZ-ofZ w64 _ f) at (c .put-number .ensures))
+returns-2 c = let v = c .before .before .before .taken2 .given in let f : SFits w64 (v .0 .0) = search needs in stored-value _ _ _ _ _ _ (v .1) (rw (toZ-ofZ w64 _ f) at (c .put-number .ensures))
 
 pub stored-spec : {M : Type 1} → statement M
 stored-spec =

@@ -32,10 +32,10 @@ put-requires : tie.Need-put-requires
 put-requires c κs = search needs
 
 returns : tie.Need-returns
-returns c = string-refused _ _ _ _ _ _ _ (c .before .before .before .before .before .before .pre) _ (c .before .before .before .text-of .ensures) _ (c .before .phrase .given .1)
+returns c = string-refused _ _ _ _ _ _ (c .before .before .before .before .before .before .pre) _ (c .before .before .before .text-of .ensures) _ (c .before .phrase .given .1)
 
 returns-2 : tie.Need-returns-2
-returns-2 c = string-stored _ _ _ _ _ _ _ (c .before .before .before .before .before .before .before .before .before .before .before .before .before .before .before .pre) _ (c .before .before .before .before .before .before .before .before .before .before .before .before .text-of .ensures) _ (c .before .before .before .before .before .before .before .before .before .before .phrase2 .given .1) _ _ (c .before .before .before .before .before .before .before .row-for .ensures) (c .before .before .before .before .before .bytes-of .ensures) _ _ (c .before .before .before .before .copied .ensures) (c .before .count-of .ensures) _ _ (c .put .ensures)
+returns-2 c = string-stored _ _ _ _ _ _ (c .before .before .before .before .before .before .before .before .before .before .before .before .before .before .before .pre) _ (c .before .before .before .before .before .before .before .before .before .before .before .before .text-of .ensures) _ (c .before .before .before .before .before .before .before .before .before .before .phrase2 .given .1) _ _ (c .before .before .before .before .before .before .before .row-for .ensures) (c .before .before .before .before .before .bytes-of .ensures) _ _ (c .before .before .before .before .copied .ensures) (c .before .count-of .ensures) _ _ (c .put .ensures)
 
 pub stored-spec : {M : Type 1} → statement M
 stored-spec =

@@ -1,50 +1,58 @@
-use Rattle.control.proofs.Following.{follows-halted, begun-skipped, begun-opened}
+-- Refused, opened, or skipped.
+use Rattle.control.proofs.Following.{settles-refused, settles-on}
+use Rattle.coercions.specs.inner.Contracts.{judgedOf}
+use Rattle.coercions.specs.declared.settle.Judged.the-variants.{Holds}
+use mathlib.Core.Bool.{true, false}
+use mathlib.Core.Path.{refl, ap, _∙_}
 use borrow.Author.Needs.{needs}
 use Rattle.control.proofs.arms.begun.Statement.{statement}
 use Rattle.control.proofs.arms.begun.Tie as tie
-use Rattle.control.proofs.arms.begun.Reads as reads
-use Rattle.control.proofs.arms.begun.Lts as lts
-use Rattle.control.proofs.arms.went.Reads as went-reads
-use Rattle.control.proofs.flow.jumped.Reads as jumped-reads
-use Rattle.control.proofs.flow.with_depth.Reads as with-depth-reads
 
-enum-told : tie.Need-enum-told
-enum-told c = search needs
+enum-known-judged : tie.Need-enum-known-judged
+enum-known-judged c = search needs
 
-enum-told-2 : tie.Need-enum-told-2
-enum-told-2 c = search needs
+refused-requires : tie.Need-refused-requires
+refused-requires c κs = search needs
 
 returns : tie.Need-returns
-returns c = follows-halted _ _ _ _ _ _ _ (c .enum-told2 .given .1)
+returns c = settles-refused _ (ap judgedOf (c .before .before .judged .given .1)) (c .refused .ensures)
 
-jumped-requires : tie.Need-jumped-requires
-jumped-requires c κs = search needs
+enum-known-judged-2 : tie.Need-enum-known-judged-2
+enum-known-judged-2 c = search needs
+
+add-with-depth : tie.Need-add-with-depth
+add-with-depth c = search needs
+
+with-depth-requires : tie.Need-with-depth-requires
+with-depth-requires c κs = search needs
 
 went-requires : tie.Need-went-requires
 went-requires c κs = search needs
 
 returns-2 : tie.Need-returns-2
-returns-2 c = begun-skipped _ _ _ _ _ _ (c .before .before .before .enum-told .given .1) _ (c .before .before .if1 .taken) (c .before .jumped .ensures) (c .went .ensures)
+returns-2 c = settles-on true _ (ap judgedOf (c .before .before .before .before .before .judged2 .given .1 ∙ ap Holds (c .before .before .before .if1 .taken))) (c .before .with-depth .ensures) (c .went .ensures)
 
-with-depth-requires : tie.Need-with-depth-requires
-with-depth-requires c κs = search needs
+jumped-requires : tie.Need-jumped-requires
+jumped-requires c κs = search needs
 
 went-requires-2 : tie.Need-went-requires-2
 went-requires-2 c κs = search needs
 
 returns-3 : tie.Need-returns-3
-returns-3 c = begun-opened _ _ _ _ _ _ (c .before .before .before .enum-told .given .1) _ (c .before .before .if1 .left) (c .before .with-depth .ensures) (c .went2 .ensures)
+returns-3 c = settles-on false _ (ap judgedOf (c .before .before .before .before .judged2 .given .1 ∙ ap Holds (c .before .before .if1 .left))) (c .before .jumped .ensures) (c .went2 .ensures)
 
 pub begun-spec : {M : Type 1} → statement M
 begun-spec =
     tie.close
     (tie.spec
-    enum-told
-    enum-told-2
+    enum-known-judged
+    refused-requires
     returns
-    jumped-requires
+    enum-known-judged-2
+    add-with-depth
+    with-depth-requires
     went-requires
     returns-2
-    with-depth-requires
+    jumped-requires
     went-requires-2
     returns-3)

@@ -1,5 +1,9 @@
 -- Refused, or by what the test came to.
-use Rattle.control.proofs.Following.{branch-refused, branch-holds, branch-fails}
+use Rattle.control.proofs.Following.{settles-refused, settles-on}
+use Rattle.coercions.specs.inner.Contracts.{judgedOf}
+use Rattle.coercions.specs.declared.settle.Judged.the-variants.{Holds}
+use mathlib.Core.Bool.{true, false}
+use mathlib.Core.Path.{refl, ap, _∙_}
 use borrow.Author.Needs.{needs}
 use Rattle.control.proofs.arms.branched.Statement.{statement}
 use Rattle.control.proofs.arms.branched.Tie as tie
@@ -7,8 +11,11 @@ use Rattle.control.proofs.arms.branched.Tie as tie
 enum-known-judged : tie.Need-enum-known-judged
 enum-known-judged c = search needs
 
+refused-requires : tie.Need-refused-requires
+refused-requires c κs = search needs
+
 returns : tie.Need-returns
-returns c = branch-refused _ _ _ _ _ _ _ (c .before .judged .given .1)
+returns c = settles-refused _ (ap judgedOf (c .before .before .judged .given .1)) (c .refused .ensures)
 
 enum-known-judged-2 : tie.Need-enum-known-judged-2
 enum-known-judged-2 c = search needs
@@ -17,7 +24,7 @@ went-requires : tie.Need-went-requires
 went-requires c κs = search needs
 
 returns-2 : tie.Need-returns-2
-returns-2 c = branch-holds _ _ _ _ _ _ _ _ (c .before .before .before .judged2 .given .1) (c .before .if1 .taken) (c .went .ensures)
+returns-2 c = settles-on true _ (ap judgedOf (c .before .before .before .judged2 .given .1 ∙ ap Holds (c .before .if1 .taken))) refl (c .went .ensures)
 
 jumped-requires : tie.Need-jumped-requires
 jumped-requires c κs = search needs
@@ -26,13 +33,14 @@ went-requires-2 : tie.Need-went-requires-2
 went-requires-2 c κs = search needs
 
 returns-3 : tie.Need-returns-3
-returns-3 c = branch-fails _ _ _ _ _ _ _ _ _ (c .before .before .before .before .judged2 .given .1) (c .before .before .if1 .left) (c .before .jumped .ensures) (c .went2 .ensures)
+returns-3 c = settles-on false _ (ap judgedOf (c .before .before .before .before .judged2 .given .1 ∙ ap Holds (c .before .before .if1 .left))) (c .before .jumped .ensures) (c .went2 .ensures)
 
 pub branched-spec : {M : Type 1} → statement M
 branched-spec =
     tie.close
     (tie.spec
     enum-known-judged
+    refused-requires
     returns
     enum-known-judged-2
     went-requires

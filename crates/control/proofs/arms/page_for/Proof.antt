@@ -10,8 +10,11 @@ use Rattle.control.proofs.arms.page_for.Tie as tie
 enum-known-taken : tie.Need-enum-known-taken
 enum-known-taken c = search needs
 
+refused-requires : tie.Need-refused-requires
+refused-requires c κs = search needs
+
 returns : tie.Need-returns
-returns c = page-refused _ _ _ _ _ _ _ (c .before .taken .given .1)
+returns c = page-refused _ _ _ _ _ _ _ _ (c .before .before .taken .given .1) (c .refused .ensures)
 
 enum-known-taken-2 : tie.Need-enum-known-taken-2
 enum-known-taken-2 c = search needs
@@ -39,6 +42,7 @@ page-for-spec =
     tie.close
     (tie.spec
     enum-known-taken
+    refused-requires
     returns
     enum-known-taken-2
     breaks-for-requires

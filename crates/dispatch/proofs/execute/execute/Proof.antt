@@ -2,7 +2,10 @@
 use mathlib.Core.Path.{refl}
 use Rattle.control.specs.Line.{formMeaning}
 use Rattle.control.specs.inner.Forms.{formWith}
-use Rattle.dispatch.proofs.Performing.{jumpable, section-ready, set-ready, records-ready, entries-ready, heading-small, begin-ready, end-ready, turn-ready, step-ready, went-line, else-line, no-form-feed-line, datasource-line, text-line, heading-line, no-heading-line, records-line, entries-line, section-line, set-line, if-zero-line, if-non-zero-line, compare-line, begin-line, end-line, new-page-line}
+use Rattle.dispatch.proofs.Performing.{jumpable, section-ready, set-ready, records-ready, entries-ready, heading-small, begin-ready, begun-ready, end-ready, turn-ready, step-ready, went-line, else-line, no-form-feed-line, datasource-line, text-line, heading-line, no-heading-line, records-line, entries-line, section-line, set-line, if-zero-line, if-non-zero-line, compare-line, begin-line, end-line, new-page-line}
+use mir.Syntax.{w64}
+use mir.Val.{SFits}
+use mir.ValLaws.{toZ-ofZ}
 use borrow.Author.Needs.{needs}
 use Rattle.dispatch.proofs.execute.execute.Statement.{statement}
 use Rattle.dispatch.proofs.execute.execute.Tie as tie
@@ -34,8 +37,8 @@ enum-known-form c = search needs
 assigned-requires : tie.Need-assigned-requires
 assigned-requires c κs = set-ready (c .before .before .before .before .before .before .before .before .before .before .before .pre)
 
-onward-requires : tie.Need-onward-requires
-onward-requires c κs = search needs
+settled-requires : tie.Need-settled-requires
+settled-requires c κs = search needs
 
 enum-told-4 : tie.Need-enum-told-4
 enum-told-4 c = search needs
@@ -79,17 +82,23 @@ went-requires-2 c κs = search needs
 enum-told-8 : tie.Need-enum-told-8
 enum-told-8 c = search needs
 
+integer-of-requires : tie.Need-integer-of-requires
+integer-of-requires c κs = search needs
+
 begin-table-requires : tie.Need-begin-table-requires
-begin-table-requires c κs = begin-ready (c .before .before .before .before .before .before .before .before .pre) _ (c .before .enum-told8 .given .1)
+begin-table-requires c κs = begin-ready (c .before .before .before .before .before .before .before .before .before .pre) _ (c .before .before .enum-told8 .given .1)
 
 begun-requires : tie.Need-begun-requires
-begun-requires c κs = jumpable (c .before .before .before .before .before .before .before .before .before .pre)
+begun-requires c κs = begun-ready (c .before .before .before .before .before .before .before .before .before .before .pre) _ (c .before .before .before .enum-told8 .given .1)
 
 enum-known-form-3 : tie.Need-enum-known-form-3
 enum-known-form-3 c = search needs
 
+integer-or-requires : tie.Need-integer-or-requires
+integer-or-requires c κs = search needs
+
 end-table-requires : tie.Need-end-table-requires
-end-table-requires c κs = end-ready (c .before .before .before .before .before .before .before .before .before .pre)
+end-table-requires c κs = end-ready (c .before .before .before .before .before .before .before .before .before .before .pre)
 
 ended-requires : tie.Need-ended-requires
 ended-requires c κs = search needs
@@ -97,26 +106,26 @@ ended-requires c κs = search needs
 enum-known-form-4 : tie.Need-enum-known-form-4
 enum-known-form-4 c = search needs
 
-fetch-records-requires : tie.Need-fetch-records-requires
-fetch-records-requires c κs = records-ready (c .before .before .before .before .before .before .before .before .before .before .before .pre) _ (c .before .before .before .before .form4 .given .1)
+fetch-requires : tie.Need-fetch-requires
+fetch-requires c κs = records-ready (c .before .before .before .before .before .before .before .before .before .before .pre) _ (c .before .before .before .form4 .given .1)
 
-onward-requires-2 : tie.Need-onward-requires-2
-onward-requires-2 c κs = search needs
+fetched-requires : tie.Need-fetched-requires
+fetched-requires c κs = search needs
 
 enum-known-form-5 : tie.Need-enum-known-form-5
 enum-known-form-5 c = search needs
 
-fetch-entries-requires : tie.Need-fetch-entries-requires
-fetch-entries-requires c κs = entries-ready (c .before .before .before .before .before .before .before .before .before .before .before .pre) _ (c .before .before .before .before .form5 .given .1)
+fetch-requires-2 : tie.Need-fetch-requires-2
+fetch-requires-2 c κs = entries-ready (c .before .before .before .before .before .before .before .before .before .before .pre) _ (c .before .before .before .form5 .given .1)
 
-onward-requires-3 : tie.Need-onward-requires-3
-onward-requires-3 c κs = search needs
+fetched-requires-2 : tie.Need-fetched-requires-2
+fetched-requires-2 c κs = search needs
 
 enum-known-form-6 : tie.Need-enum-known-form-6
 enum-known-form-6 c = search needs
 
-select-requires : tie.Need-select-requires
-select-requires c κs = search needs
+index-place-requires : tie.Need-index-place-requires
+index-place-requires c κs = search needs
 
 selected-requires : tie.Need-selected-requires
 selected-requires c κs = search needs
@@ -133,8 +142,11 @@ went-requires-3 c κs = search needs
 enum-known-form-7 : tie.Need-enum-known-form-7
 enum-known-form-7 c = search needs
 
-new-page-requires : tie.Need-new-page-requires
-new-page-requires c κs = turn-ready (c .before .before .before .before .before .before .before .before .before .pre)
+integer-or-requires-2 : tie.Need-integer-or-requires-2
+integer-or-requires-2 c κs = search needs
+
+page-for-requires : tie.Need-page-for-requires
+page-for-requires c κs = turn-ready (c .before .before .before .before .before .before .before .before .before .before .pre)
 
 enum-known-form-8 : tie.Need-enum-known-form-8
 enum-known-form-8 c = search needs
@@ -165,7 +177,7 @@ returns-3 : tie.Need-returns-3
 returns-3 c = record { executes = section-line (c .before .before .before .before .before .before .before .before .before .before .pre) _ _ _ _ _ _ _ _ (c .before .before .before .enum-told3 .given .1) (c .section-line .ensures) }
 
 returns-4 : tie.Need-returns-4
-returns-4 c = record { executes = set-line (c .before .before .before .before .before .before .before .before .before .before .before .before .before .pre) _ _ _ _ _ _ _ _ _ _ (c .before .before .before .before .before .before .form .given .1) (c .before .assigned .ensures) (c .onward .ensures) }
+returns-4 c = record { executes = set-line (c .before .before .before .before .before .before .before .before .before .before .before .before .before .pre) _ _ _ _ _ _ _ _ _ _ (c .before .before .before .before .before .before .form .given .1) (c .before .assigned .ensures) (c .settled .ensures) }
 
 returns-5 : tie.Need-returns-5
 returns-5 c = record { executes = if-zero-line (c .before .before .before .before .before .before .before .before .before .pre) _ _ _ _ _ _ _ (c .before .before .enum-told4 .given .1) (c .before .if-zero .ensures) (c .branched .ensures) }
@@ -184,25 +196,25 @@ unfolding formWith formMeaning
 returns-9 c = record { executes = went-line (c .before .before .before .before .before .before .before .before .pre) _ _ _ _ _ (c .before .enum-told7 .given .1) refl (c .went2 .ensures) }
 
 returns-10 : tie.Need-returns-10
-returns-10 c = record { executes = begin-line (c .before .before .before .before .before .before .before .before .before .before .pre) _ _ _ _ _ _ _ _ (c .before .before .before .enum-told8 .given .1) (c .before .begin-table .ensures) (c .begun .ensures) }
+returns-10 c = record { executes = begin-line (c .before .before .before .before .before .before .before .before .before .before .before .pre) _ _ _ _ _ _ _ _ _ (c .before .before .before .before .enum-told8 .given .1) (c .before .before .before .integer-of .ensures) (c .before .begin-table .ensures) (c .begun .ensures) }
 
 returns-11 : tie.Need-returns-11
-returns-11 c = record { executes = end-line (c .before .before .before .before .before .before .before .before .before .before .before .before .pre) _ _ _ _ _ _ _ _ (c .before .before .before .before .before .form3 .given .1) (c .before .before .end-table .ensures) (c .ended .ensures) }
+returns-11 c = record { executes = end-line (c .before .before .before .before .before .before .before .before .before .before .before .before .before .pre) _ _ _ _ _ _ _ _ _ (c .before .before .before .before .before .before .form3 .given .1) (c .before .before .before .before .integer-or .ensures) (c .before .before .end-table .ensures) (c .ended .ensures) }
 
 returns-12 : tie.Need-returns-12
-returns-12 c = record { executes = records-line (c .before .before .before .before .before .before .before .before .before .before .before .before .before .pre) _ _ _ _ _ _ _ _ (c .before .before .before .before .before .before .form4 .given .1) (c .before .fetch-records .ensures) (c .onward2 .ensures) }
+returns-12 c = record { executes = records-line (c .before .before .before .before .before .before .before .before .before .before .before .before .before .pre) _ _ _ _ _ _ _ _ (c .before .before .before .before .before .before .form4 .given .1) (c .before .before .fetch .ensures) (c .fetched .ensures) }
 
 returns-13 : tie.Need-returns-13
-returns-13 c = record { executes = entries-line (c .before .before .before .before .before .before .before .before .before .before .before .before .before .pre) _ _ _ _ _ _ _ _ (c .before .before .before .before .before .before .form5 .given .1) (c .before .fetch-entries .ensures) (c .onward3 .ensures) }
+returns-13 c = record { executes = entries-line (c .before .before .before .before .before .before .before .before .before .before .before .before .before .pre) _ _ _ _ _ _ _ _ (c .before .before .before .before .before .before .form5 .given .1) (c .before .before .fetch2 .ensures) (c .fetched2 .ensures) }
 
 returns-14 : tie.Need-returns-14
-returns-14 c = record { executes = datasource-line (c .before .before .before .before .before .before .before .before .before .before .before .pre) _ _ _ _ _ _ (c .before .before .before .before .form6 .given .1) (c .before .select .ensures) (c .selected .ensures) }
+returns-14 c = let f : SFits w64 (c .before .before .before .before .before .before .before .before .before .before .before .before .args .scene .turn) = search needs in record { executes = datasource-line (c .before .before .before .before .before .before .before .before .before .before .before .before .pre) _ _ _ _ _ _ _ (c .before .before .before .before .before .form6 .given .1) (toZ-ofZ w64 (c .before .before .before .before .before .before .before .before .before .before .before .before .args .scene .turn) f) (c .before .index-place .ensures) (c .selected .ensures) }
 
 returns-15 : tie.Need-returns-15
 returns-15 c = record { executes = no-form-feed-line (c .before .before .before .before .before .before .before .before .before .pre) _ _ _ _ _ (c .before .before .enum-told9 .given .1) (c .before .with-feeds .ensures) (c .went3 .ensures) }
 
 returns-16 : tie.Need-returns-16
-returns-16 c = record { executes = new-page-line (c .before .before .before .before .before .before .before .before .before .before .before .before .pre) _ _ _ _ _ _ _ (c .before .before .before .before .before .form7 .given .1) (c .before .before .new-page .ensures) }
+returns-16 c = record { executes = new-page-line (c .before .before .before .before .before .before .before .before .before .before .before .before .before .pre) _ _ _ _ _ _ _ _ (c .before .before .before .before .before .before .form7 .given .1) (c .before .before .before .before .integer-or2 .ensures) (c .before .before .page-for .ensures) }
 
 returns-17 : tie.Need-returns-17
 returns-17 c = record { executes = heading-line (c .before .before .before .before .before .before .before .before .before .before .pre) _ _ _ _ _ _ _ (c .before .before .before .form8 .given .1) (c .heading-line .ensures) }
@@ -233,7 +245,7 @@ execute-spec =
     section-line-requires
     enum-known-form
     assigned-requires
-    onward-requires
+    settled-requires
     enum-told-4
     if-zero-requires
     branched-requires
@@ -248,25 +260,28 @@ execute-spec =
     enum-told-7
     went-requires-2
     enum-told-8
+    integer-of-requires
     begin-table-requires
     begun-requires
     enum-known-form-3
+    integer-or-requires
     end-table-requires
     ended-requires
     enum-known-form-4
-    fetch-records-requires
-    onward-requires-2
+    fetch-requires
+    fetched-requires
     enum-known-form-5
-    fetch-entries-requires
-    onward-requires-3
+    fetch-requires-2
+    fetched-requires-2
     enum-known-form-6
-    select-requires
+    index-place-requires
     selected-requires
     enum-told-9
     with-feeds-requires
     went-requires-3
     enum-known-form-7
-    new-page-requires
+    integer-or-requires-2
+    page-for-requires
     enum-known-form-8
     heading-line-requires
     enum-known-form-9

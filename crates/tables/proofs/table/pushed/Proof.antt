@@ -55,9 +55,6 @@ mul-words-4 c = search needs
 element-write-words-4 : tie.Need-element-write-words-4
 element-write-words-4 c = search needs
 
-add-result : tie.Need-add-result
-add-result c = search needs
-
 pub pushed-spec : {M : Type 1} → statement M
 pushed-spec =
     tie.close
@@ -77,5 +74,4 @@ pushed-spec =
     add-words-3
     mul-words-4
     element-write-words-4
-    add-result
     returns)
