@@ -208,16 +208,17 @@ pub fn fetched(
 
 // A text line on its page.
 pub fn paged(paged: Paged, flow: Flow) -> Lined
-    ensures { λ r. ⌜ r ≡ endedIn (paged .end) (pageIn flow (paged .page)) (paged .printed) (paged .asked) ⌝ }
+    ensures { λ r. ⌜ r ≡ endedIn (paged .end) (pageIn flow (paged .page)) (paged .counts .printed) (paged .counts .asked) ⌝ }
 {
     let end = paged.end;
     let page = paged.page;
+    let counts = paged.counts;
     let next = flow::with_page(flow, page);
     Lined {
         end,
         flow: next,
-        printed: paged.printed,
-        asked: paged.asked,
+        printed: counts.printed,
+        asked: counts.asked,
     }
 }
 

@@ -25,7 +25,8 @@ use Rattle.meaning.specs.declared.question.Question.{Question}
 use Rattle.meaning.proofs.Binding.{bind-assoc}
 use Rattle.meaning.specs.Each.{Each}
 use Rattle.meaning.specs.Tree.{done, bind}
-use Rattle.meaning.specs.Place.{at}
+use Rattle.meaning.specs.Place.{at, Does}
+use Rattle.meaning.specs.Number.{endOf}
 use Rattle.meaning.specs.declared.end.Ended.the-variants.{Finished}
 use Rattle.meaning.proofs.Doing.{does-done, does-stop}
 use Rattle.strings.specs.inner.Texts.{Strings, strings}
@@ -64,8 +65,11 @@ use Rattle.pages.specs.declared.step.Paged.{Paged}
 use Rattle.pages.specs.Heading.{noHeading}
 use Rattle.pages.specs.inner.Packed.{headingIn, headingsOf, Small}
 use Rattle.pages.specs.Page.{headLine, headFrom, highestOf, breakMeaning, lineStep}
-use Rattle.pages.specs.inner.Paging.{AllFit, headFields, TurnReady, StepReady, Steps}
-use Rattle.pages.proofs.Turning.{highest-most}
+use Rattle.pages.specs.declared.page.Page.{Page}
+use Rattle.pages.specs.inner.Listing.{headsDue}
+use Rattle.pages.specs.inner.Paging.{AllFit, fieldsIn, pageOf, TurnReady, StepReady, Steps}
+use Rattle.pages.proofs.Stepping.{blank-fits, blank-fields}
+use Rattle.pages.proofs.Highest.{highest-most}
 use Rattle.control.specs.declared.state.Flow.{Flow}
 use Rattle.control.specs.declared.state.Lined.{Lined}
 use Rattle.control.specs.State.{State, seen, withVariables, withDatasource, withTables, withPage, cleared}
@@ -78,15 +82,15 @@ use Rattle.control.specs.inner.Forms.{formWith}
 use Rattle.control.proofs.Commanding.{then-executes, went-executes, settles-executes, mapped-same}
 use Rattle.control.proofs.Following.{datasource-is}
 
-all-fit : (t : List ℕ) (hs : List Heading) (n : ℕ) → Each (Fit t) hs → AllFit t (take n hs)
-all-fit t hs zero e = tt
-all-fit t [] (suc n) e = tt
-all-fit t (x ∷ hs) (suc n) e = (e .0 .fits, all-fit t hs n (e .1))
+all-fit : (t : List ℕ) (due : ℕ) (hs : List Heading) (n : ℕ) → Each (Fit t) hs → AllFit (headsDue t due (take n hs))
+all-fit t due hs zero e = (blank-fits, tt)
+all-fit t due [] (suc n) e = (blank-fits, tt)
+all-fit t due (x ∷ hs) (suc n) e = (e .0 .fits, all-fit t due hs n (e .1))
 
-few-fields : (t : List ℕ) (hs : List Heading) (n : ℕ) → Each (Fit t) hs → headFields t (take n hs) ≤ 33 * n
-few-fields t hs zero e = omega arith
-few-fields t [] (suc n) e = omega arith
-few-fields t (x ∷ hs) (suc n) e = omega (arith, fields-few (headLine t x) (headFrom x) (e .0 .short), few-fields t hs n (e .1))
+few-fields : (t : List ℕ) (due : ℕ) (hs : List Heading) (n : ℕ) → Each (Fit t) hs → fieldsIn (headsDue t due (take n hs)) ≤ 33 * n
+few-fields t due hs zero e = omega (arith, blank-fields)
+few-fields t due [] (suc n) e = omega (arith, blank-fields)
+few-fields t due (x ∷ hs) (suc n) e = omega (arith, fields-few (headLine t x) (headFrom x) (e .0 .short), few-fields t due hs n (e .1))
 
 headings-cleared : (n : ℕ) → headingsOf (replicate n 0) ≡ replicate n noHeading
 unfolding headingIn
@@ -165,18 +169,22 @@ module _ {body b index t : List ℕ} {h : Held} {scene : Scene} {start : ℕ} {f
   abbrev hs : List Heading
   hs = headingsOf (headingsIn (h .words))
 
-  pub step-ready : line ≡ form.Text → StepReady (lent b index (h .numbers) (h .rows) (h .words)) scene t hs body (f .page) a T u
-  step-ready e = record {
-    heads = all-fit t hs (highestOf hs 9) (k .heads);
-    fits = sound form.Text e;
+  -- the text line, as a part of the template
+  abbrev due : Heading
+  due = record { start = start; length = length body; from = 0; number = scene .number }
+
+  pub step-ready : (p : ℕ) → line ≡ form.Text → StepReady (lent b index (h .numbers) (h .rows) (h .words)) scene t hs due T (record { printed = u; asked = a; places = p })
+  step-ready p e = record {
+    heads = all-fit t (scene .number) hs (highestOf hs 9) (k .heads);
+    fits = rw (k .within) (sound form.Text e);
+    logged = rw (k .within) (omega (arith, k .places, few-fields t (scene .number) hs (highestOf hs 9) (k .heads), highest-most hs 9, fields-few body 0 (k .short)));
+    first = refl;
     short-template = omega (arith, k .template);
-    short-line = omega (arith, k .short);
     short-store = k .stored;
     datasource = omega (arith, source-same, k .datasource);
-    logged = omega (arith, k .places, few-fields t hs (highestOf hs 9) (k .heads), highest-most hs 9, fields-few body 0 (k .short));
     room = k .room;
-    row = k .row;
-    number = omega (arith, k .page);
+    row = omega (arith, ap (λ (x : Scene). x .row) (k .scened), k .row);
+    number = omega (arith, ap (λ (x : Scene). x .page) (k .scened), k .page);
   }
 
   -- ---- what they do
@@ -254,9 +262,18 @@ module _ {body b index t : List ℕ} {h : Held} {scene : Scene} {start : ℕ} {f
         let i = indexNumber (integersIn (h .numbers)) (scene .turn) y in
         rw (e, ← seen-same, selects-is y) (settles-executes (datasourceAt n) (datasourceFrom i) (λ x. x) (withDatasource s) (datasource-is i ∙ ap datasourceAt (sym (g ∙ ap (λ (x : ℤ). placeOf (indexNumber (integersIn (h .numbers)) x y)) q)) ∙ mapped-same (datasourceAt n)) w (refl, refl) (λ _. refl) (λ _. refl))
 
-    pub text-line : (T′ log′ : List ℕ) (r : Lined) (x : Paged) → line ≡ form.Text → Steps (lent b index (h .numbers) (h .rows) (h .words)) scene t hs (f .feeds) body (f .page) T u log a p T′ log′ x → r ≡ endedIn (x .end) (pageIn f (x .page)) (x .printed) (x .asked) → With T′ log′ h r
+    pub text-line : (T′ log′ : List ℕ) (r : Lined) (x : Paged) → line ≡ form.Text → Steps (lent b index (h .numbers) (h .rows) (h .words)) scene t hs (f .feeds) due T log (record { printed = u; asked = a; places = p }) T′ log′ x → r ≡ endedIn (x .end) (pageIn f (x .page)) (x .counts .printed) (x .counts .asked) → With T′ log′ h r
     unfolding formWith formMeaning
-    text-line T′ log′ r x e d i = rw (e, ← seen-same, i) (then-executes (lineStep (machineIn b h scene) t (scene .number) (f .feeds) hs body (f .page)) (x .page) (withPage s) (x .end) (d .moves .does (length b) (k .kept .cells) (k .kept .ready)) (omega (arith, d .few, few-fields t hs (highestOf hs 9) (k .heads), highest-most hs 9, fields-few body 0 (k .short))) (refl, refl) (λ _. refl))
+    text-line T′ log′ r x e d i = rw (e, ← seen-same, i) (then-executes (lineStep (machineIn b h scene) t (scene .number) (f .feeds) hs body (f .page)) (x .page) (withPage s) (x .end) did (omega (arith, rw (k .within) at (d .few), few-fields t (scene .number) hs (highestOf hs 9) (k .heads), highest-most hs 9, fields-few body 0 (k .short))) (refl, refl) (λ _. refl))
+      where
+        Stepped : Page → ℕ → Type 0
+        Stepped y q = Does (sourceOf b) (lineStep (machineIn b h scene) t (scene .number) (f .feeds) hs body y) (at T u (questions log) a p (y .number)) (at T′ (x .counts .printed) (questions log′) (x .counts .asked) q (x .page .number)) (endOf (x .page) (x .end))
+
+        was : Stepped (f .page) (x .counts .places)
+        was = subst (λ (y : Page). Stepped y (x .counts .places)) (ap pageOf (k .scened)) (rw (k .within) at (d .does (length b) (k .kept .cells) (k .kept .ready)))
+
+        did : Stepped (f .page) p
+        did = rw (was .did .places) at was
 
     pub heading-line : (ws : List ℕ) (r : Lined) (n from : ℕ) → line ≡ form.Heading n from → Heads (h .words) n (record { start = start; length = length body; from = from; number = scene .number }) f u a ws r → With T log (held (h .numbers) (h .rows) ws) r
     unfolding formWith formMeaning

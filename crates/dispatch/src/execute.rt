@@ -7,6 +7,7 @@ use control::flow;
 use control::state::Flow;
 use control::state::Lined;
 use lines::command::Line;
+use meaning::count::Counts;
 use pages::heading::Heading;
 use pages::step;
 use questions::fetch;
@@ -48,23 +49,30 @@ pub fn execute<'a>(
     match form {
         Line::NoForm => arms::went(flow, printed, asked),
         Line::Text => {
-            let page = flow.page;
+            let due = Heading {
+                start,
+                length: body.len(),
+                from: 0,
+                number: scene.number,
+            };
+            let counts = Counts {
+                printed,
+                asked,
+                places,
+            };
             let paged = step::step(
-                body,
                 template,
-                page,
-                flow.feeds,
                 store,
                 index,
                 numbers,
                 strings,
                 words,
-                scene,
                 log,
-                asked,
-                places,
                 text,
-                printed,
+                scene,
+                flow.feeds,
+                due,
+                counts,
             );
             arms::paged(paged, flow)
         }

@@ -5,7 +5,9 @@ use Prim.Native.Nat.{ℕ, _+_, _-_, _≤_}
 use native.Mathlib.Omega.{arith}
 use lib.ListN.{length, take, drop, length-map, length-drop}
 use lib.Seq.{take-all}
+use Rattle.scan.specs.declared.run.Class.the-variants.{InLine}
 use Rattle.scan.specs.Line.{lineOf, lineAt}
+use Rattle.scan.proofs.RunLaws.{take-span}
 use Rattle.nesting.specs.declared.Shape.the-variants.{Table}
 use Rattle.arguments.specs.declared.argument.Argument.{Argument}
 use Rattle.lines.specs.declared.command.Line.{Line}
@@ -84,6 +86,7 @@ module _ {b index t : List ℕ} {h : Held} {f : Flow} {T : List ℕ} {u a : ℕ}
       stored = k .stored;
       scened = refl;
       parsed = parsed-sound body line (sym l);
+      within = rw body-is (take-span InLine (drop (f .at) t));
       short = body-short;
       template = checks-short (k .sound .checks);
       placed = omega (arith, k .inside, checks-short (k .sound .checks));

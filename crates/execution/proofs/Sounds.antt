@@ -44,7 +44,7 @@ use Rattle.pages.specs.declared.page.Page.{Page}
 use Rattle.pages.specs.declared.heading.Heading.{Heading}
 use Rattle.pages.specs.Heading.{noHeading}
 use Rattle.pages.specs.Page.{headLine, headFrom, breakMeaning, lineStep}
-use Rattle.pages.proofs.Turning.{blank-fits}
+use Rattle.pages.proofs.Stepping.{blank-fits}
 use Rattle.lines.proofs.Accepted.{heading-accepted}
 use Rattle.pages.proofs.Sixty as P
 use Rattle.control.specs.State.{State, seen, withPlace, withVariables, withDatasource, withTables, withLayout, withPage, noVariables, cleared}

@@ -5,8 +5,7 @@ use mathlib.Core.Bool.{Bool, true, false, cond}
 use mathlib.Core.List.{List, [], _∷_}
 use Prim.Native.Nat.{ℕ, suc, _+_}
 use native.Mathlib.Omega.{arith}
-use lib.Dec.{ltb, eqb}
-use lib.ListN.{take}
+use lib.Dec.{ltb}
 use Rattle.texts.specs.declared.text.Piece.{Piece}
 use Rattle.texts.specs.declared.text.Piece.the-variants.{Plain, Placed}
 use Rattle.texts.specs.Pieces.{piecesOf}
@@ -20,7 +19,9 @@ use Rattle.values.proofs.Giving.{Gives, Anything, gives-bind, gives-keeps, argu
 use Rattle.rendering.specs.Text.{fieldValues, rendered, anyWrong, printed, textMeaning}
 use Rattle.pages.specs.declared.page.Page.{Page}
 use Rattle.pages.specs.declared.heading.Heading.{Heading}
-use Rattle.pages.specs.Page.{advancedOf, on, sayMeaning, headLine, headFrom, headNumber, headMeaning, headsMeaning, highestOf, breakMeaning, turnMeaning, topMeaning, lineStep}
+use Rattle.pages.specs.inner.Listing.{Due, saysOn, linesDue}
+use Rattle.pages.proofs.Listing.{top-says}
+use Rattle.pages.specs.Page.{advancedOf, on, sayMeaning, breakMeaning, turnMeaning, topMeaning, lineStep}
 
 -- ---- breaks are counted
 
@@ -62,24 +63,14 @@ text-counts m l from n c =
     go true b c₁ e = tt
     go false b c₁ e = (tt, e)
 
-say-counts : (m : Machine) (l : List ℕ) (from n : ℕ) (p : Page) (c : ℕ) → OnPage p c → Keeps counting (sayMeaning m l from n p) c OnPage
-unfolding sayMeaning
-say-counts m l from n p c h = keeps-bind counting (textMeaning (on m p) l from n) (λ _. done (advancedOf p)) c (λ _ c′. c′ ≡ c) OnPage (text-counts (on m p) l from n c) (λ _ c₁ e. h ∙ ap suc (sym e))
-
-module _ (m : Machine) (t : List ℕ) (due : ℕ) where
-  heads-count : (hs : List Heading) (p : Page) (c : ℕ) → OnPage p c → Keeps counting (headsMeaning m t due hs p) c OnPage
-  unfolding headMeaning
-  heads-count [] p c h = say-counts m [] 0 due p c h
-  heads-count (x ∷ hs) p c h = keeps-bind counting (headMeaning m t due x p) (headsMeaning m t due hs) c OnPage OnPage (say-counts m (headLine t x) (headFrom x) (headNumber due x) p c h) (λ p₁ c₁ h₁. heads-count hs p₁ c₁ h₁)
-
-  top-counts : (hs : List Heading) (p : Page) (c : ℕ) → OnPage p c → Keeps counting (topMeaning m t due hs p) c OnPage
-  unfolding topMeaning
-  top-counts hs p c h = go (eqb (p .line) 1) (eqb (highestOf hs 9) 0)
-    where
-      go : (b d : Bool) → Keeps counting (cond b (cond d (done p) (headsMeaning m t due (take (highestOf hs 9) hs) p)) (done p)) c OnPage
-      go false d = h
-      go true true = h
-      go true false = heads-count (take (highestOf hs 9) hs) p c h
+module _ (m : Machine) where
+  says-count : (ds : List Due) (p : Page) (c : ℕ) → OnPage p c → Keeps counting (saysOn m ds p) c OnPage
+  unfolding sayMeaning
+  says-count [] p c h = h
+  says-count (d ∷ ds) p c h =
+      keeps-bind counting (sayMeaning m (d .bytes) (d .from) (d .number) p) (λ _. saysOn m ds (advancedOf p)) c (λ _ c′. c′ ≡ c) OnPage
+      (keeps-bind counting (textMeaning (on m p) (d .bytes) (d .from) (d .number)) (λ _. done (advancedOf p)) c (λ _ c′. c′ ≡ c) (λ _ c′. c′ ≡ c) (text-counts (on m p) (d .bytes) (d .from) (d .number) c) (λ _ c₁ e. e))
+      (λ _ c₁ e. says-count ds (advancedOf p) c₁ (h ∙ ap suc (sym e)))
 
 pub break-counts : (due : ℕ) (feeds : Bool) (p : Page) (c : ℕ) → OnPage p c → Keeps counting (breakMeaning due feeds p) c OnPage
 unfolding breakMeaning
@@ -98,4 +89,4 @@ pub step-counts : (m : Machine) (t : List ℕ) (due : ℕ) (feeds : Bool) (hs : 
 unfolding lineStep
 step-counts m t due feeds hs l p c h =
     keeps-bind counting (turnMeaning due feeds p) (λ p₁. bind (topMeaning m t due hs p₁) (λ p₂. sayMeaning m l 0 due p₂)) c OnPage OnPage (turn-counts due feeds p c h)
-    (λ p₁ c₁ h₁. keeps-bind counting (topMeaning m t due hs p₁) (λ p₂. sayMeaning m l 0 due p₂) c₁ OnPage OnPage (top-counts m t due hs p₁ c₁ h₁) (λ p₂ c₂ h₂. say-counts m l 0 due p₂ c₂ h₂))
+    (λ p₁ c₁ h₁. rw (top-says m t due l hs p₁) (says-count m (linesDue t due hs l p₁) p₁ c₁ h₁))

@@ -4,7 +4,7 @@ use mathlib.Core.List.{List, [], _∷_}
 use Prim.Native.Nat.{ℕ, zero, suc, _+_, _*_, _/_, _%_, _≤_}
 use native.Mathlib.Omega.{arith}
 use native.Mathlib.Numerals.{add-one}
-use lib.ListN.{length, getD, take, drop, length-take, List·getD-eq-default}
+use lib.ListN.{length, getD, take, drop, length-take, length-map, List·getD-eq-default}
 use Rattle.questions.specs.Machine.{numbered}
 use Rattle.questions.specs.inner.State.{bank, headingsIn}
 use Rattle.pages.specs.declared.heading.Heading.{Heading}
@@ -39,3 +39,7 @@ unfolding bank
 heading-outside words k h =
     let l : length (take 9 (drop 119 words)) ≤ k = omega (arith, length-take 9 (drop 119 words)) in
     sym (heading-word (take 9 (drop 119 words)) k ∙ ap headingIn (List·getD-eq-default (take 9 (drop 119 words)) 0 {n = k} l) ∙ heading-none)
+
+pub nine-headings : (words : List ℕ) → length (headingsOf (headingsIn words)) ≤ 9
+unfolding bank
+nine-headings words = omega (arith, length-map (take 9 (drop 119 words)) headingIn, length-take 9 (drop 119 words))

@@ -1,4 +1,6 @@
 pub mod Heads
+pub mod Highest
+pub mod Listing
 pub mod Turning
 pub mod Stepping
 pub mod Sixty

@@ -3,6 +3,7 @@ use crate::heading;
 use crate::heading::Heading;
 use crate::page;
 use crate::page::Page;
+use meaning::count::Counts;
 use meaning::end::Ended;
 use questions::scene::Numbers;
 use questions::scene::Scene;
@@ -13,30 +14,52 @@ ghost use mathlib.Core.Path.{_≡_};
 ghost use Prim.Native.Nat.{_≤_};
 ghost use Rattle.questions.specs.inner.State.{headingsIn};
 ghost use Rattle.pages.specs.inner.Packed.{headingsOf};
-ghost use Rattle.pages.specs.Page.{highestOf, headLine, headFrom, headNumber};
 ghost use Rattle.rendering.specs.inner.Pass.{lent};
-ghost use Rattle.pages.specs.inner.Paging.{sceneOn, SayReady, Says, HeadsReady, Heads, StepReady, Tops, Steps};
+ghost use Rattle.pages.specs.inner.Listing.{leadOf, lineDue, linesOn};
+ghost use Rattle.pages.specs.inner.Paging.{pageOf, sceneOn, LinesReady, SaysLines, StepReady, Steps};
 
-// How many headings are printed: up to the highest defined.
-fn highest(words: &Words) -> usize
-    ensures { λ r. ⌜ (r ≡ highestOf (headingsOf (headingsIn (now (words .entry)))) 9) × (r ≤ 9) ⌝ }
+// How many lines come before a text line: on a page that has no line yet the headings up to the highest defined, and the blank
+// line below them.
+fn leading(words: &Words, page: Page) -> usize
+    ensures { λ r. ⌜ (r ≡ leadOf (headingsOf (headingsIn (now (words .entry)))) page) × (r ≤ 10) ⌝ }
 {
+    if page.line != 1 {
+        return 0;
+    }
     let mut k = 9;
     while 0 < k {
         let heading = heading::heading_at(words, k - 1);
         if heading.number != 0 {
-            return k;
+            return k + 1;
         }
         k -= 1;
     }
     0
 }
 
+// The k-th line due, where so many come before the text line. An undefined heading is blank, as the one above the highest is.
+fn line_due(words: &Words, lead: usize, k: usize, line: Heading) -> Heading
+    ensures { λ r. ⌜ r ≡ lineDue (headingsOf (headingsIn (now (words .entry)))) lead k line ⌝ }
+{
+    if lead <= k {
+        return line;
+    }
+    let heading = heading::heading_at(words, k);
+    if heading.number == 0 {
+        return Heading {
+            start: 0,
+            length: 0,
+            from: 0,
+            number: line.number,
+        };
+    }
+    heading
+}
+
 pub struct Paged {
     pub end: Ended,
     pub page: Page,
-    pub printed: usize,
-    pub asked: usize,
+    pub counts: Counts,
 }
 
 // What a line is executed in on a page, where it names the line `number`.
@@ -52,316 +75,115 @@ fn scene_on(scene: Scene, page: Page, number: u32) -> Scene
     }
 }
 
-// One line on the page.
-fn say<'a>(
-    line: &'a [u8],
-    from: usize,
-    number: u32,
-    page: Page,
+// The lines due on a page, one after the other: headings, a blank line, the text line.
+fn say_lines<'a>(
+    template: &'a [u8],
     store: &'a [u8],
     index: &'a [u16],
     numbers: &'a Numbers,
     strings: &'a [[u8; 16]; 99],
     words: &'a Words,
-    scene: Scene,
     log: &mut [u64; 512],
-    asked: usize,
-    places: usize,
     text: &mut [u8],
-    printed: usize,
+    scene: Scene,
+    line: Heading,
+    counts: Counts,
 ) -> Paged
-    requires { ⌜ SayReady (lent (now store) (now index) (now numbers) (now strings) (now words)) scene (now line) from page asked (now text) printed ⌝ }
-    ensures { λ r. ⌜ Says (lent (now (store .entry)) (now (index .entry)) (now (numbers .entry)) (now (strings .entry)) (now (words .entry))) scene number (now (line .entry)) from page (now (text .entry)) printed (now (log .entry)) asked places (now (text .exit)) (now (log .exit)) r ⌝ }
+    requires { ⌜ LinesReady (lent (now store) (now index) (now numbers) (now strings) (now words)) scene (now template) (linesOn (now template) (headingsOf (headingsIn (now words))) line (pageOf scene)) (now text) counts ⌝ }
+    ensures { λ r. ⌜ SaysLines (lent (now (store .entry)) (now (index .entry)) (now (numbers .entry)) (now (strings .entry)) (now (words .entry))) scene (linesOn (now (template .entry)) (headingsOf (headingsIn (now (words .entry)))) line (pageOf scene)) (now (text .entry)) (now (log .entry)) counts (now (text .exit)) (now (log .exit)) r ⌝ }
 {
-    let here = scene_on(scene, page, number);
-    let told = text::text_line(
-        line,
-        from,
-        store,
-        index,
-        numbers,
-        strings,
-        words,
-        here,
-        log,
-        asked,
-        places,
-        text,
-        printed,
-    );
-    let end = told.end;
-    let Ended::Finished = end else {
-        return Paged {
-            end,
-            page,
-            printed: told.printed,
-            asked: told.asked,
-        };
+    let mut top = Page {
+        number: scene.page,
+        line: scene.row,
     };
-    let next = page.advanced();
-    Paged {
-        end: Ended::Finished,
-        page: next,
-        printed: told.printed,
-        asked: told.asked,
-    }
-}
-
-// One heading, or the blank line that stands for it.
-fn say_head<'a>(
-    heading: Heading,
-    template: &'a [u8],
-    page: Page,
-    store: &'a [u8],
-    index: &'a [u16],
-    numbers: &'a Numbers,
-    strings: &'a [[u8; 16]; 99],
-    words: &'a Words,
-    scene: Scene,
-    log: &mut [u64; 512],
-    asked: usize,
-    places: usize,
-    text: &mut [u8],
-    printed: usize,
-) -> Paged
-    requires { ⌜ SayReady (lent (now store) (now index) (now numbers) (now strings) (now words)) scene (headLine (now template) heading) (headFrom heading) page asked (now text) printed ⌝ }
-    ensures { λ r. ⌜ Says (lent (now (store .entry)) (now (index .entry)) (now (numbers .entry)) (now (strings .entry)) (now (words .entry))) scene (headNumber (scene .number) heading) (headLine (now (template .entry)) heading) (headFrom heading) page (now (text .entry)) printed (now (log .entry)) asked places (now (text .exit)) (now (log .exit)) r ⌝ }
-{
-    if heading.number == 0 {
-        let blank = bytes::part(template, 0, 0);
-        return say(
-            blank,
-            0,
-            scene.number,
-            page,
-            store,
-            index,
-            numbers,
-            strings,
-            words,
-            scene,
-            log,
-            asked,
-            places,
-            text,
-            printed,
-        );
-    }
-    let line = bytes::part(template, heading.start, heading.length);
-    say(
-        line,
-        heading.from,
-        heading.number,
-        page,
-        store,
-        index,
-        numbers,
-        strings,
-        words,
-        scene,
-        log,
-        asked,
-        places,
-        text,
-        printed,
-    )
-}
-
-// The first headings, and the blank line below them.
-fn say_heads<'a>(
-    most: usize,
-    template: &'a [u8],
-    page: Page,
-    store: &'a [u8],
-    index: &'a [u16],
-    numbers: &'a Numbers,
-    strings: &'a [[u8; 16]; 99],
-    words: &'a Words,
-    scene: Scene,
-    log: &mut [u64; 512],
-    asked: usize,
-    places: usize,
-    text: &mut [u8],
-    printed: usize,
-) -> Paged
-    requires { ⌜ HeadsReady (lent (now store) (now index) (now numbers) (now strings) (now words)) scene (now template) (headingsOf (headingsIn (now words))) most 1 page asked (now text) printed ⌝ }
-    ensures { λ r. ⌜ Heads (lent (now (store .entry)) (now (index .entry)) (now (numbers .entry)) (now (strings .entry)) (now (words .entry))) scene (now (template .entry)) (headingsOf (headingsIn (now (words .entry)))) most page (now (text .entry)) printed (now (log .entry)) asked places (now (text .exit)) (now (log .exit)) r ⌝ }
-{
+    let lead = leading(words, top);
     let mut k = 0;
-    let mut top = page;
-    let mut heard = asked;
-    let mut filled = printed;
-    while k < most {
-        let heading = heading::heading_at(words, k);
-        let said = say_head(
-            heading,
-            template,
-            top,
+    let mut filled = counts;
+    while k <= lead {
+        let next = line_due(words, lead, k, line);
+        let body = bytes::part(template, next.start, next.length);
+        let here = scene_on(scene, top, next.number);
+        let told = text::text_line(
+            body,
+            next.from,
             store,
             index,
             numbers,
             strings,
             words,
-            scene,
             log,
-            heard,
-            places,
             text,
+            here,
             filled,
         );
-        let end = said.end;
+        let end = told.end;
+        filled = told.counts;
         let Ended::Finished = end else {
-            return said;
+            return Paged {
+                end,
+                page: top,
+                counts: filled,
+            };
         };
-        top = said.page;
-        heard = said.asked;
-        filled = said.printed;
+        top = top.advanced();
         k += 1;
     }
-    let blank = bytes::part(template, 0, 0);
-    say(
-        blank,
-        0,
-        scene.number,
-        top,
-        store,
-        index,
-        numbers,
-        strings,
-        words,
-        scene,
-        log,
-        heard,
-        places,
-        text,
-        filled,
-    )
+    Paged {
+        end: Ended::Finished,
+        page: top,
+        counts: filled,
+    }
 }
 
-// The headings of a page that has no line yet.
-fn top<'a>(
-    template: &'a [u8],
-    page: Page,
-    store: &'a [u8],
-    index: &'a [u16],
-    numbers: &'a Numbers,
-    strings: &'a [[u8; 16]; 99],
-    words: &'a Words,
-    scene: Scene,
-    log: &mut [u64; 512],
-    asked: usize,
-    places: usize,
-    text: &mut [u8],
-    printed: usize,
-) -> Paged
-    requires { ⌜ HeadsReady (lent (now store) (now index) (now numbers) (now strings) (now words)) scene (now template) (headingsOf (headingsIn (now words))) (highestOf (headingsOf (headingsIn (now words))) 9) 61 page asked (now text) printed ⌝ }
-    ensures { λ r. ⌜ Tops (lent (now (store .entry)) (now (index .entry)) (now (numbers .entry)) (now (strings .entry)) (now (words .entry))) scene (now (template .entry)) (headingsOf (headingsIn (now (words .entry)))) page (now (text .entry)) printed (now (log .entry)) asked places (now (text .exit)) (now (log .exit)) r ⌝ }
-{
-    if page.line != 1 {
-        return Paged {
-            end: Ended::Finished,
-            page,
-            printed,
-            asked,
-        };
-    }
-    let most = highest(words);
-    if most == 0 {
-        return Paged {
-            end: Ended::Finished,
-            page,
-            printed,
-            asked,
-        };
-    }
-    say_heads(
-        most,
-        template,
-        page,
-        store,
-        index,
-        numbers,
-        strings,
-        words,
-        scene,
-        log,
-        asked,
-        places,
-        text,
-        printed,
-    )
-}
-
-// A text line with what comes before it: a break, the headings, the line.
+// A text line with what comes before it: a break, then the lines due on the page.
 pub fn step<'a>(
-    line: &'a [u8],
     template: &'a [u8],
-    page: Page,
-    feeds: bool,
     store: &'a [u8],
     index: &'a [u16],
     numbers: &'a Numbers,
     strings: &'a [[u8; 16]; 99],
     words: &'a Words,
-    scene: Scene,
     log: &mut [u64; 512],
-    asked: usize,
-    places: usize,
     text: &mut [u8],
-    printed: usize,
+    scene: Scene,
+    feeds: bool,
+    line: Heading,
+    counts: Counts,
 ) -> Paged
-    requires { ⌜ StepReady (lent (now store) (now index) (now numbers) (now strings) (now words)) scene (now template) (headingsOf (headingsIn (now words))) (now line) page asked (now text) printed ⌝ }
-    ensures { λ r. ⌜ Steps (lent (now (store .entry)) (now (index .entry)) (now (numbers .entry)) (now (strings .entry)) (now (words .entry))) scene (now (template .entry)) (headingsOf (headingsIn (now (words .entry)))) feeds (now (line .entry)) page (now (text .entry)) printed (now (log .entry)) asked places (now (text .exit)) (now (log .exit)) r ⌝ }
+    requires { ⌜ StepReady (lent (now store) (now index) (now numbers) (now strings) (now words)) scene (now template) (headingsOf (headingsIn (now words))) line (now text) counts ⌝ }
+    ensures { λ r. ⌜ Steps (lent (now (store .entry)) (now (index .entry)) (now (numbers .entry)) (now (strings .entry)) (now (words .entry))) scene (now (template .entry)) (headingsOf (headingsIn (now (words .entry)))) feeds line (now (text .entry)) (now (log .entry)) counts (now (text .exit)) (now (log .exit)) r ⌝ }
 {
-    let turned = page::turn(page, feeds, scene.number, text, printed);
+    let page = Page {
+        number: scene.page,
+        line: scene.row,
+    };
+    let turned = page::turn(page, feeds, line.number, text, counts.printed);
     let end = turned.end;
-    let first = turned.page;
-    let start = turned.printed;
+    let top = turned.page;
+    let filled = Counts {
+        printed: turned.printed,
+        asked: counts.asked,
+        places: counts.places,
+    };
     let Ended::Finished = end else {
         return Paged {
             end,
-            page: first,
-            printed: start,
-            asked,
+            page: top,
+            counts: filled,
         };
     };
-    let topped = top(
+    let here = scene_on(scene, top, line.number);
+    say_lines(
         template,
-        first,
         store,
         index,
         numbers,
         strings,
         words,
-        scene,
         log,
-        asked,
-        places,
         text,
-        start,
-    );
-    let over = topped.end;
-    let Ended::Finished = over else {
-        return topped;
-    };
-    let second = topped.page;
-    let filled = topped.printed;
-    let heard = topped.asked;
-    say(
+        here,
         line,
-        0,
-        scene.number,
-        second,
-        store,
-        index,
-        numbers,
-        strings,
-        words,
-        scene,
-        log,
-        heard,
-        places,
-        text,
         filled,
     )
 }

@@ -29,7 +29,9 @@ use Rattle.execution.proofs.Ranges.{InRange, seen-within, range-cleared, line-i
 use Rattle.runs.specs.Report.{startOf}
 use Rattle.stretches.specs.inner.Stretch.{stretch}
 use Rattle.report.proofs.Sounding.{start-on}
-use Rattle.report.proofs.Moments.{linesDue, turned, Moments, step-moments}
+use Rattle.pages.specs.inner.Listing.{linesDue}
+use Rattle.pages.proofs.Listing.{turned}
+use Rattle.report.proofs.Moments.{Moments, step-moments}
 
 -- a state whose variables, answers and tables are in range, and so is all that an argument sees, here and on the pages to come
 pub record Ranged (s : State) : Type 0 where

@@ -3,6 +3,7 @@ use mathlib.Core.Path.{_≡_}
 use mathlib.Core.List.{List}
 use Prim.Native.Nat.{ℕ, _+_, _≤_, _<_}
 use lib.ListN.{length}
+use Rattle.scan.specs.Line.{window}
 use Rattle.cells.specs.Cell.{Cell}
 use Rattle.cells.specs.inner.Index as I
 use Rattle.meaning.specs.Answer.{Answer}
@@ -72,6 +73,7 @@ pub record FormReady (body b index : List ℕ) (t : List ℕ) (h : Held) (scene 
   pub stored : length b ≤ 65536
   pub scened : scene ≡ sceneOf (tablesIn (h .words)) f (scene .number)
   pub parsed : parsed.Sound body form
+  pub within : window t start (length body) ≡ body
   pub short : length body ≤ 132
   pub template : length t ≤ 32768
   pub placed : start ≤ 32768

@@ -9,7 +9,8 @@ use Rattle.meaning.specs.Answer.{Answer}
 use Rattle.meaning.specs.Tree.{done, bind}
 use Rattle.meaning.specs.Meaning.{Meaning}
 use Rattle.meaning.specs.Number.{endOf}
-use Rattle.meaning.specs.Place.{at, Does}
+use Rattle.meaning.specs.Place.{Place, at, Does}
+use Rattle.meaning.specs.declared.count.Counts.{Counts}
 use Rattle.meaning.specs.declared.question.Question.{Question}
 use Rattle.cells.specs.Cell.{Cell}
 use Rattle.cells.specs.inner.Index.{Ready}
@@ -78,16 +79,20 @@ pub record Sayable (x : Lent) (d : ℕ) (l : List ℕ) (from a : ℕ) : Type 0 w
   pub datasource : d ≤ 35
   pub logged : a + fieldCount (piecesOf l from) ≤ 512
 
+-- the buffers filled so far, on page g
+abbrev pub filledTo : List ℕ → List ℕ → Counts → ℕ → Place Question
+filledTo text log c g = at text (c .printed) (questions log) (c .asked) (c .places) g
+
 -- r and the buffer are what one pass over the text made
-pub record Makes (x : Lent) (s : Scene) (l : List ℕ) (from : ℕ) (log : List ℕ) (a p : ℕ) (log′ b′ : List ℕ) (r : Made) : Type 0 where
-  pub does : Sourced x (λ source. (text : List ℕ) (m g : ℕ) → Does source (pass (machineOf x s source) l (s .number) (piecesOf l from) [] false) (at text m (questions log) a p g) (at text m (questions log′) (r .asked) p g) (endOf (worked (take (r .filled) b′) (r .wrong)) (r .end)))
-  pub few : r .asked ≤ a + fieldCount (piecesOf l from)
+pub record Makes (x : Lent) (s : Scene) (l : List ℕ) (from : ℕ) (log : List ℕ) (c : Counts) (log′ b′ : List ℕ) (r : Made) : Type 0 where
+  pub does : Sourced x (λ source. (text : List ℕ) (m g : ℕ) → Does source (pass (machineOf x s source) l (s .number) (piecesOf l from) [] false) (at text m (questions log) (c .asked) (c .places) g) (at text m (questions log′) (r .asked) (c .places) g) (endOf (worked (take (r .filled) b′) (r .wrong)) (r .end)))
+  pub few : r .asked ≤ c .asked + fieldCount (piecesOf l from)
   pub filled : r .filled ≤ 132
   pub whole : length b′ ≡ 133
 
 -- the line of the scene s was printed, or refused
-pub record Tells (x : Lent) (s : Scene) (l : List ℕ) (from : ℕ) (text : List ℕ) (m : ℕ) (log : List ℕ) (a p : ℕ) (text′ log′ : List ℕ) (r : Told) : Type 0 where
-  pub does : Sourced x (λ source. (g : ℕ) → Does source (textMeaning (machineOf x s source) l from (s .number)) (at text m (questions log) a p g) (at text′ (r .printed) (questions log′) (r .asked) p g) (endOf tt (r .end)))
-  pub few : r .asked ≤ a + fieldCount (piecesOf l from)
+pub record Tells (x : Lent) (s : Scene) (l : List ℕ) (from : ℕ) (text log : List ℕ) (c : Counts) (text′ log′ : List ℕ) (r : Told) : Type 0 where
+  pub does : Sourced x (λ source. (g : ℕ) → Does source (textMeaning (machineOf x s source) l from (s .number)) (filledTo text log c g) (filledTo text′ log′ (r .counts) g) (endOf tt (r .end)))
+  pub few : r .counts .asked ≤ c .asked + fieldCount (piecesOf l from)
   pub kept : length text′ ≡ length text
-  pub room : r .printed ≤ length text
+  pub room : r .counts .printed ≤ length text

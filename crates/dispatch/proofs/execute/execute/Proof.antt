@@ -20,7 +20,7 @@ enum-told-2 : tie.Need-enum-told-2
 enum-told-2 c = search needs
 
 step-requires : tie.Need-step-requires
-step-requires c κs = step-ready (c .before .before .before .before .before .before .before .before .before .before .before .before .before .pre) (c .before .before .before .before .before .before .enum-told2 .given .1)
+step-requires c κs = step-ready (c .before .before .before .before .before .before .before .before .before .before .before .before .pre) _ (c .before .before .before .before .before .enum-told2 .given .1)
 
 paged-requires : tie.Need-paged-requires
 paged-requires c κs = search needs
@@ -171,7 +171,7 @@ unfolding formWith formMeaning
 returns c = record { executes = went-line (c .before .before .before .before .before .before .before .before .pre) _ _ _ _ _ (c .before .enum-told .given .1) refl (c .went .ensures) }
 
 returns-2 : tie.Need-returns-2
-returns-2 c = record { executes = text-line (c .before .before .before .before .before .before .before .before .before .before .before .before .before .before .before .before .before .pre) _ _ _ _ _ _ _ (c .before .before .before .before .before .before .before .before .before .before .enum-told2 .given .1) (c .before .before .before .step .ensures) (c .paged .ensures) }
+returns-2 c = record { executes = text-line (c .before .before .before .before .before .before .before .before .before .before .before .before .before .before .before .before .pre) _ _ _ _ _ _ _ (c .before .before .before .before .before .before .before .before .before .enum-told2 .given .1) (c .before .before .before .step .ensures) (c .paged .ensures) }
 
 returns-3 : tie.Need-returns-3
 returns-3 c = record { executes = section-line (c .before .before .before .before .before .before .before .before .before .before .pre) _ _ _ _ _ _ _ _ (c .before .before .before .enum-told3 .given .1) (c .section-line .ensures) }

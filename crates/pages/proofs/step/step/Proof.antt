@@ -1,5 +1,5 @@
 use Rattle.pages.specs.inner.Packed.{headingsOf}
-use Rattle.pages.proofs.Stepping.{step-turn-over, step-top-ready, step-top-over, step-say-ready, step-same, steps}
+use Rattle.pages.proofs.Stepping.{step-over, step-lines-ready, step-same, steps}
 use denote.Ref.{now}
 use Rattle.questions.specs.inner.State.{headingsIn}
 use borrow.Author.Needs.{needs}
@@ -19,31 +19,27 @@ same-length : tie.Need-same-length
 same-length c = search needs
 
 returns : tie.Need-returns
-returns c = step-turn-over _ (c .before .before .before .before .before .before .before .before .before .before .before .before .args .scene) _ (headingsOf (headingsIn (now (c .before .before .before .before .before .before .before .before .before .before .before .before .args .words)))) (c .before .before .before .before .before .before .before .before .before .before .before .before .args .feeds) _ _ _ _ (now (c .before .before .before .before .before .before .before .before .before .before .before .before .args .log)) _ (c .before .before .before .before .before .before .before .before .before .before .before .before .args .places) (c .before .before .before .before .before .before .before .before .before .before .before .before .pre) _ _ (c .before .before .before .before .before .turn .ensures) _ _ (c .enum-told2 .given .1)
+returns c =
+    let a = c .before .before .before .before .before .before .before .before .before .before .before .args in
+    step-over _ (a .scene) _ (headingsOf (headingsIn (now (a .words)))) (a .feeds) (a .line) _ (now (a .log)) (a .counts) (c .before .before .before .before .before .before .before .before .before .before .before .pre) _ _ (c .before .before .before .before .before .turn .ensures) _ _ (c .enum-told2 .given .1)
 
-top-requires : tie.Need-top-requires
-top-requires c κs = step-top-ready _ (c .before .before .before .before .before .before .before .before .before .before .before .before .before .before .args .scene) _ (headingsOf (headingsIn (now (c .before .before .before .before .before .before .before .before .before .before .before .before .before .before .args .words)))) (c .before .before .before .before .before .before .before .before .before .before .before .before .before .before .args .feeds) _ _ _ _ (now (c .before .before .before .before .before .before .before .before .before .before .before .before .before .before .args .log)) _ (c .before .before .before .before .before .before .before .before .before .before .before .before .before .before .args .places) (c .before .before .before .before .before .before .before .before .before .before .before .before .before .before .pre) _ _ (c .before .before .before .before .before .before .before .turn .ensures)
+scene-on-requires : tie.Need-scene-on-requires
+scene-on-requires c κs = search needs
 
-enum-told-3 : tie.Need-enum-told-3
-enum-told-3 c = search needs
-
-enum-told-4 : tie.Need-enum-told-4
-enum-told-4 c = search needs
+say-lines-requires : tie.Need-say-lines-requires
+say-lines-requires c κs =
+    let a = c .before .before .before .before .before .before .before .before .before .before .before .before .before .before .args in
+    step-lines-ready _ (a .scene) _ (headingsOf (headingsIn (now (a .words)))) (a .feeds) (a .line) _ (now (a .log)) (a .counts) (c .before .before .before .before .before .before .before .before .before .before .before .before .before .before .pre) _ _ (c .before .before .before .before .before .before .before .before .turn .ensures) _ (c .before .before .scene-on .ensures)
 
 same-length-2 : tie.Need-same-length-2
-same-length-2 c = search needs
+same-length-2 c =
+    let a = c .before .before .before .before .before .before .before .before .before .before .before .before .before .before .before .before .before .args in
+    step-same _ (a .scene) _ (headingsOf (headingsIn (now (a .words)))) (a .feeds) (a .line) _ (now (a .log)) (a .counts) (c .before .before .before .before .before .before .before .before .before .before .before .before .before .before .before .before .before .pre) _ _ (c .before .before .before .before .before .before .before .before .before .before .before .turn .ensures) _ (c .before .before .before .before .before .scene-on .ensures) (c .before .before .before .before .before .before .enum-told .given .1) _ _ _ (c .before .before .say-lines .ensures)
 
 returns-2 : tie.Need-returns-2
-returns-2 c = step-top-over _ (c .before .before .before .before .before .before .before .before .before .before .before .before .before .before .before .before .before .before .before .args .scene) _ (headingsOf (headingsIn (now (c .before .before .before .before .before .before .before .before .before .before .before .before .before .before .before .before .before .before .before .args .words)))) (c .before .before .before .before .before .before .before .before .before .before .before .before .before .before .before .before .before .before .before .args .feeds) _ _ _ _ (now (c .before .before .before .before .before .before .before .before .before .before .before .before .before .before .before .before .before .before .before .args .log)) _ (c .before .before .before .before .before .before .before .before .before .before .before .before .before .before .before .before .before .before .before .args .places) (c .before .before .before .before .before .before .before .before .before .before .before .before .before .before .before .before .before .before .before .pre) _ _ (c .before .before .before .before .before .before .before .before .before .before .before .before .turn .ensures) (c .before .before .before .before .before .before .before .enum-told .given .1) _ _ _ (c .before .before .before .before .top .ensures) _ _ (c .enum-told4 .given .1)
-
-say-requires : tie.Need-say-requires
-say-requires c κs = step-say-ready _ (c .before .before .before .before .before .before .before .before .before .before .before .before .before .before .before .before .before .before .before .before .before .before .args .scene) _ (headingsOf (headingsIn (now (c .before .before .before .before .before .before .before .before .before .before .before .before .before .before .before .before .before .before .before .before .before .before .args .words)))) (c .before .before .before .before .before .before .before .before .before .before .before .before .before .before .before .before .before .before .before .before .before .before .args .feeds) _ _ _ _ (now (c .before .before .before .before .before .before .before .before .before .before .before .before .before .before .before .before .before .before .before .before .before .before .args .log)) _ (c .before .before .before .before .before .before .before .before .before .before .before .before .before .before .before .before .before .before .before .before .before .before .args .places) (c .before .before .before .before .before .before .before .before .before .before .before .before .before .before .before .before .before .before .before .before .before .before .pre) _ _ (c .before .before .before .before .before .before .before .before .before .before .before .before .before .before .before .turn .ensures) (c .before .before .before .before .before .before .before .before .before .before .enum-told .given .1) _ _ _ (c .before .before .before .before .before .before .before .top .ensures)
-
-same-length-3 : tie.Need-same-length-3
-same-length-3 c = step-same _ (c .before .before .before .before .before .before .before .before .before .before .before .before .before .before .before .before .before .before .before .before .before .before .before .before .before .args .scene) _ (headingsOf (headingsIn (now (c .before .before .before .before .before .before .before .before .before .before .before .before .before .before .before .before .before .before .before .before .before .before .before .before .before .args .words)))) (c .before .before .before .before .before .before .before .before .before .before .before .before .before .before .before .before .before .before .before .before .before .before .before .before .before .args .feeds) _ _ _ _ (now (c .before .before .before .before .before .before .before .before .before .before .before .before .before .before .before .before .before .before .before .before .before .before .before .before .before .args .log)) _ (c .before .before .before .before .before .before .before .before .before .before .before .before .before .before .before .before .before .before .before .before .before .before .before .before .before .args .places) (c .before .before .before .before .before .before .before .before .before .before .before .before .before .before .before .before .before .before .before .before .before .before .before .before .before .pre) _ _ (c .before .before .before .before .before .before .before .before .before .before .before .before .before .before .before .before .before .before .turn .ensures) (c .before .before .before .before .before .before .before .before .before .before .before .before .before .enum-told .given .1) _ _ _ (c .before .before .before .before .before .before .before .before .before .before .top .ensures) (c .before .before .before .before .before .before .enum-told3 .given .1) _ _ _ (c .before .before .say .ensures)
-
-returns-3 : tie.Need-returns-3
-returns-3 c = steps _ (c .before .before .before .before .before .before .before .before .before .before .before .before .before .before .before .before .before .before .before .before .before .before .before .before .before .args .scene) _ (headingsOf (headingsIn (now (c .before .before .before .before .before .before .before .before .before .before .before .before .before .before .before .before .before .before .before .before .before .before .before .before .before .args .words)))) (c .before .before .before .before .before .before .before .before .before .before .before .before .before .before .before .before .before .before .before .before .before .before .before .before .before .args .feeds) _ _ _ _ (now (c .before .before .before .before .before .before .before .before .before .before .before .before .before .before .before .before .before .before .before .before .before .before .before .before .before .args .log)) _ (c .before .before .before .before .before .before .before .before .before .before .before .before .before .before .before .before .before .before .before .before .before .before .before .before .before .args .places) (c .before .before .before .before .before .before .before .before .before .before .before .before .before .before .before .before .before .before .before .before .before .before .before .before .before .pre) _ _ (c .before .before .before .before .before .before .before .before .before .before .before .before .before .before .before .before .before .before .turn .ensures) (c .before .before .before .before .before .before .before .before .before .before .before .before .before .enum-told .given .1) _ _ _ (c .before .before .before .before .before .before .before .before .before .before .top .ensures) (c .before .before .before .before .before .before .enum-told3 .given .1) _ _ _ (c .before .before .say .ensures)
+returns-2 c =
+    let a = c .before .before .before .before .before .before .before .before .before .before .before .before .before .before .before .before .before .args in
+    steps _ (a .scene) _ (headingsOf (headingsIn (now (a .words)))) (a .feeds) (a .line) _ (now (a .log)) (a .counts) (c .before .before .before .before .before .before .before .before .before .before .before .before .before .before .before .before .before .pre) _ _ (c .before .before .before .before .before .before .before .before .before .before .before .turn .ensures) _ (c .before .before .before .before .before .scene-on .ensures) (c .before .before .before .before .before .before .enum-told .given .1) _ _ _ (c .before .before .say-lines .ensures)
 
 pub step-spec : {M : Type 1} → statement M
 step-spec =
@@ -54,11 +50,7 @@ step-spec =
     enum-told-2
     same-length
     returns
-    top-requires
-    enum-told-3
-    enum-told-4
+    scene-on-requires
+    say-lines-requires
     same-length-2
-    returns-2
-    say-requires
-    same-length-3
-    returns-3)
+    returns-2)
