@@ -1,4 +1,5 @@
 pub mod Places
+pub mod Performing
 pub mod Sounds
 pub mod Lining
 pub mod Ranges

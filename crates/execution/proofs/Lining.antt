@@ -49,7 +49,7 @@ use Rattle.control.specs.State.{State, seen}
 use Rattle.control.specs.inner.Forms.{optionalInput, inputsOf, formWith}
 use Rattle.control.proofs.Forms.{form-inputs}
 use Rattle.control.proofs.Commanding.{inputs-then, inputs-over}
-use Rattle.dispatch.specs.inner.Performing.{Performs}
+use Rattle.execution.specs.inner.Performing.{Performs}
 use Rattle.execution.proofs.Places.{nested-few, nested-line, nested-room}
 
 module _ {b index t : List ℕ} {h : Held} {f : Flow} {T : List ℕ} {u a : ℕ} (k : LineReady b index t h f T u a) {body : List ℕ} (e : body ≡ lineOf (take (length t - f .at) (drop (f .at) t))) where

@@ -1,11 +1,13 @@
 // One template line.
+use crate::execute;
+use crate::execute::Prepared;
 use control::arms;
 use control::flow;
 use control::inputs;
 use control::state::Flow;
 use control::state::Lined;
-use dispatch::execute;
 use lines::command;
+use meaning::count::Counts;
 use meaning::end::Ended;
 use questions::scene::Numbers;
 use questions::scene::Words;
@@ -23,14 +25,12 @@ pub fn line<'a>(
     strings: &mut [[u8; 16]; 99],
     words: &mut Words,
     text: &mut [u8],
-    printed: usize,
     log: &mut [u64; 512],
-    asked: usize,
-    places: usize,
+    counts: Counts,
     flow: Flow,
 ) -> Lined
-    requires { ⌜ LineReady (now store) (now index) (now template) (held (now numbers) (now strings) (now words)) flow (now text) printed asked ⌝ }
-    ensures { λ r. ⌜ Executes 332 (lineMeaning (now (template .entry)) (stateAt (now (store .entry)) (held (now (numbers .entry)) (now (strings .entry)) (now (words .entry))) flow)) (now (store .entry)) (held (now (numbers .entry)) (now (strings .entry)) (now (words .entry))) flow (now (text .entry)) printed (now (log .entry)) asked places (held (now (numbers .exit)) (now (strings .exit)) (now (words .exit))) (now (text .exit)) (now (log .exit)) r ⌝ }
+    requires { ⌜ LineReady (now store) (now index) (now template) (held (now numbers) (now strings) (now words)) flow (now text) (counts .printed) (counts .asked) ⌝ }
+    ensures { λ r. ⌜ Executes 332 (lineMeaning (now (template .entry)) (stateAt (now (store .entry)) (held (now (numbers .entry)) (now (strings .entry)) (now (words .entry))) flow)) (now (store .entry)) (held (now (numbers .entry)) (now (strings .entry)) (now (words .entry))) flow (now (text .entry)) (counts .printed) (now (log .entry)) (counts .asked) (counts .places) (held (now (numbers .exit)) (now (strings .exit)) (now (words .exit))) (now (text .exit)) (now (log .exit)) r ⌝ }
 {
     let at = flow.at;
     let body = scan::bytes::line_of(&template[at..]);
@@ -48,14 +48,26 @@ pub fn line<'a>(
         scene,
         arguments,
         log,
-        asked,
-        places,
+        counts.asked,
+        counts.places,
     );
     let end = v.end;
     let first = v.first;
     let second = v.second;
     let Ended::Finished = end else {
-        return arms::onward(end, next, printed, v.asked);
+        return arms::onward(end, next, counts.printed, v.asked);
+    };
+    let prepared = Prepared {
+        form,
+        first,
+        second,
+        scene,
+        start: at,
+    };
+    let heard = Counts {
+        printed: counts.printed,
+        asked: v.asked,
+        places: counts.places,
     };
     execute::execute(
         template,
@@ -66,15 +78,9 @@ pub fn line<'a>(
         strings,
         words,
         text,
-        printed,
         log,
-        v.asked,
-        places,
-        scene,
-        at,
+        heard,
         next,
-        form,
-        first,
-        second,
+        prepared,
     )
 }

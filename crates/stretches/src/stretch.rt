@@ -1,5 +1,6 @@
 // A stretch of lines: as many as the log has places for.
 use execution::line;
+use meaning::count::Counts;
 use meaning::end::Ended;
 use meaning::end::Halt;
 use meaning::refusal::Refusal;
@@ -64,6 +65,11 @@ pub fn run<'a, 'b, 'c>(
             };
             return ends::full(asked, &log, logged, next);
         }
+        let counts = Counts {
+            printed,
+            asked: logged,
+            places,
+        };
         let lined = line::line(
             template,
             part,
@@ -72,10 +78,8 @@ pub fn run<'a, 'b, 'c>(
             strings,
             &mut words,
             text,
-            printed,
             &mut log,
-            logged,
-            places,
+            counts,
             flow,
         );
         flow = lined.flow;

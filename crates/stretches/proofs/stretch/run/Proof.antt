@@ -40,8 +40,8 @@ same-length c = c .before .before .before .before .loop .inv .text-same
 returns : tie.Need-returns Inv-loop μ-loop
 returns c = (run-ends _ _ _ _ _ (c .before .before .before .before .before .before .before .before .before .before .before .before .before .before .before .before .before .args .s) (c .before .before .before .before .before .before .before .before .before .before .before .before .before .before .before .before .before .pre) _ _ _ _ _ _ _ (c .before .before .before .before .loop .inv) _ (c .before .before .if1 .taken) (c .over .ensures), refl)
 
-add-t37 : tie.Need-add-t37 Inv-loop μ-loop
-add-t37 c = search (needs, asked-fit)
+add-t38 : tie.Need-add-t38 Inv-loop μ-loop
+add-t38 c = search (needs, asked-fit)
 
 full-requires : tie.Need-full-requires Inv-loop μ-loop
 full-requires c κs = tt
@@ -123,7 +123,7 @@ run-spec =
     over-requires
     same-length
     returns
-    add-t37
+    add-t38
     full-requires
     same-length-2
     returns-2

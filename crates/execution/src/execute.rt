@@ -20,7 +20,16 @@ use tables::table;
 use values::worth::Worth;
 ghost use Rattle.questions.specs.inner.State.{held};
 ghost use Rattle.control.specs.inner.Executing.{FormReady};
-ghost use Rattle.dispatch.specs.inner.Performing.{Performs};
+ghost use Rattle.execution.specs.inner.Performing.{Performs};
+
+// A line that is due: its form, the values of its arguments, what it is executed in, and where it starts in the template.
+pub struct Prepared {
+    pub form: Line,
+    pub first: Worth,
+    pub second: Worth,
+    pub scene: Scene,
+    pub start: usize,
+}
 
 // The line, with the flow behind it.
 pub fn execute<'a>(
@@ -32,20 +41,22 @@ pub fn execute<'a>(
     strings: &mut [[u8; 16]; 99],
     words: &mut Words,
     text: &mut [u8],
-    printed: usize,
     log: &mut [u64; 512],
-    asked: usize,
-    places: usize,
-    scene: Scene,
-    start: usize,
+    counts: Counts,
     flow: Flow,
-    form: Line,
-    first: Worth,
-    second: Worth,
+    line: Prepared,
 ) -> Lined
-    requires { ⌜ FormReady (now body) (now store) (now index) (now template) (held (now numbers) (now strings) (now words)) scene start flow form (now text) printed asked ⌝ }
-    ensures { λ r. ⌜ Performs (now (body .entry)) (now (store .entry)) (now (template .entry)) (held (now (numbers .entry)) (now (strings .entry)) (now (words .entry))) scene start flow form first second (now (text .entry)) printed (now (log .entry)) asked places (held (now (numbers .exit)) (now (strings .exit)) (now (words .exit))) (now (text .exit)) (now (log .exit)) r ⌝ }
+    requires { ⌜ FormReady (now body) (now store) (now index) (now template) (held (now numbers) (now strings) (now words)) (line .scene) (line .start) flow (line .form) (now text) (counts .printed) (counts .asked) ⌝ }
+    ensures { λ r. ⌜ Performs (now (body .entry)) (now (store .entry)) (now (template .entry)) (held (now (numbers .entry)) (now (strings .entry)) (now (words .entry))) (line .scene) (line .start) flow (line .form) (line .first) (line .second) (now (text .entry)) (counts .printed) (now (log .entry)) (counts .asked) (counts .places) (held (now (numbers .exit)) (now (strings .exit)) (now (words .exit))) (now (text .exit)) (now (log .exit)) r ⌝ }
 {
+    let form = line.form;
+    let first = line.first;
+    let second = line.second;
+    let scene = line.scene;
+    let start = line.start;
+    let printed = counts.printed;
+    let asked = counts.asked;
+    let places = counts.places;
     match form {
         Line::NoForm => arms::went(flow, printed, asked),
         Line::Text => {
@@ -54,11 +65,6 @@ pub fn execute<'a>(
                 length: body.len(),
                 from: 0,
                 number: scene.number,
-            };
-            let counts = Counts {
-                printed,
-                asked,
-                places,
             };
             let paged = step::step(
                 template,
