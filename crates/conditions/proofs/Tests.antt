@@ -1,18 +1,15 @@
 -- Tests: one law for each return of the code.
-use mathlib.Core.Path.{_≡_, refl, sym, ap, _∙_}
-use mathlib.Core.Bool.{Bool, true, false, not, false≢true}
+use mathlib.Core.Path.{_≡_, sym, ap, _∙_}
+use mathlib.Core.Bool.{Bool, true, false, not}
 use Rattle.meaning.specs.declared.refusal.Refusal.{Refusal}
 use Rattle.meaning.specs.declared.refusal.Refusal.the-variants as R
 use Rattle.numbers.specs.declared.Quantity.{Quantity}
 use Rattle.numbers.specs.Order.{isZero}
 use Rattle.lines.specs.declared.command.Comparison.{Comparison}
-use Rattle.lines.specs.declared.command.Comparison.the-variants.{SameString, SameLetters, Equal, NotEqual, Less, AtMost, Greater, AtLeast}
 use Rattle.strings.specs.declared.part.Text.{Text}
 use Rattle.strings.specs.Letters.{equalStrings}
-use Rattle.strings.specs.inner.Texts.{Strings, strings, textOf}
+use Rattle.strings.specs.inner.Texts.{Strings, textOf}
 use Rattle.values.specs.declared.worth.Worth.{Worth}
-use Rattle.values.specs.declared.worth.Worth.the-variants as W
-use Rattle.values.specs.Worth as D
 use Rattle.values.specs.inner.Yielding.{meant}
 use Rattle.coercions.specs.declared.settle.Amount.{Amount}
 use Rattle.coercions.specs.declared.settle.Amount.the-variants.{Number, NoNumber}
@@ -21,29 +18,10 @@ use Rattle.coercions.specs.declared.settle.Phrase.the-variants.{String, NoStrin
 use Rattle.coercions.specs.declared.settle.Judged.{Judged}
 use Rattle.coercions.specs.declared.settle.Judged.the-variants.{Holds, Refused}
 use Rattle.coercions.specs.Settling.{settled, against}
-use Rattle.conditions.specs.Testing.{zeroTest, zeroJudged, ofNumbers, ofStrings, judged, isMissing, compared}
-use Rattle.conditions.specs.inner.Kinds.{textual, ignoring, numbersHold}
+use Rattle.conditions.specs.Testing.{zeroTest, zeroJudged, ofNumbers, ofStrings, judged, compared}
+use Rattle.conditions.specs.inner.Kinds.{numbersHold}
 use Rattle.conditions.specs.inner.Contracts.{Lacks, JudgesNumbers, JudgesZero}
 use Rattle.coercions.specs.inner.Contracts.{judgedOf, TakesQuantity, TakesText}
-
--- ---- whether a value is missing
-
-module _ (w : Worth) where
-  pub lacks-missing : w ≡ W.Missing → Lacks w true
-  unfolding isMissing meant
-  lacks-missing h = record { same = λ s. rw h }
-
-  pub lacks-wrong : w ≡ W.Wrong → Lacks w false
-  unfolding isMissing meant
-  lacks-wrong h = record { same = λ s. rw h }
-
-  pub lacks-number : (q : Quantity) → w ≡ W.Number q → Lacks w false
-  unfolding isMissing meant
-  lacks-number q h = record { same = λ s. rw h }
-
-  pub lacks-text : (t : Text) → w ≡ W.Text t → Lacks w false
-  unfolding isMissing meant
-  lacks-text t h = record { same = λ s. rw h }
 
 -- ---- two values
 
@@ -75,28 +53,12 @@ module _ (s : Strings) (i : Bool) (v w : Worth) (a : Phrase) (d : TakesText v a)
     unfolding ofStrings
     strings-both q r k e = rw (← (d .same s), ← (d′ .same s), h, k, e)
 
--- a test of strings, and one of numbers, as the code has them
-judged-strings : (c : Comparison) (v w : D.Worth) → textual c ≡ true → judged c v w ≡ ofStrings (ignoring c) v w
-unfolding judged textual ignoring
-judged-strings SameString v w h = refl
-judged-strings SameLetters v w h = refl
-judged-strings Equal v w h = absurd (false≢true h)
-judged-strings NotEqual v w h = absurd (false≢true h)
-judged-strings Less v w h = absurd (false≢true h)
-judged-strings AtMost v w h = absurd (false≢true h)
-judged-strings Greater v w h = absurd (false≢true h)
-judged-strings AtLeast v w h = absurd (false≢true h)
+-- a test of numbers, as the code has it
+pub of-numbers : (s : Strings) (c k : Comparison) (v w : Worth) (r : Judged) → c ≡ k → JudgesNumbers c v w r → ofNumbers (numbersHold k) (meant s v) (meant s w) ≡ judged k (meant s v) (meant s w) → judgedOf r ≡ judged c (meant s v) (meant s w)
+of-numbers s c k v w r e d h = d .same s ∙ ap (λ x. ofNumbers (numbersHold x) (meant s v) (meant s w)) e ∙ h ∙ ap (λ x. judged x (meant s v) (meant s w)) (sym e)
 
-judged-numbers : (c : Comparison) (v w : D.Worth) → textual c ≡ false → judged c v w ≡ ofNumbers (numbersHold c) v w
-unfolding judged textual numbersHold
-judged-numbers SameString v w h = absurd (false≢true (sym h))
-judged-numbers SameLetters v w h = absurd (false≢true (sym h))
-judged-numbers Equal v w h = refl
-judged-numbers NotEqual v w h = refl
-judged-numbers Less v w h = refl
-judged-numbers AtMost v w h = refl
-judged-numbers Greater v w h = refl
-judged-numbers AtLeast v w h = refl
+pub of-strings : (s : Strings) (c k : Comparison) (i : Bool) (v w : Worth) (r : Judged) → c ≡ k → judgedOf r ≡ ofStrings i (meant s v) (meant s w) → ofStrings i (meant s v) (meant s w) ≡ judged k (meant s v) (meant s w) → judgedOf r ≡ judged c (meant s v) (meant s w)
+of-strings s c k i v w r e d h = d ∙ h ∙ ap (λ x. judged x (meant s v) (meant s w)) (sym e)
 
 module _ (s : Strings) (c : Comparison) (v w : Worth) (a : Bool) (d : Lacks v a) where
   pub compared-first : a ≡ true → against R.MissingArgument ≡ compared c (meant s v) (meant s w)
@@ -108,14 +70,9 @@ module _ (s : Strings) (c : Comparison) (v w : Worth) (a : Bool) (d : Lacks v a)
     unfolding compared
     compared-second k = rw (← (d .same s), ← (d′ .same s), h, k)
 
-    module _ (k : b ≡ false) (t : Bool) (e : t ≡ textual c) (r : Judged) where
-      pub compared-strings : t ≡ true → (i : Bool) → i ≡ ignoring c → judgedOf r ≡ ofStrings i (meant s v) (meant s w) → judgedOf r ≡ compared c (meant s v) (meant s w)
-      unfolding compared
-      compared-strings j i g x = rw (← (d .same s), ← (d′ .same s), h, k, judged-strings c (meant s v) (meant s w) (sym e ∙ j), ← g) x
-
-      pub compared-numbers : t ≡ false → JudgesNumbers c v w r → judgedOf r ≡ compared c (meant s v) (meant s w)
-      unfolding compared
-      compared-numbers j x = rw (← (d .same s), ← (d′ .same s), h, k, judged-numbers c (meant s v) (meant s w) (sym e ∙ j)) (x .same s)
+    pub compared-both : b ≡ false → (r : Judged) → judgedOf r ≡ judged c (meant s v) (meant s w) → judgedOf r ≡ compared c (meant s v) (meant s w)
+    unfolding compared
+    compared-both k r x = rw (← (d .same s), ← (d′ .same s), h, k) x
 
 module _ (zero : Bool) (w : Worth) (a : Amount) (d : TakesQuantity w a) where
   pub zero-refused : (e : Refusal) → a ≡ NoNumber e → JudgesZero zero w (Refused e)

@@ -28,36 +28,6 @@ fn lacks(worth: Worth) -> bool
     }
 }
 
-fn textual(c: Comparison) -> bool
-    ensures { λ r. ⌜ r ≡ K.textual c ⌝ }
-{
-    match c {
-        Comparison::SameString => true,
-        Comparison::SameLetters => true,
-        Comparison::Equal => false,
-        Comparison::NotEqual => false,
-        Comparison::Less => false,
-        Comparison::AtMost => false,
-        Comparison::Greater => false,
-        Comparison::AtLeast => false,
-    }
-}
-
-fn ignoring(c: Comparison) -> bool
-    ensures { λ r. ⌜ r ≡ K.ignoring c ⌝ }
-{
-    match c {
-        Comparison::SameString => false,
-        Comparison::SameLetters => true,
-        Comparison::Equal => false,
-        Comparison::NotEqual => false,
-        Comparison::Less => false,
-        Comparison::AtMost => false,
-        Comparison::Greater => false,
-        Comparison::AtLeast => false,
-    }
-}
-
 fn numbers_hold(c: Comparison, p: Quantity, q: Quantity) -> bool
     ensures { λ r. ⌜ r ≡ K.numbersHold c p q ⌝ }
 {
@@ -128,6 +98,29 @@ fn strings_judged<'a>(
     }
 }
 
+// 11 over both
+fn judged<'a>(
+    line: &'a [u8],
+    store: &'a [u8],
+    strings: &[[u8; 16]; 99],
+    c: Comparison,
+    v: Worth,
+    w: Worth,
+) -> Judged
+    ensures { λ r. ⌜ judgedOf r ≡ T.judged c (meant (stringsOf (now (line .entry)) (now (store .entry)) (now (strings .entry))) v) (meant (stringsOf (now (line .entry)) (now (store .entry)) (now (strings .entry))) w) ⌝ }
+{
+    match c {
+        Comparison::SameString => strings_judged(line, store, strings, false, v, w),
+        Comparison::SameLetters => strings_judged(line, store, strings, true, v, w),
+        Comparison::Equal => numbers_judged(c, v, w),
+        Comparison::NotEqual => numbers_judged(c, v, w),
+        Comparison::Less => numbers_judged(c, v, w),
+        Comparison::AtMost => numbers_judged(c, v, w),
+        Comparison::Greater => numbers_judged(c, v, w),
+        Comparison::AtLeast => numbers_judged(c, v, w),
+    }
+}
+
 // $IFEQ to $IFGE, $IFEQSS, $IFEQSI: 10 over both, then 11 over both
 pub fn compare<'a>(
     line: &'a [u8],
@@ -145,10 +138,7 @@ pub fn compare<'a>(
     if lacks(w) {
         return Judged::Refused(Refusal::MissingArgument);
     }
-    if textual(c) {
-        return strings_judged(line, store, strings, ignoring(c), v, w);
-    }
-    numbers_judged(c, v, w)
+    judged(line, store, strings, c, v, w)
 }
 
 // $IFNOT, $IF

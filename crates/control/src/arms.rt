@@ -102,8 +102,8 @@ pub fn branched(
             if holds {
                 return went(flow, printed, asked);
             }
-            let next = flow::jumped(template, flow, Sought::Branch);
-            return went(next, printed, asked);
+            let behind = flow::jumped(template, flow, Sought::Branch);
+            return went(behind, printed, asked);
         }
     }
 }

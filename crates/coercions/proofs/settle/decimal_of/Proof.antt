@@ -1,5 +1,7 @@
 -- One law for each kind of value.
-use Rattle.coercions.proofs.Settles.{decimal-missing, decimal-wrong, decimal-number, decimal-text}
+use Rattle.coercions.proofs.Settles.{decimal-number}
+use Rattle.coercions.specs.Settling.{decimalFrom, quantityFrom}
+use Rattle.values.specs.inner.Yielding.{meant}
 use borrow.Author.Needs.{needs}
 use Rattle.coercions.proofs.settle.decimal_of.Statement.{statement}
 use Rattle.coercions.proofs.settle.decimal_of.Tie as tie
@@ -20,16 +22,19 @@ enum-told-3 : tie.Need-enum-told-3
 enum-told-3 c = search needs
 
 returns : tie.Need-returns
-returns c = decimal-missing _ (c .enum-told .given .1)
+unfolding decimalFrom quantityFrom meant
+returns c = record { same = λ s. rw (c .enum-told .given .1) }
 
 returns-2 : tie.Need-returns-2
-returns-2 c = decimal-wrong _ (c .enum-told2 .given .1)
+unfolding decimalFrom quantityFrom meant
+returns-2 c = record { same = λ s. rw (c .enum-told2 .given .1) }
 
 returns-3 : tie.Need-returns-3
 returns-3 c = search (needs, decimal-number)
 
 returns-4 : tie.Need-returns-4
-returns-4 c = decimal-text _ _ (c .enum-told3 .given .1)
+unfolding decimalFrom quantityFrom meant
+returns-4 c = record { same = λ s. rw (c .enum-told3 .given .1) }
 
 pub decimal-of-spec : {M : Type 1} → statement M
 decimal-of-spec =

@@ -1,5 +1,7 @@
 -- One law for each kind of value.
-use Rattle.coercions.proofs.Settles.{integer-missing, integer-wrong, integer-number, integer-text}
+use Rattle.coercions.proofs.Settles.{integer-number}
+use Rattle.coercions.specs.Settling.{integerFrom}
+use Rattle.values.specs.inner.Yielding.{meant}
 use borrow.Author.Needs.{needs}
 use Rattle.coercions.proofs.settle.integer_of.Statement.{statement}
 use Rattle.coercions.proofs.settle.integer_of.Tie as tie
@@ -20,16 +22,19 @@ enum-told-3 : tie.Need-enum-told-3
 enum-told-3 c = search needs
 
 returns : tie.Need-returns
-returns c = integer-missing _ (c .enum-told .given .1)
+unfolding integerFrom meant
+returns c = record { same = λ s. rw (c .enum-told .given .1) }
 
 returns-2 : tie.Need-returns-2
-returns-2 c = integer-wrong _ (c .enum-told2 .given .1)
+unfolding integerFrom meant
+returns-2 c = record { same = λ s. rw (c .enum-told2 .given .1) }
 
 returns-3 : tie.Need-returns-3
 returns-3 c = search (needs, integer-number)
 
 returns-4 : tie.Need-returns-4
-returns-4 c = integer-text _ _ (c .enum-told3 .given .1)
+unfolding integerFrom meant
+returns-4 c = record { same = λ s. rw (c .enum-told3 .given .1) }
 
 pub integer-of-spec : {M : Type 1} → statement M
 integer-of-spec =

@@ -1,5 +1,6 @@
 -- One law for each kind of value.
-use Rattle.coercions.proofs.Settles.{quantity-missing, quantity-wrong, quantity-number, quantity-text}
+use Rattle.coercions.specs.Settling.{quantityFrom}
+use Rattle.values.specs.inner.Yielding.{meant}
 use borrow.Author.Needs.{needs}
 use Rattle.coercions.proofs.settle.quantity_of.Statement.{statement}
 use Rattle.coercions.proofs.settle.quantity_of.Tie as tie
@@ -17,16 +18,20 @@ enum-told-3 : tie.Need-enum-told-3
 enum-told-3 c = search needs
 
 returns : tie.Need-returns
-returns c = quantity-missing _ (c .enum-told .given .1)
+unfolding quantityFrom meant
+returns c = record { same = λ s. rw (c .enum-told .given .1) }
 
 returns-2 : tie.Need-returns-2
-returns-2 c = quantity-wrong _ (c .enum-told2 .given .1)
+unfolding quantityFrom meant
+returns-2 c = record { same = λ s. rw (c .enum-told2 .given .1) }
 
 returns-3 : tie.Need-returns-3
-returns-3 c = quantity-number _ _ (c .before .worth .given .1)
+unfolding quantityFrom meant
+returns-3 c = record { same = λ s. rw (c .before .worth .given .1) }
 
 returns-4 : tie.Need-returns-4
-returns-4 c = quantity-text _ _ (c .enum-told3 .given .1)
+unfolding quantityFrom meant
+returns-4 c = record { same = λ s. rw (c .enum-told3 .given .1) }
 
 pub quantity-of-spec : {M : Type 1} → statement M
 quantity-of-spec =

@@ -1,5 +1,6 @@
 -- One law for each kind of value.
-use Rattle.coercions.proofs.Settles.{string-missing, string-wrong, string-number, string-text}
+use Rattle.coercions.specs.Settling.{stringFrom}
+use Rattle.values.specs.inner.Yielding.{meant}
 use borrow.Author.Needs.{needs}
 use Rattle.coercions.proofs.settle.text_of.Statement.{statement}
 use Rattle.coercions.proofs.settle.text_of.Tie as tie
@@ -17,16 +18,20 @@ enum-known-worth : tie.Need-enum-known-worth
 enum-known-worth c = search needs
 
 returns : tie.Need-returns
-returns c = string-missing _ (c .enum-told .given .1)
+unfolding stringFrom meant
+returns c = record { same = λ s. rw (c .enum-told .given .1) }
 
 returns-2 : tie.Need-returns-2
-returns-2 c = string-wrong _ (c .enum-told2 .given .1)
+unfolding stringFrom meant
+returns-2 c = record { same = λ s. rw (c .enum-told2 .given .1) }
 
 returns-3 : tie.Need-returns-3
-returns-3 c = string-number _ _ (c .enum-told3 .given .1)
+unfolding stringFrom meant
+returns-3 c = record { same = λ s. rw (c .enum-told3 .given .1) }
 
 returns-4 : tie.Need-returns-4
-returns-4 c = string-text _ _ (c .before .worth .given .1)
+unfolding stringFrom meant
+returns-4 c = record { same = λ s. rw (c .before .worth .given .1) }
 
 pub text-of-spec : {M : Type 1} → statement M
 text-of-spec =

@@ -1,5 +1,6 @@
 -- One law for each kind of value.
-use Rattle.conditions.proofs.Tests.{lacks-missing, lacks-wrong, lacks-number, lacks-text}
+use Rattle.conditions.specs.Testing.{isMissing}
+use Rattle.values.specs.inner.Yielding.{meant}
 use borrow.Author.Needs.{needs}
 use Rattle.conditions.proofs.test.lacks.Statement.{statement}
 use Rattle.conditions.proofs.test.lacks.Tie as tie
@@ -17,16 +18,20 @@ enum-told-4 : tie.Need-enum-told-4
 enum-told-4 c = search needs
 
 returns : tie.Need-returns
-returns c = lacks-missing _ (c .enum-told .given .1)
+unfolding isMissing meant
+returns c = record { same = λ s. rw (c .enum-told .given .1) }
 
 returns-2 : tie.Need-returns-2
-returns-2 c = lacks-wrong _ (c .enum-told2 .given .1)
+unfolding isMissing meant
+returns-2 c = record { same = λ s. rw (c .enum-told2 .given .1) }
 
 returns-3 : tie.Need-returns-3
-returns-3 c = lacks-number _ _ (c .enum-told3 .given .1)
+unfolding isMissing meant
+returns-3 c = record { same = λ s. rw (c .enum-told3 .given .1) }
 
 returns-4 : tie.Need-returns-4
-returns-4 c = lacks-text _ _ (c .enum-told4 .given .1)
+unfolding isMissing meant
+returns-4 c = record { same = λ s. rw (c .enum-told4 .given .1) }
 
 pub lacks-spec : {M : Type 1} → statement M
 lacks-spec =
