@@ -7,6 +7,8 @@ use native.Mathlib.Omega.{arith}
 use native.Mathlib.Nat.{le-antisymm}
 use lib.ListN.{length, take, drop, getD, set, length-set, length-take}
 use lib.Seq.{sets, sets-eq, take-all, take-at, length-take-le}
+use Rattle.questions.specs.inner.Registers.{Puts}
+use Rattle.questions.specs.Machine.{setNumbered}
 use Rattle.meaning.specs.declared.refusal.Refusal.{Refusal}
 use Rattle.buffers.proofs.Laws.{copied-more}
 use Rattle.strings.specs.declared.part.Text.{Text}
@@ -19,11 +21,11 @@ use Rattle.values.proofs.Keeping.{strings-kept}
 use Rattle.coercions.specs.declared.settle.Verdict.the-variants as Ve
 use Rattle.coercions.specs.declared.settle.Phrase.{Phrase}
 use Rattle.coercions.specs.declared.settle.Phrase.the-variants.{String, NoString}
-use Rattle.assignments.specs.Setting.{setNumbered, stored, stringNew}
+use Rattle.assignments.specs.Setting.{stored, stringNew}
 use Rattle.coercions.specs.Settling.{settled}
 use Rattle.coercions.specs.inner.Contracts.{TakesText}
-use Rattle.assignments.specs.inner.Contracts.{Rowed, Puts, PutsString, StoresString}
-use Rattle.assignments.proofs.Sets.{put-none, put-in, put-past}
+use Rattle.assignments.specs.inner.Contracts.{Rowed, PutsString, StoresString}
+use Rattle.questions.proofs.Puts.{put-none, put-in, put-past}
 
 -- ---- a copy of at most 16 bytes
 

@@ -1,8 +1,8 @@
 -- $SETE, $SETA, $SETS, $SETM, $SETD.
 use mathlib.Core.List.{List}
-use Prim.Native.Nat.{ℕ, zero, suc}
+use Prim.Native.Nat.{ℕ, zero}
 use lib.IntN.{ℤ, pos}
-use lib.ListN.{set, take}
+use lib.ListN.{take}
 use Rattle.meaning.specs.Meaning.{Meaning}
 use Rattle.numbers.specs.Range.{integerLimit, decimalLimit}
 use Rattle.numbers.specs.Outcome.{Outcome, success}
@@ -12,7 +12,7 @@ use Rattle.lines.specs.declared.command.Operation.{Operation}
 use Rattle.lines.specs.declared.command.Operation.the-variants.{Assign, Add, Subtract, Multiply, Divide}
 use Rattle.lines.specs.declared.command.Target.{Target}
 use Rattle.lines.specs.declared.command.Target.the-variants.{IntegerTarget, DecimalTarget, StringTarget}
-use Rattle.questions.specs.Machine.{Variables, Machine, numbered}
+use Rattle.questions.specs.Machine.{Variables, Machine, numbered, setNumbered}
 use Rattle.values.specs.Worth.{Worth}
 use Rattle.coercions.specs.Settling.{Settled, settled, andThen, fromOne, integerFrom, decimalFrom, stringFrom, resultOf}
 
@@ -31,11 +31,6 @@ decimalOutcome Add a b = sumOf decimalLimit a b
 decimalOutcome Subtract a b = differenceOf decimalLimit a b
 decimalOutcome Multiply a b = decimalProduct a b
 decimalOutcome Divide a b = decimalQuotient a b
-
--- the n-th, counted from 1, is x now; a parsed line names one that is there (commands/proofs/Ranges:target-there, fetch-there)
-unfoldable pub setNumbered : {A : Type 0} → List A → ℕ → A → List A
-setNumbered l zero x = l
-setNumbered l (suc k) x = set l k x
 
 -- a result as the n-th variable
 unfoldable pub stored : {A : Type 0} → List A → ℕ → Settled A → Settled (List A)

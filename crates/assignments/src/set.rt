@@ -1,5 +1,4 @@
 // $SETE, $SETA, $SETS, $SETM, $SETD.
-use crate::register;
 use crate::string;
 use coercions::settle;
 use coercions::settle::Taken;
@@ -9,9 +8,9 @@ use lines::command::Target;
 use numbers::Number;
 use numbers::decimal;
 use numbers::integer;
-use questions::scene;
-use questions::scene::Numbers;
-use questions::scene::Words;
+use questions::registers;
+use questions::registers::Numbers;
+use questions::registers::Words;
 use values::worth::Worth;
 ghost use mathlib.Core.Path.{_≡_};
 ghost use Rattle.numbers.specs.Outcome.{outcome};
@@ -54,7 +53,7 @@ fn stored(taken: Taken, from: usize, n: usize, numbers: &mut Numbers) -> Verdict
     match taken {
         Taken::Refused(e) => Verdict::Refused(e),
         Taken::Value(z) => {
-            register::put_number(numbers, from, 99, n, z);
+            registers::put_number(numbers, from, 99, n, z);
             Verdict::Passed
         }
     }
@@ -97,14 +96,14 @@ pub fn assigned<'a>(
 {
     match target {
         Target::IntegerTarget(n) => {
-            let a = scene::integer(numbers, n);
+            let a = registers::integer(numbers, n);
             let taken = integer_new(o, a, worth);
-            stored(taken, 0, n, numbers)
+            stored(taken, registers::INTEGERS, n, numbers)
         }
         Target::DecimalTarget(n) => {
-            let a = scene::decimal(numbers, n);
+            let a = registers::decimal(numbers, n);
             let taken = decimal_new(o, a, worth);
-            stored(taken, 99, n, numbers)
+            stored(taken, registers::DECIMALS, n, numbers)
         }
         Target::StringTarget(n) => string::stored(line, store, strings, words, n, worth),
     }

@@ -1,9 +1,9 @@
 // A string as the row and the length of SVn.
-use crate::register;
 use coercions::settle;
 use coercions::settle::Phrase;
 use coercions::settle::Verdict;
-use questions::scene::Words;
+use questions::registers;
+use questions::registers::Words;
 use strings::part;
 use values::worth::Worth;
 ghost use mathlib.Core.Path.{_≡_};
@@ -49,7 +49,7 @@ fn put(strings: &mut [[u8; 16]; 99], words: &mut Words, n: usize, row: [u8; 16],
     let i = n - 1;
     if i < 99 {
         strings[i] = row;
-        register::put_word(words, 0, 99, n, count as u64);
+        registers::put_word(words, registers::LENGTHS, 99, n, count as u64);
     }
 }
 

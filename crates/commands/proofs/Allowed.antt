@@ -17,7 +17,7 @@ use Rattle.lines.specs.declared.command.Optional.the-variants.{Given, Absent}
 use Rattle.lines.specs.declared.command.Target.{Target}
 use Rattle.lines.proofs.Accepted.{OptionalWithin, FetchWithin}
 use Rattle.questions.specs.declared.fetch.Along.the-variants.{Records, Entries}
-use Rattle.questions.specs.Machine.{Machine}
+use Rattle.questions.specs.Machine.{Machine, setNumbered}
 use Rattle.questions.specs.Indexes.{indexNumber}
 use Rattle.questions.specs.Fetching.{fetchMeaning}
 use Rattle.values.specs.Worth.{Worth}
@@ -25,7 +25,7 @@ use Rattle.values.specs.Meanings.{argumentMeaning}
 use Rattle.values.proofs.Allowed.{Allowed, AsksAllowed, argument-asks, fetch-asks}
 use Rattle.tables.specs.declared.table.Table.{Table}
 use Rattle.coercions.specs.Settling.{Settled, settled, against, concluded, integerFrom, integerMeaning}
-use Rattle.assignments.specs.Setting.{setNumbered, setOf, setMeaning}
+use Rattle.assignments.specs.Setting.{setOf, setMeaning}
 use Rattle.conditions.specs.Testing.{zeroJudged, compared, zeroMeaning, testMeaning}
 use Rattle.commands.specs.Fetching.{withRecords, withEntries, recordsMeaning, entriesMeaning}
 use Rattle.tables.specs.Looping.{begun, beginMeaning, counted, endMeaning}

@@ -22,7 +22,7 @@ use Rattle.lines.specs.declared.command.Optional.the-variants.{Given, Absent}
 use Rattle.lines.specs.declared.command.Target.{Target}
 use Rattle.lines.specs.declared.command.Target.the-variants.{IntegerTarget, DecimalTarget, StringTarget}
 use Rattle.questions.specs.declared.fetch.Along.the-variants.{Records, Entries}
-use Rattle.questions.specs.Machine.{Machine, Variables}
+use Rattle.questions.specs.Machine.{Machine, Variables, setNumbered}
 use Rattle.questions.specs.Indexes.{indexNumber}
 use Rattle.questions.specs.Fetching.{fetchMeaning}
 use Rattle.values.specs.Worth.{Worth}
@@ -30,7 +30,7 @@ use Rattle.values.specs.Meanings.{argumentMeaning}
 use Rattle.values.proofs.Giving.{Gives, Anything, gives-bind, argument-gives, fetch-gives}
 use Rattle.tables.specs.declared.table.Table.{Table}
 use Rattle.coercions.specs.Settling.{Settled, settled, against, andThen, concluded, integerFrom, integerMeaning}
-use Rattle.assignments.specs.Setting.{setNumbered, stored, setOf, setMeaning}
+use Rattle.assignments.specs.Setting.{stored, setOf, setMeaning}
 use Rattle.conditions.specs.Testing.{zeroJudged, compared, zeroMeaning, testMeaning}
 use Rattle.commands.specs.Fetching.{withRecords, withEntries, recordsMeaning, entriesMeaning}
 use Rattle.tables.specs.Looping.{loop, Looping, looping, newTable, begun, beginMeaning, innermost, exceeds, countedTo, counting, counted, endMeaning}

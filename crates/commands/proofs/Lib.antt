@@ -1,4 +1,3 @@
-pub mod Clearing
 pub mod Giving
 pub mod Ranges
 pub mod Allowed

@@ -28,7 +28,7 @@ use Rattle.lines.specs.declared.command.Optional.{Optional}
 use Rattle.lines.specs.declared.command.Target.{Target}
 use Rattle.lines.specs.declared.command.Target.the-variants.{IntegerTarget, DecimalTarget, StringTarget}
 use Rattle.questions.specs.declared.fetch.Along.the-variants.{Records, Entries}
-use Rattle.questions.specs.Machine.{Machine, numbered, Variables}
+use Rattle.questions.specs.Machine.{Machine, numbered, Variables, setNumbered}
 use Rattle.questions.specs.Fetching.{fetchMeaning}
 use Rattle.values.specs.Worth.{Worth, missing, wrong, number, string}
 use Rattle.values.specs.Meanings.{argumentMeaning}
@@ -37,7 +37,7 @@ use Rattle.values.proofs.Ranges as R
 use Rattle.values.proofs.Ranges.{IntegerWithin, DecimalWithin, Short, WorthWithin, MachineWithin, argument-within, fetch-within, All, VariablesWithin}
 use Rattle.tables.specs.declared.table.Table.{Table}
 use Rattle.coercions.specs.Settling.{Settled, settled, against, concluded, integerFrom, quantityFrom, stringFrom, resultOf, millionthsOf, decimalFrom, integerMeaning}
-use Rattle.assignments.specs.Setting.{integerOutcome, decimalOutcome, setNumbered, stored, newFrom, integerNew, decimalNew, stringNew, setOf, setMeaning}
+use Rattle.assignments.specs.Setting.{integerOutcome, decimalOutcome, stored, newFrom, integerNew, decimalNew, stringNew, setOf, setMeaning}
 use Rattle.commands.specs.Fetching.{withRecords, withEntries, recordsMeaning, entriesMeaning}
 use Rattle.tables.specs.Looping.{begun, beginMeaning, endMeaning}
 use Rattle.commands.proofs.Giving.{Whenever, whenever-then, numbered-length, Counting, end-gives, Bounded, begun-bounded, counting-bounded}

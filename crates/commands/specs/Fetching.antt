@@ -6,9 +6,8 @@ use Rattle.meaning.specs.Tree.{done, bind}
 use Rattle.meaning.specs.Meaning.{Meaning}
 use Rattle.lines.specs.declared.command.Fetch.{Fetch}
 use Rattle.questions.specs.declared.fetch.Along.the-variants.{Records, Entries}
-use Rattle.questions.specs.Machine.{Variables, Machine}
+use Rattle.questions.specs.Machine.{Variables, Machine, setNumbered}
 use Rattle.questions.specs.Fetching.{fetchMeaning}
-use Rattle.assignments.specs.Setting.{setNumbered}
 
 abbrev pub withRecords : Variables → List (List Answer) → Variables
 withRecords v l = record { integers = v .integers; decimals = v .decimals; strings = v .strings; records = l; entries = v .entries }

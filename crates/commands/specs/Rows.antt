@@ -34,7 +34,7 @@ use Rattle.lines.specs.declared.command.Optional.the-variants.{Given, Absent}
 use Rattle.lines.specs.declared.command.Comparison.{Comparison}
 use Rattle.lines.specs.declared.command.Comparison.the-variants.{SameString, SameLetters, Equal, Less}
 use Rattle.strings.specs.Letters.{upper, alike}
-use Rattle.questions.specs.Machine.{Machine, numbered, Variables}
+use Rattle.questions.specs.Machine.{Machine, numbered, Variables, setNumbered}
 use Rattle.questions.specs.Indexes.{indexNumber, limited, indexValue}
 use Rattle.questions.specs.Asking.{asks, cellMeaning}
 use Rattle.questions.specs.Fetching.{firstOf, elementQuestion, elementQuestions, countValue, asksElements, fetchMeaning}
@@ -42,7 +42,7 @@ use Rattle.values.specs.Worth.{answered, ranged, absolute, filteredNumber, filt
 use Rattle.values.specs.Meanings.{worthOf, operandMeaning, argumentMeaning}
 use Rattle.tables.specs.declared.table.Table.{Table}
 use Rattle.coercions.specs.Settling.{settled, integerFrom, quantityFrom, stringFrom, resultOf, millionthsOf, decimalFrom, integerMeaning}
-use Rattle.assignments.specs.Setting.{integerOutcome, decimalOutcome, setNumbered, stored, newFrom, stringNew, setOf, setMeaning}
+use Rattle.assignments.specs.Setting.{integerOutcome, decimalOutcome, stored, newFrom, stringNew, setOf, setMeaning}
 use Rattle.conditions.specs.Testing.{zeroTest, zeroJudged, ofNumbers, ofStrings, isMissing, compared, zeroMeaning, testMeaning, judged}
 use Rattle.commands.specs.Fetching.{recordsMeaning}
 use Rattle.tables.specs.Looping.{loop, Looping, looping, newTable, begun, beginMeaning, exceeds, countedTo, counting, counted, endMeaning}

@@ -10,6 +10,8 @@ use lib.Dec.{leb}
 use lib.IntN.{ℤ, pos, negsuc}
 use lib.Signed.{ltZ}
 use lib.ListN.{length, drop, take, set, drop-of-length-le, length-take}
+use Rattle.questions.specs.inner.Registers.{Puts}
+use Rattle.questions.specs.Machine.{setNumbered}
 use Rattle.buffers.proofs.Laws.{map-set}
 use Rattle.shapes.specs.declared.seek.Sought.{Sought}
 use Rattle.shapes.specs.declared.seek.Skip.{Skip}
@@ -29,10 +31,8 @@ use Rattle.commands.specs.Selecting.{datasourceFrom}
 use Rattle.coercions.specs.declared.settle.Taken.{Taken}
 use Rattle.coercions.specs.declared.settle.Taken.the-variants as K
 use Rattle.questions.specs.inner.State.{headingsIn}
-use Rattle.assignments.specs.inner.Contracts.{Puts}
 use Rattle.tables.specs.Looping.{loop}
 use Rattle.tables.specs.inner.Open.{opened}
-use Rattle.assignments.specs.Setting.{setNumbered}
 use Rattle.pages.specs.declared.heading.Heading.{Heading}
 use Rattle.pages.specs.declared.page.Turned.{Turned}
 use Rattle.pages.specs.inner.Packed.{headingIn, headingsOf}

@@ -16,9 +16,9 @@ use Rattle.shapes.specs.declared.seek.Sought.the-variants.{Branch, TestEnd, Tab
 use Rattle.shapes.specs.Seek.{skipped}
 use Rattle.meaning.specs.Tree.{done, bind}
 use Rattle.meaning.specs.Meaning.{Meaning}
-use Rattle.questions.specs.Machine.{Variables}
+use Rattle.questions.specs.Machine.{Variables, setNumbered}
 use Rattle.coercions.specs.Settling.{integerMeaning}
-use Rattle.assignments.specs.Setting.{setNumbered, setMeaning}
+use Rattle.assignments.specs.Setting.{setMeaning}
 use Rattle.conditions.specs.Testing.{zeroMeaning, testMeaning}
 use Rattle.tables.specs.Looping.{Looping, innermost, beginMeaning, endMeaning}
 use Rattle.commands.specs.Fetching.{recordsMeaning, entriesMeaning}

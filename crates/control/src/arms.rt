@@ -2,11 +2,9 @@
 use crate::flow;
 use crate::state::Flow;
 use crate::state::Lined;
-use assignments::register;
 use coercions::settle::Judged;
 use coercions::settle::Taken;
 use coercions::settle::Verdict;
-use commands::clear;
 use meaning::end::Ended;
 use meaning::end::Halt;
 use meaning::refusal::Refusal;
@@ -15,9 +13,10 @@ use pages::heading::Heading;
 use pages::page;
 use pages::step::Paged;
 use questions::fetch::Fetched;
+use questions::registers;
+use questions::registers::Numbers;
+use questions::registers::Words;
 use questions::scene;
-use questions::scene::Numbers;
-use questions::scene::Words;
 use shapes::seek::Sought;
 use values::worth;
 ghost use mathlib.Core.Path.{_≡_};
@@ -200,7 +199,7 @@ pub fn fetched(
     match end {
         Ended::Halted(h, l) => onward(Ended::Halted(h, l), flow, printed, v.asked),
         Ended::Finished => {
-            register::put_word(words, from, 10, n, v.fetched);
+            registers::put_word(words, from, 10, n, v.fetched);
             went(flow, printed, v.asked)
         }
     }
@@ -233,8 +232,8 @@ pub fn section_line(
     requires { ⌜ (198 ≤ length (now numbers)) × (128 ≤ length (now words)) ⌝ }
     ensures { λ r. ⌜ Clears (now (numbers .entry)) (now (words .entry)) flow printed asked (now (numbers .exit)) (now (words .exit)) r ⌝ }
 {
-    clear::numbers(numbers);
-    clear::words(words);
+    registers::clear_numbers(numbers);
+    registers::clear_words(words);
     let next = flow::with_feeds(flow, true);
     went(next, printed, asked)
 }
@@ -252,7 +251,7 @@ pub fn heading_line(
     ensures { λ r. ⌜ Heads (now (words .entry)) n defined flow printed asked (now (words .exit)) r ⌝ }
 {
     let word = heading::packed(defined);
-    register::put_word(words, 119, 9, n, word);
+    registers::put_word(words, registers::HEADINGS, 9, n, word);
     went(flow, printed, asked)
 }
 
@@ -266,7 +265,7 @@ pub fn no_heading_line(
 ) -> Lined
     ensures { λ r. ⌜ Heads (now (words .entry)) n noHeading flow printed asked (now (words .exit)) r ⌝ }
 {
-    register::put_word(words, 119, 9, n, 0);
+    registers::put_word(words, registers::HEADINGS, 9, n, 0);
     went(flow, printed, asked)
 }
 

@@ -1,8 +1,8 @@
 // Where a run goes on, and what its lines are executed in.
 use crate::state::Flow;
 use pages::page::Page;
+use questions::registers::Words;
 use questions::scene::Scene;
-use questions::scene::Words;
 use shapes::seek;
 use shapes::seek::Sought;
 use tables::table;

@@ -7,6 +7,7 @@ use native.Mathlib.Omega.{arith}
 use lib.IntN.{ℤ, pos}
 use lib.Signed.{ltZ}
 use lib.ListN.{length, take, drop, replicate, length-take, length-drop}
+use Rattle.questions.specs.inner.Registers.{Puts}
 use Rattle.arguments.specs.declared.argument.Argument.{Argument}
 use Rattle.arguments.specs.declared.index.Index.{Index}
 use Rattle.lines.specs.declared.command.Comparison.{Comparison}
@@ -34,13 +35,13 @@ use Rattle.questions.specs.declared.scene.Scene.{Scene}
 use Rattle.questions.specs.declared.fetch.Along.{Along}
 use Rattle.questions.specs.declared.fetch.Along.the-variants.{Records, Entries}
 use Rattle.questions.specs.declared.fetch.Fetched.{Fetched}
-use Rattle.questions.specs.Machine.{Machine, Variables}
+use Rattle.questions.specs.Machine.{Variables, setNumbered}
 use Rattle.questions.specs.Fetching.{fetchMeaning}
 use Rattle.questions.specs.inner.Hearing.{placeOf}
 use Rattle.questions.specs.Indexes.{indexNumber}
 use Rattle.questions.specs.inner.Word.{questions}
 use Rattle.questions.specs.inner.Fetch.{Fetchable, FetchValue}
-use Rattle.questions.specs.inner.State.{texts, fetched, bank, integersIn, decimalsIn, lengthsIn, recordsIn, entriesIn, headingsIn, tablesIn, Held, held, machine, variablesOf}
+use Rattle.questions.specs.inner.State.{texts, fetched, bank, integersIn, decimalsIn, lengthsIn, recordsIn, entriesIn, headingsIn, tablesIn, Held, held, variablesOf}
 use Rattle.values.specs.declared.worth.Worth as W
 use Rattle.values.specs.Worth.{Worth}
 use Rattle.values.specs.inner.Yielding.{meant}
@@ -51,14 +52,14 @@ use Rattle.coercions.specs.declared.settle.Taken.{Taken}
 use Rattle.coercions.specs.declared.settle.Taken.the-variants as K
 use Rattle.coercions.specs.Settling.{Settled, concluded, integerFrom}
 use Rattle.coercions.specs.inner.Contracts.{takenOf, judgedOf, verdictOf, integerOr, Takes}
-use Rattle.assignments.specs.Setting.{setNumbered, setOf}
-use Rattle.assignments.specs.inner.Contracts.{Rowed, Puts, Assigns}
+use Rattle.assignments.specs.Setting.{setOf}
+use Rattle.assignments.specs.inner.Contracts.{Rowed, Assigns}
 use Rattle.conditions.specs.Testing.{compared}
 use Rattle.conditions.specs.inner.Contracts.{JudgesZero}
 use Rattle.tables.specs.inner.Open.{opened, openOf, beginning, passing, AtMostOpen, Stays, beginFrom, endFrom, BeginsTable, EndsTable}
 use Rattle.commands.specs.Selecting.{datasourceFrom, datasourceMeaning}
 use Rattle.commands.specs.Fetching.{withRecords, withEntries, recordsMeaning, entriesMeaning}
-use Rattle.commands.proofs.Clearing.{zeros-bank, zeros-behind, texts-cleared, fetched-cleared}
+use Rattle.questions.proofs.Clearing.{zeros-bank, zeros-behind, texts-cleared, fetched-cleared}
 use Rattle.rendering.specs.inner.Pass.{lent}
 use Rattle.pages.specs.declared.heading.Heading.{Heading}
 use Rattle.pages.specs.declared.step.Paged.{Paged}

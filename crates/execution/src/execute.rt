@@ -12,10 +12,11 @@ use pages::heading::Heading;
 use pages::step;
 use questions::fetch;
 use questions::fetch::Along;
+use questions::registers;
+use questions::registers::Numbers;
+use questions::registers::Words;
 use questions::scene;
-use questions::scene::Numbers;
 use questions::scene::Scene;
-use questions::scene::Words;
 use tables::table;
 use values::worth::Worth;
 ghost use Rattle.questions.specs.inner.State.{held};
@@ -113,11 +114,11 @@ pub fn execute<'a>(
         }
         Line::Records(f) => {
             let v = fetch::fetch(Along::Records, f, scene, numbers, log, asked, places);
-            arms::fetched(v, 99, f.number, words, flow, printed)
+            arms::fetched(v, registers::RECORDS, f.number, words, flow, printed)
         }
         Line::Entries(f) => {
             let v = fetch::fetch(Along::Entries, f, scene, numbers, log, asked, places);
-            arms::fetched(v, 109, f.number, words, flow, printed)
+            arms::fetched(v, registers::ENTRIES, f.number, words, flow, printed)
         }
         Line::Datasource(i) => {
             let place = scene::index_place(i, scene.turn, numbers);

@@ -23,7 +23,7 @@ use Rattle.lines.specs.declared.command.Operation.{Operation}
 use Rattle.lines.specs.declared.command.Target.{Target}
 use Rattle.lines.specs.declared.command.Target.the-variants.{IntegerTarget, DecimalTarget, StringTarget}
 use Rattle.questions.specs.declared.fetch.Along.the-variants.{Records, Entries}
-use Rattle.questions.specs.Machine.{Machine, numbered, Variables}
+use Rattle.questions.specs.Machine.{Machine, numbered, Variables, setNumbered}
 use Rattle.values.specs.Worth.{Worth, missing, wrong, number, string, answered, ranged, absolute, filteredNumber, filteredString, filtered, kindOf}
 use Rattle.questions.specs.Asking.{cellMeaning}
 use Rattle.questions.specs.Fetching.{element, fetchMeaning}
@@ -31,7 +31,7 @@ use Rattle.values.specs.Meanings.{worthOf, operandMeaning, argumentMeaning}
 use Rattle.values.proofs.Answering.{cell-has, fetch-has}
 use Rattle.values.proofs.Ranges.{numbered-each}
 use Rattle.coercions.specs.Settling.{Settled, settled, against, andThen, concluded, stringFrom}
-use Rattle.assignments.specs.Setting.{setNumbered, stored, stringNew, integerNew, decimalNew, withStrings, setOf, setMeaning}
+use Rattle.assignments.specs.Setting.{stored, stringNew, integerNew, decimalNew, withStrings, setOf, setMeaning}
 use Rattle.commands.specs.Fetching.{recordsMeaning, entriesMeaning}
 use Rattle.commands.proofs.Ranges as C
 use Rattle.output.specs.Printable.{Printable, Clean}

@@ -1,6 +1,6 @@
 // Headings: each of nine is kept as one number.
-use questions::scene;
-use questions::scene::Words;
+use questions::registers;
+use questions::registers::Words;
 ghost use mathlib.Core.Path.{_≡_};
 ghost use lib.ListN.{getD};
 ghost use Rattle.questions.specs.inner.State.{headingsIn};
@@ -46,7 +46,7 @@ pub fn heading_at(words: &Words, k: usize) -> Heading
     ensures { λ r. ⌜ r ≡ getD (headingsOf (headingsIn (now (words .entry)))) k noHeading ⌝ }
 {
     if k < 9 {
-        let word = scene::heading_word(words, k + 1);
+        let word = registers::heading_word(words, k + 1);
         return unpacked(word);
     }
     Heading {

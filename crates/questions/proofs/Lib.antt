@@ -4,3 +4,5 @@ pub mod Indexes
 pub mod Asking
 pub mod Recalling
 pub mod Fetches
+pub mod Puts
+pub mod Clearing

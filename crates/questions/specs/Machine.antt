@@ -2,7 +2,7 @@
 use mathlib.Core.List.{List}
 use Prim.Native.Nat.{ℕ, zero, suc}
 use lib.IntN.{ℤ}
-use lib.ListN.{getD}
+use lib.ListN.{getD, set}
 use Rattle.meaning.specs.Answer.{Answer}
 
 -- IV1, FV1, SV1, R1 and T1 are the first of their lists
@@ -29,3 +29,8 @@ pub record Machine : Type 0 where
 unfoldable pub numbered : {A : Type 0} → A → List A → ℕ → A
 numbered d l zero = d
 numbered d l (suc k) = getD l k d
+
+-- the n-th, counted from 1, is x now; a parsed line names one that is there (commands/proofs/Ranges:target-there, fetch-there)
+unfoldable pub setNumbered : {A : Type 0} → List A → ℕ → A → List A
+setNumbered l zero x = l
+setNumbered l (suc k) x = set l k x

@@ -2,3 +2,4 @@ pub mod Word
 pub mod State
 pub mod Hearing
 pub mod Fetch
+pub mod Registers

@@ -1,6 +1,6 @@
 // $REC and $TBL: what they fetched is kept as one number and looked up again, since a store doesn't change during a run.
+use crate::registers::Numbers;
 use crate::scene;
-use crate::scene::Numbers;
 use crate::scene::Scene;
 use crate::word;
 use cells::Answered;

@@ -45,12 +45,12 @@ use Rattle.template.specs.Order.{acceptedRun, sectionChecked, unlessFault, name
 use Rattle.template.specs.Sections.{endAt, selects, sectionFrom, sectionEnd, runFrom as templateRunFrom, selected}
 use Rattle.template.specs.Rows.{lines}
 use Rattle.strings.specs.Letters.{upper, alike}
-use Rattle.questions.specs.Machine.{numbered}
+use Rattle.questions.specs.Machine.{numbered, setNumbered}
 use Rattle.values.specs.Worth.{ranged, absolute, filteredNumber, filteredString, filtered, kindOf as valuesKindOf}
 use Rattle.values.specs.Meanings.{operandMeaning, argumentMeaning}
 use Rattle.tables.specs.Looping.{begun, beginMeaning, exceeds, counting, counted, endMeaning, loop}
 use Rattle.coercions.specs.Settling.{integerFrom, integerMeaning, resultOf, millionthsOf, quantityFrom, decimalFrom, stringFrom}
-use Rattle.assignments.specs.Setting.{setNumbered, decimalOutcome, newFrom, integerOutcome, stored, stringNew, setOf, setMeaning}
+use Rattle.assignments.specs.Setting.{decimalOutcome, newFrom, integerOutcome, stored, stringNew, setOf, setMeaning}
 use Rattle.conditions.specs.Testing.{isMissing, ofNumbers, ofStrings, compared, testMeaning, zeroTest, zeroJudged, zeroMeaning, judged}
 use Rattle.texts.specs.Pieces.{read, piecesOf}
 use Rattle.rendering.specs.Text.{textMeaning}

@@ -3,8 +3,9 @@ use coercions::settle::Judged;
 use coercions::settle::Taken;
 use meaning::refusal::Refusal;
 use numbers::sign;
+use questions::registers;
+use questions::registers::Words;
 use questions::scene;
-use questions::scene::Words;
 use values::worth;
 ghost use mathlib.Core.Path.{_≡_};
 ghost use Prim.Native.Nat.{_<_};
@@ -45,7 +46,7 @@ fn table_in(words: &Words, i: usize) -> Table
     requires { ⌜ i < 5 ⌝ }
     ensures { λ r. ⌜ r ≡ tableIn (tablesIn (now (words .entry))) i ⌝ }
 {
-    let k = 128 + i * 4;
+    let k = registers::TABLES + i * 4;
     let counter = words[k];
     let last = words[k + 1];
     let start = words[k + 2];
@@ -85,7 +86,7 @@ fn pushed(words: &mut Words, depth: usize, table: Table)
     requires { ⌜ AtMostOpen 4 (now words) depth ⌝ }
     ensures { λ _. ⌜ Pushes (now (words .entry)) depth table (now (words .exit)) ⌝ }
 {
-    let k = 128 + depth * 4;
+    let k = registers::TABLES + depth * 4;
     words[k] = table.counter as u64;
     words[k + 1] = table.last;
     words[k + 2] = table.start as u64;

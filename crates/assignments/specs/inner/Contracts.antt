@@ -4,6 +4,7 @@ use mathlib.Core.List.{List}
 use Prim.Native.Nat.{ℕ, _+_, _≤_}
 use lib.IntN.{ℤ}
 use lib.ListN.{length}
+use Rattle.questions.specs.Machine.{setNumbered}
 use Rattle.meaning.specs.Answer.{Answer}
 use Rattle.meaning.specs.declared.question.Question.{Question}
 use Rattle.lines.specs.declared.command.Operation.{Operation}
@@ -15,17 +16,11 @@ use Rattle.values.specs.inner.Yielding.{meant}
 use Rattle.coercions.specs.declared.settle.Taken.{Taken}
 use Rattle.coercions.specs.declared.settle.Verdict.{Verdict}
 use Rattle.coercions.specs.inner.Contracts.{takenOf, verdictOf, mapped}
-use Rattle.assignments.specs.Setting.{setNumbered, stored, stringNew, setOf}
+use Rattle.assignments.specs.Setting.{stored, stringNew, setOf}
 
 -- "SV1–SV99": a row for each
 pub record Rowed (rows : List (List ℕ)) : Type 0 where
   pub rows-held : length rows ≡ 99
-
--- the n-th of a part is x now, any other what it was, and so is every other part
-pub record Puts {A : Type 0} (l : List A) (from size n : ℕ) (x : A) (l′ : List A) : Type 0 where
-  pub own : bank from size l′ ≡ setNumbered (bank from size l) n x
-  pub below : (i k : ℕ) → i + k ≤ from → bank i k l′ ≡ bank i k l
-  pub above : (i k : ℕ) → from + size ≤ i → bank i k l′ ≡ bank i k l
 
 -- a result as the n-th of IV or FV, or the refusal
 pub record StoresNumber (numbers : List ℤ) (from n : ℕ) (t : Taken) (numbers′ : List ℤ) (r : Verdict) : Type 0 where

@@ -7,6 +7,8 @@ use lib.Dec.{leb}
 use lib.IntN.{ℤ, pos}
 use lib.Signed.{ltZ}
 use lib.ListN.{length, drop, replicate}
+use Rattle.questions.specs.inner.Registers.{Puts}
+use Rattle.questions.specs.Machine.{setNumbered}
 use Rattle.shapes.specs.declared.seek.Sought.the-variants.{Branch, TableEnd}
 use Rattle.meaning.specs.Answer.{Answer}
 use Rattle.meaning.specs.Place.{at, Does}
@@ -21,8 +23,6 @@ use Rattle.coercions.specs.declared.settle.Taken.the-variants as K
 use Rattle.coercions.specs.Settling.{Settled, settled, against}
 use Rattle.questions.specs.declared.fetch.Fetched.{Fetched}
 use Rattle.questions.specs.inner.State.{bank, headingsIn, tablesIn}
-use Rattle.assignments.specs.Setting.{setNumbered}
-use Rattle.assignments.specs.inner.Contracts.{Puts}
 use Rattle.pages.specs.declared.heading.Heading.{Heading}
 use Rattle.pages.specs.inner.Packed.{headingsOf}
 use Rattle.pages.specs.Page.{breakMeaning}

@@ -17,7 +17,7 @@ use Rattle.coercions.specs.inner.Contracts.{integerOr}
 use Rattle.assignments.specs.Setting.{setOf}
 use Rattle.conditions.specs.Testing.{zeroJudged, compared}
 use Rattle.tables.specs.inner.Open.{beginFrom, endFrom}
-use Rattle.control.specs.State.{State, seen, withVariables}
+use Rattle.control.specs.State.{State, withVariables}
 use Rattle.control.specs.Line.{branched, tableBegun, tableEnded, breakingFor, formMeaning}
 
 unfoldable pub optionalInput : Optional → Inputs

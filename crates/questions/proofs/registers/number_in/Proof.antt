@@ -9,8 +9,8 @@ use denote.Ref.{now}
 use Prim.Native.Nat.{_+_, _-_}
 use mathlib.Core.Path.{_∙_}
 use borrow.Author.Needs.{needs}
-use Rattle.questions.proofs.scene.number_in.Statement.{statement}
-use Rattle.questions.proofs.scene.number_in.Tie as tie
+use Rattle.questions.proofs.registers.number_in.Statement.{statement}
+use Rattle.questions.proofs.registers.number_in.Tie as tie
 
 returns : tie.Need-returns
 returns c = numbered-none _ _ _ (c .if1 .taken)

@@ -1,8 +1,8 @@
 -- The definition counts from 1, and a part from its start on.
 use Rattle.questions.proofs.Lists.{numbered-none, bank-past, bank-in}
 use borrow.Author.Needs.{needs}
-use Rattle.questions.proofs.scene.word_in.Statement.{statement}
-use Rattle.questions.proofs.scene.word_in.Tie as tie
+use Rattle.questions.proofs.registers.word_in.Statement.{statement}
+use Rattle.questions.proofs.registers.word_in.Tie as tie
 
 returns : tie.Need-returns
 returns c = numbered-none _ _ _ (c .if1 .taken)
