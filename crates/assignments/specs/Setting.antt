@@ -47,7 +47,7 @@ integerNew o a = newFrom integerFrom (integerOutcome o a)
 abbrev pub decimalNew : Operation → ℤ → Worth → Settled ℤ
 decimalNew o a = newFrom decimalFrom (decimalOutcome o a)
 
--- "SV takes a string"; "SV1–SV99 hold up to 16 bytes each". No string of a run has more, so none is cut (commands/proofs/Ranges:string-whole).
+-- "SV takes a string"; "SV1–SV99 hold up to 16 bytes each". No string of a run has more, so none is cut (control/proofs/Ranges:string-whole).
 unfoldable pub stringNew : Worth → Settled (List ℕ)
 stringNew w = andThen (stringFrom w) (λ s. settled (take 16 s))
 

@@ -27,7 +27,7 @@ use Rattle.questions.specs.declared.scene.Scene.{Scene}
 use Rattle.questions.specs.declared.fetch.Fetched.{Fetched}
 use Rattle.questions.specs.inner.Hearing.{placeOf}
 use Rattle.coercions.specs.Settling.{Settled, settled, against}
-use Rattle.commands.specs.Selecting.{datasourceFrom}
+use Rattle.control.specs.Selecting.{datasourceFrom}
 use Rattle.coercions.specs.declared.settle.Taken.{Taken}
 use Rattle.coercions.specs.declared.settle.Taken.the-variants as K
 use Rattle.questions.specs.inner.State.{headingsIn}

@@ -1,3 +1,6 @@
+pub mod Giving
+pub mod Ranges
+pub mod Allowed
 pub mod Following
 pub mod Commanding
 pub mod Forms

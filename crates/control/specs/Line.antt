@@ -21,8 +21,8 @@ use Rattle.coercions.specs.Settling.{integerMeaning}
 use Rattle.assignments.specs.Setting.{setMeaning}
 use Rattle.conditions.specs.Testing.{zeroMeaning, testMeaning}
 use Rattle.tables.specs.Looping.{Looping, innermost, beginMeaning, endMeaning}
-use Rattle.commands.specs.Fetching.{recordsMeaning, entriesMeaning}
-use Rattle.commands.specs.Selecting.{datasourceMeaning}
+use Rattle.control.specs.Fetching.{recordsMeaning, entriesMeaning}
+use Rattle.control.specs.Selecting.{datasourceMeaning}
 use Rattle.pages.specs.declared.heading.Heading.{Heading}
 use Rattle.pages.specs.Heading.{noHeading}
 use Rattle.pages.specs.Page.{breakMeaning, lineStep}

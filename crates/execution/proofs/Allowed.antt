@@ -24,9 +24,9 @@ use Rattle.coercions.specs.Settling.{integerMeaning}
 use Rattle.assignments.specs.Setting.{setMeaning}
 use Rattle.conditions.specs.Testing.{zeroMeaning, testMeaning}
 use Rattle.tables.specs.Looping.{beginMeaning, endMeaning}
-use Rattle.commands.specs.Fetching.{recordsMeaning, entriesMeaning}
-use Rattle.commands.specs.Selecting.{datasourceMeaning}
-use Rattle.commands.proofs.Allowed.{set-asks, integer-asks, zero-asks, test-asks, begin-asks, end-asks, records-asks, entries-asks, datasource-asks}
+use Rattle.control.specs.Fetching.{recordsMeaning, entriesMeaning}
+use Rattle.control.specs.Selecting.{datasourceMeaning}
+use Rattle.control.proofs.Allowed.{set-asks, integer-asks, zero-asks, test-asks, begin-asks, end-asks, records-asks, entries-asks, datasource-asks}
 use Rattle.pages.specs.Page.{breakMeaning, lineStep}
 use Rattle.pages.proofs.Allowed.{step-asks}
 use Rattle.control.specs.State.{State, seen, withVariables, withDatasource, withPage}

@@ -57,8 +57,8 @@ use Rattle.assignments.specs.inner.Contracts.{Rowed, Assigns}
 use Rattle.conditions.specs.Testing.{compared}
 use Rattle.conditions.specs.inner.Contracts.{JudgesZero}
 use Rattle.tables.specs.inner.Open.{opened, openOf, beginning, passing, AtMostOpen, Stays, beginFrom, endFrom, BeginsTable, EndsTable}
-use Rattle.commands.specs.Selecting.{datasourceFrom, datasourceMeaning}
-use Rattle.commands.specs.Fetching.{withRecords, withEntries, recordsMeaning, entriesMeaning}
+use Rattle.control.specs.Selecting.{datasourceFrom, datasourceMeaning}
+use Rattle.control.specs.Fetching.{withRecords, withEntries, recordsMeaning, entriesMeaning}
 use Rattle.questions.proofs.Clearing.{zeros-bank, zeros-behind, texts-cleared, fetched-cleared}
 use Rattle.rendering.specs.inner.Pass.{lent}
 use Rattle.pages.specs.declared.heading.Heading.{Heading}

@@ -29,11 +29,11 @@ use Rattle.coercions.specs.Settling.{integerMeaning}
 use Rattle.assignments.specs.Setting.{setMeaning}
 use Rattle.conditions.specs.Testing.{zeroMeaning, testMeaning}
 use Rattle.tables.specs.Looping.{Looping, innermost, beginMeaning, endMeaning}
-use Rattle.commands.specs.Fetching.{recordsMeaning, entriesMeaning}
-use Rattle.commands.specs.Selecting.{datasourceMeaning}
-use Rattle.commands.proofs.Giving as G
-use Rattle.commands.proofs.Giving.{loop-bounded, Selectable, datasource-gives}
-use Rattle.commands.proofs.Ranges.{Held, held, gives-yields, set-within, begin-within, end-within, records-within, entries-within}
+use Rattle.control.specs.Fetching.{recordsMeaning, entriesMeaning}
+use Rattle.control.specs.Selecting.{datasourceMeaning}
+use Rattle.control.proofs.Giving as G
+use Rattle.control.proofs.Giving.{loop-bounded, Selectable, datasource-gives}
+use Rattle.control.proofs.Ranges.{Held, held, gives-yields, set-within, begin-within, end-within, records-within, entries-within}
 use Rattle.pages.specs.declared.page.Page.{Page}
 use Rattle.pages.specs.Page.{breakMeaning, lineStep}
 use Rattle.control.specs.State.{State, seen, withPlace, withVariables, withDatasource, withTables, withPage, noVariables, cleared}

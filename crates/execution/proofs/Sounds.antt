@@ -36,10 +36,10 @@ use Rattle.coercions.specs.Settling.{integerMeaning}
 use Rattle.assignments.specs.Setting.{setMeaning}
 use Rattle.conditions.specs.Testing.{zeroMeaning, testMeaning}
 use Rattle.tables.specs.Looping.{Looping, innermost, newTable, countedTo, beginMeaning, endMeaning}
-use Rattle.commands.specs.Fetching.{recordsMeaning, entriesMeaning}
-use Rattle.commands.specs.Selecting.{datasourceMeaning}
-use Rattle.commands.proofs.Giving.{Shaped, numbered-length, set-gives, records-gives, entries-gives, integer-gives, zero-gives, test-gives, Begun, skipped, opened, Counting, ended, again, begin-gives, end-gives, Selectable, datasource-gives}
-use Rattle.commands.proofs.Ranges.{numbered-each}
+use Rattle.control.specs.Fetching.{recordsMeaning, entriesMeaning}
+use Rattle.control.specs.Selecting.{datasourceMeaning}
+use Rattle.control.proofs.Giving.{Shaped, numbered-length, set-gives, records-gives, entries-gives, integer-gives, zero-gives, test-gives, Begun, skipped, opened, Counting, ended, again, begin-gives, end-gives, Selectable, datasource-gives}
+use Rattle.control.proofs.Ranges.{numbered-each}
 use Rattle.pages.specs.declared.page.Page.{Page}
 use Rattle.pages.specs.declared.heading.Heading.{Heading}
 use Rattle.pages.specs.Heading.{noHeading}

@@ -32,8 +32,8 @@ use Rattle.values.proofs.Answering.{cell-has, fetch-has}
 use Rattle.values.proofs.Ranges.{numbered-each}
 use Rattle.coercions.specs.Settling.{Settled, settled, against, andThen, concluded, stringFrom}
 use Rattle.assignments.specs.Setting.{stored, stringNew, integerNew, decimalNew, withStrings, setOf, setMeaning}
-use Rattle.commands.specs.Fetching.{recordsMeaning, entriesMeaning}
-use Rattle.commands.proofs.Ranges as C
+use Rattle.control.specs.Fetching.{recordsMeaning, entriesMeaning}
+use Rattle.control.proofs.Ranges as C
 use Rattle.output.specs.Printable.{Printable, Clean}
 use Rattle.output.proofs.Bytes.{each-take, each-drop, upper-clean}
 use Rattle.output.proofs.Fields.{WorthClean}

@@ -30,7 +30,7 @@ unfoldable pub numbered : {A : Type 0} → A → List A → ℕ → A
 numbered d l zero = d
 numbered d l (suc k) = getD l k d
 
--- the n-th, counted from 1, is x now; a parsed line names one that is there (commands/proofs/Ranges:target-there, fetch-there)
+-- the n-th, counted from 1, is x now; a parsed line names one that is there (control/proofs/Ranges:target-there, fetch-there)
 unfoldable pub setNumbered : {A : Type 0} → List A → ℕ → A → List A
 setNumbered l zero x = l
 setNumbered l (suc k) x = set l k x

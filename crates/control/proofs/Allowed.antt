@@ -27,9 +27,9 @@ use Rattle.tables.specs.declared.table.Table.{Table}
 use Rattle.coercions.specs.Settling.{Settled, settled, against, concluded, integerFrom, integerMeaning}
 use Rattle.assignments.specs.Setting.{setOf, setMeaning}
 use Rattle.conditions.specs.Testing.{zeroJudged, compared, zeroMeaning, testMeaning}
-use Rattle.commands.specs.Fetching.{withRecords, withEntries, recordsMeaning, entriesMeaning}
+use Rattle.control.specs.Fetching.{withRecords, withEntries, recordsMeaning, entriesMeaning}
 use Rattle.tables.specs.Looping.{begun, beginMeaning, counted, endMeaning}
-use Rattle.commands.specs.Selecting.{datasourceFrom, datasourceMeaning}
+use Rattle.control.specs.Selecting.{datasourceFrom, datasourceMeaning}
 
 concluded-asks : {A : Type 0} (line : ℕ) (x : Settled A) → AsksAllowed (concluded line x)
 concluded-asks line (settled a) = tt

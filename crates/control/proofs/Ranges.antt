@@ -38,9 +38,9 @@ use Rattle.values.proofs.Ranges.{IntegerWithin, DecimalWithin, Short, WorthWith
 use Rattle.tables.specs.declared.table.Table.{Table}
 use Rattle.coercions.specs.Settling.{Settled, settled, against, concluded, integerFrom, quantityFrom, stringFrom, resultOf, millionthsOf, decimalFrom, integerMeaning}
 use Rattle.assignments.specs.Setting.{integerOutcome, decimalOutcome, stored, newFrom, integerNew, decimalNew, stringNew, setOf, setMeaning}
-use Rattle.commands.specs.Fetching.{withRecords, withEntries, recordsMeaning, entriesMeaning}
+use Rattle.control.specs.Fetching.{withRecords, withEntries, recordsMeaning, entriesMeaning}
 use Rattle.tables.specs.Looping.{begun, beginMeaning, endMeaning}
-use Rattle.commands.proofs.Giving.{Whenever, whenever-then, numbered-length, Counting, end-gives, Bounded, begun-bounded, counting-bounded}
+use Rattle.control.proofs.Giving.{Whenever, whenever-then, numbered-length, Counting, end-gives, Bounded, begun-bounded, counting-bounded}
 
 -- what a tree that only asks gives, it yields
 pub gives-yields : {A : Type 0} (t : Meaning A) (Φ : A → Type 0) → Gives t Φ → Yields AnswerWithin t Φ

@@ -32,9 +32,9 @@ use Rattle.tables.specs.declared.table.Table.{Table}
 use Rattle.coercions.specs.Settling.{Settled, settled, against, andThen, concluded, integerFrom, integerMeaning}
 use Rattle.assignments.specs.Setting.{stored, setOf, setMeaning}
 use Rattle.conditions.specs.Testing.{zeroJudged, compared, zeroMeaning, testMeaning}
-use Rattle.commands.specs.Fetching.{withRecords, withEntries, recordsMeaning, entriesMeaning}
+use Rattle.control.specs.Fetching.{withRecords, withEntries, recordsMeaning, entriesMeaning}
 use Rattle.tables.specs.Looping.{loop, Looping, looping, newTable, begun, beginMeaning, innermost, exceeds, countedTo, counting, counted, endMeaning}
-use Rattle.commands.specs.Selecting.{datasourceFrom, datasourceMeaning}
+use Rattle.control.specs.Selecting.{datasourceFrom, datasourceMeaning}
 
 -- Φ a where x is settled with a
 abbrev pub Whenever : {A : Type 0} → Settled A → (A → Type 0) → Type 0

@@ -1,3 +1,0 @@
-pub mod Giving
-pub mod Ranges
-pub mod Allowed

@@ -1,3 +1,0 @@
-pub mod Fetching
-pub mod Selecting
-pub mod Rows
