@@ -3,5 +3,4 @@ pub mod Arms
 pub mod Held
 pub mod Sound
 pub mod Executing
-pub mod Updating
 pub mod Forms
