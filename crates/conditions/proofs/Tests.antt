@@ -1,15 +1,19 @@
 -- Tests: one law for each return of the code.
-use mathlib.Core.Path.{_≡_, sym, ap, _∙_}
+use mathlib.Core.Path.{_≡_, refl, sym, ap, _∙_}
 use mathlib.Core.Bool.{Bool, true, false, not}
+use Prim.Native.Nat.{ℕ}
+use native.Mathlib.Omega.{arith}
 use Rattle.meaning.specs.declared.refusal.Refusal.{Refusal}
 use Rattle.meaning.specs.declared.refusal.Refusal.the-variants as R
 use Rattle.numbers.specs.declared.Quantity.{Quantity}
 use Rattle.numbers.specs.Order.{isZero}
 use Rattle.lines.specs.declared.command.Comparison.{Comparison}
+use Rattle.lines.specs.declared.command.Comparison.the-variants.{SameString, SameLetters, Equal, NotEqual, Less, AtMost, Greater, AtLeast}
 use Rattle.strings.specs.declared.part.Text.{Text}
 use Rattle.strings.specs.Letters.{equalStrings}
 use Rattle.strings.specs.inner.Texts.{Strings, textOf}
 use Rattle.values.specs.declared.worth.Worth.{Worth}
+use Rattle.values.specs.Worth as D
 use Rattle.values.specs.inner.Yielding.{meant}
 use Rattle.coercions.specs.declared.settle.Amount.{Amount}
 use Rattle.coercions.specs.declared.settle.Amount.the-variants.{Number, NoNumber}
@@ -19,7 +23,9 @@ use Rattle.coercions.specs.declared.settle.Judged.{Judged}
 use Rattle.coercions.specs.declared.settle.Judged.the-variants.{Holds, Refused}
 use Rattle.coercions.specs.Settling.{settled, against}
 use Rattle.conditions.specs.Testing.{zeroTest, zeroJudged, ofNumbers, ofStrings, judged, compared}
-use Rattle.conditions.specs.inner.Kinds.{numbersHold}
+use Rattle.conditions.specs.inner.Kinds.{kindOf, numbersHold}
+use Rattle.conditions.specs.declared.test.Kind.{Kind}
+use Rattle.conditions.specs.declared.test.Kind.the-variants as K
 use Rattle.conditions.specs.inner.Contracts.{Lacks, JudgesNumbers, JudgesZero}
 use Rattle.coercions.specs.inner.Contracts.{judgedOf, TakesQuantity, TakesText}
 
@@ -53,12 +59,28 @@ module _ (s : Strings) (i : Bool) (v w : Worth) (a : Phrase) (d : TakesText v a)
     unfolding ofStrings
     strings-both q r k e = rw (← (d .same s), ← (d′ .same s), h, k, e)
 
--- a test of numbers, as the code has it
-pub of-numbers : (s : Strings) (c k : Comparison) (v w : Worth) (r : Judged) → c ≡ k → JudgesNumbers c v w r → ofNumbers (numbersHold k) (meant s v) (meant s w) ≡ judged k (meant s v) (meant s w) → judgedOf r ≡ judged c (meant s v) (meant s w)
-of-numbers s c k v w r e d h = d .same s ∙ ap (λ x. ofNumbers (numbersHold x) (meant s v) (meant s w)) e ∙ h ∙ ap (λ x. judged x (meant s v) (meant s w)) (sym e)
+-- a test of strings, and one of numbers, as the code has them
+kind-strings : (c : Comparison) (i : Bool) (v w : D.Worth) → K.Strings i ≡ kindOf c → judged c v w ≡ ofStrings i v w
+unfolding judged kindOf
+kind-strings SameString i v w h = let e : i ≡ false = cc in rw e
+kind-strings SameLetters i v w h = let e : i ≡ true = cc in rw e
+kind-strings Equal i v w h = absurd (let z : _≡_ {A = ℕ} 0 1 = cc in omega arith)
+kind-strings NotEqual i v w h = absurd (let z : _≡_ {A = ℕ} 0 1 = cc in omega arith)
+kind-strings Less i v w h = absurd (let z : _≡_ {A = ℕ} 0 1 = cc in omega arith)
+kind-strings AtMost i v w h = absurd (let z : _≡_ {A = ℕ} 0 1 = cc in omega arith)
+kind-strings Greater i v w h = absurd (let z : _≡_ {A = ℕ} 0 1 = cc in omega arith)
+kind-strings AtLeast i v w h = absurd (let z : _≡_ {A = ℕ} 0 1 = cc in omega arith)
 
-pub of-strings : (s : Strings) (c k : Comparison) (i : Bool) (v w : Worth) (r : Judged) → c ≡ k → judgedOf r ≡ ofStrings i (meant s v) (meant s w) → ofStrings i (meant s v) (meant s w) ≡ judged k (meant s v) (meant s w) → judgedOf r ≡ judged c (meant s v) (meant s w)
-of-strings s c k i v w r e d h = d ∙ h ∙ ap (λ x. judged x (meant s v) (meant s w)) (sym e)
+kind-numbers : (c : Comparison) (v w : D.Worth) → K.Numbers ≡ kindOf c → judged c v w ≡ ofNumbers (numbersHold c) v w
+unfolding judged kindOf numbersHold
+kind-numbers SameString v w h = absurd (let z : _≡_ {A = ℕ} 0 1 = cc in omega arith)
+kind-numbers SameLetters v w h = absurd (let z : _≡_ {A = ℕ} 0 1 = cc in omega arith)
+kind-numbers Equal v w h = refl
+kind-numbers NotEqual v w h = refl
+kind-numbers Less v w h = refl
+kind-numbers AtMost v w h = refl
+kind-numbers Greater v w h = refl
+kind-numbers AtLeast v w h = refl
 
 module _ (s : Strings) (c : Comparison) (v w : Worth) (a : Bool) (d : Lacks v a) where
   pub compared-first : a ≡ true → against R.MissingArgument ≡ compared c (meant s v) (meant s w)
@@ -70,9 +92,14 @@ module _ (s : Strings) (c : Comparison) (v w : Worth) (a : Bool) (d : Lacks v a)
     unfolding compared
     compared-second k = rw (← (d .same s), ← (d′ .same s), h, k)
 
-    pub compared-both : b ≡ false → (r : Judged) → judgedOf r ≡ judged c (meant s v) (meant s w) → judgedOf r ≡ compared c (meant s v) (meant s w)
-    unfolding compared
-    compared-both k r x = rw (← (d .same s), ← (d′ .same s), h, k) x
+    module _ (k : b ≡ false) (x : Kind) (e : x ≡ kindOf c) (r : Judged) where
+      pub compared-strings : (i : Bool) → x ≡ K.Strings i → judgedOf r ≡ ofStrings i (meant s v) (meant s w) → judgedOf r ≡ compared c (meant s v) (meant s w)
+      unfolding compared
+      compared-strings i j y = rw (← (d .same s), ← (d′ .same s), h, k, kind-strings c i (meant s v) (meant s w) (sym j ∙ e)) y
+
+      pub compared-numbers : x ≡ K.Numbers → JudgesNumbers c v w r → judgedOf r ≡ compared c (meant s v) (meant s w)
+      unfolding compared
+      compared-numbers j y = rw (← (d .same s), ← (d′ .same s), h, k, kind-numbers c (meant s v) (meant s w) (sym j ∙ e)) (y .same s)
 
 module _ (zero : Bool) (w : Worth) (a : Amount) (d : TakesQuantity w a) where
   pub zero-refused : (e : Refusal) → a ≡ NoNumber e → JudgesZero zero w (Refused e)

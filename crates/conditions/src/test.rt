@@ -28,6 +28,27 @@ fn lacks(worth: Worth) -> bool
     }
 }
 
+// What is compared: two numbers, or two strings, whose case may be ignored.
+pub enum Kind {
+    Numbers,
+    Strings(bool),
+}
+
+fn kind_of(c: Comparison) -> Kind
+    ensures { λ r. ⌜ r ≡ K.kindOf c ⌝ }
+{
+    match c {
+        Comparison::SameString => Kind::Strings(false),
+        Comparison::SameLetters => Kind::Strings(true),
+        Comparison::Equal => Kind::Numbers,
+        Comparison::NotEqual => Kind::Numbers,
+        Comparison::Less => Kind::Numbers,
+        Comparison::AtMost => Kind::Numbers,
+        Comparison::Greater => Kind::Numbers,
+        Comparison::AtLeast => Kind::Numbers,
+    }
+}
+
 fn numbers_hold(c: Comparison, p: Quantity, q: Quantity) -> bool
     ensures { λ r. ⌜ r ≡ K.numbersHold c p q ⌝ }
 {
@@ -98,29 +119,6 @@ fn strings_judged<'a>(
     }
 }
 
-// 11 over both
-fn judged<'a>(
-    line: &'a [u8],
-    store: &'a [u8],
-    strings: &[[u8; 16]; 99],
-    c: Comparison,
-    v: Worth,
-    w: Worth,
-) -> Judged
-    ensures { λ r. ⌜ judgedOf r ≡ T.judged c (meant (stringsOf (now (line .entry)) (now (store .entry)) (now (strings .entry))) v) (meant (stringsOf (now (line .entry)) (now (store .entry)) (now (strings .entry))) w) ⌝ }
-{
-    match c {
-        Comparison::SameString => strings_judged(line, store, strings, false, v, w),
-        Comparison::SameLetters => strings_judged(line, store, strings, true, v, w),
-        Comparison::Equal => numbers_judged(c, v, w),
-        Comparison::NotEqual => numbers_judged(c, v, w),
-        Comparison::Less => numbers_judged(c, v, w),
-        Comparison::AtMost => numbers_judged(c, v, w),
-        Comparison::Greater => numbers_judged(c, v, w),
-        Comparison::AtLeast => numbers_judged(c, v, w),
-    }
-}
-
 // $IFEQ to $IFGE, $IFEQSS, $IFEQSI: 10 over both, then 11 over both
 pub fn compare<'a>(
     line: &'a [u8],
@@ -138,7 +136,11 @@ pub fn compare<'a>(
     if lacks(w) {
         return Judged::Refused(Refusal::MissingArgument);
     }
-    judged(line, store, strings, c, v, w)
+    let kind = kind_of(c);
+    match kind {
+        Kind::Numbers => numbers_judged(c, v, w),
+        Kind::Strings(ignoring) => strings_judged(line, store, strings, ignoring, v, w),
+    }
 }
 
 // $IFNOT, $IF

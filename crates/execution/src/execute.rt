@@ -112,12 +112,17 @@ pub fn execute<'a>(
             let judged = table::end_table(k, words, flow.depth);
             arms::ended(judged, scene.number, words, flow, printed, asked)
         }
+        // A fetch is lent copies: what the line is executed in needn't lie in memory then.
         Line::Records(f) => {
-            let v = fetch::fetch(Along::Records, f, scene, numbers, log, asked, places);
+            let here = scene;
+            let wanted = f;
+            let v = fetch::fetch(Along::Records, wanted, here, numbers, log, asked, places);
             arms::fetched(v, registers::RECORDS, f.number, words, flow, printed)
         }
         Line::Entries(f) => {
-            let v = fetch::fetch(Along::Entries, f, scene, numbers, log, asked, places);
+            let here = scene;
+            let wanted = f;
+            let v = fetch::fetch(Along::Entries, wanted, here, numbers, log, asked, places);
             arms::fetched(v, registers::ENTRIES, f.number, words, flow, printed)
         }
         Line::Datasource(i) => {
