@@ -102,10 +102,10 @@ datasource-in n h k = rw (le-leb 1 n h, le-leb n 35 k)
 
 module _ (from n : ℕ) (v : Fetched) (words : List ℕ) (f : Flow) (u : ℕ) (r : Lined) where
   pub refill-over : (h : Halt) (l : ℕ) → v .end ≡ Halted h l → r ≡ endedIn (Halted h l) f u (v .asked) → Refills from n v words f u words r
-  refill-over h l e i = record { went = rw e i; puts = λ q. absurd (let z : _≡_ {A = ℕ} 0 1 = cc in omega arith); tables = refl }
+  refill-over h l e i = record { went = rw e i; puts = λ q. absurd (let z : _≡_ {A = ℕ} 0 1 = cc in omega arith); kept = λ _ _ _. refl; tables = refl }
 
   pub refills : v .end ≡ Finished → from + 10 ≤ 128 → (words′ : List ℕ) → Puts words from 10 n (v .fetched) words′ → r ≡ endedIn Finished f u (v .asked) → Refills from n v words f u words′ r
-  refills e k words′ p i = record { went = rw e i; puts = λ _. p; tables = p .above 128 20 k }
+  refills e k words′ p i = record { went = rw e i; puts = λ _. p; kept = λ h l q. absurd (let z : _≡_ {A = ℕ} 0 1 = cc in omega arith); tables = p .above 128 20 k }
 
 -- ---- a break, and $NP
 

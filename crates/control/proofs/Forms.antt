@@ -71,7 +71,7 @@ module _ (t : List ℕ) (start l : ℕ) (body : List ℕ) (s : State) where
   form-inputs form.Else = refl
   form-inputs form.EndIf = refl
   form-inputs (form.BeginTable a) =
-      ap (λ m. bind m (λ y. done (tableBegun t s y))) (integer-then a (λ z. settled (begun (s .tables) (s .due .at) (s .due .line) z))) ∙ one a (λ w. beginFrom (s .tables) (s .due .at) (s .due .line) (integerFrom w)) (tableBegun t s)
+      ap (λ m. bind m (λ y. done (tableBegun t s y))) (integer-then a (λ z. settled (begun (s .tables) (s .position .at) (s .position .line) z))) ∙ one a (λ w. beginFrom (s .tables) (s .position .at) (s .position .line) (integerFrom w)) (tableBegun t s)
   form-inputs (form.EndTable k) = end-inputs k
   form-inputs (form.Records f) = refl
   form-inputs (form.Entries f) = refl

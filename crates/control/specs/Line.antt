@@ -26,15 +26,15 @@ use Rattle.control.specs.Selecting.{datasourceMeaning}
 use Rattle.pages.specs.declared.heading.Heading.{Heading}
 use Rattle.pages.specs.Heading.{noHeading}
 use Rattle.pages.specs.Page.{breakMeaning, lineStep}
-use Rattle.control.specs.State.{State, seen, withPlace, withVariables, withDatasource, withTables, withLayout, withPage, cleared}
+use Rattle.control.specs.State.{State, seen, withPosition, withVariables, withDatasource, withTables, withLayout, withPage, cleared}
 
 -- behind a line of n bytes
 abbrev pub past : State → ℕ → State
-past s n = withPlace s (s .due .at + n + 1) (s .due .line + 1)
+past s n = withPosition s (s .position .at + n + 1) (s .position .line + 1)
 
 -- behind the line that matches
 abbrev pub jumped : List ℕ → State → Sought → State
-jumped t s q = withPlace s (s .due .at + skipped (drop (s .due .at) t) q .bytes) (s .due .line + skipped (drop (s .due .at) t) q .lines)
+jumped t s q = withPosition s (s .position .at + skipped (drop (s .position .at) t) q .bytes) (s .position .line + skipped (drop (s .position .at) t) q .lines)
 
 -- ---- each is a line with its number l and its bytes, and s is the state behind it
 
@@ -57,7 +57,7 @@ tableBegun t s x = cond (x .jumps) (jumped t s TableEnd) (withTables s (x .table
 -- "else goes to the line after $BT"
 unfoldable pub tableEnded : State → Looping → State
 tableEnded s x =
-    cond (x .jumps) (withPlace (withTables s (x .tables)) (innermost (x .tables) .start) (innermost (x .tables) .line)) (withTables s (x .tables))
+    cond (x .jumps) (withPosition (withTables s (x .tables)) (innermost (x .tables) .start) (innermost (x .tables) .line)) (withTables s (x .tables))
 
 -- "$NP breaks always"
 unfoldable pub breaking : ℕ → State → Meaning State
@@ -89,7 +89,7 @@ formMeaning t start l body s (form.Compare c a b) = testing t s (testMeaning (se
 formMeaning t start l body s form.Else = done (jumped t s TestEnd)
 formMeaning t start l body s form.EndIf = done s
 formMeaning t start l body s (form.BeginTable a) =
-    bind (beginMeaning (seen s) body l (s .tables) (s .due .at) (s .due .line) a) (λ x. done (tableBegun t s x))
+    bind (beginMeaning (seen s) body l (s .tables) (s .position .at) (s .position .line) a) (λ x. done (tableBegun t s x))
 formMeaning t start l body s (form.EndTable k) = bind (endMeaning (seen s) body l (s .tables) k) (λ x. done (tableEnded s x))
 formMeaning t start l body s (form.Records f) = setting s (recordsMeaning (seen s) l f)
 formMeaning t start l body s (form.Entries f) = setting s (entriesMeaning (seen s) l f)
@@ -109,4 +109,4 @@ formMeaning t start l body s form.NoForm = done s
 -- the line that is due
 unfoldable pub lineMeaning : List ℕ → State → Meaning State
 lineMeaning t s =
-    formMeaning t (s .due .at) (s .due .line) (lineAt t (s .due .at)) (past s (length (lineAt t (s .due .at)))) (parseLine (lineAt t (s .due .at)))
+    formMeaning t (s .position .at) (s .position .line) (lineAt t (s .position .at)) (past s (length (lineAt t (s .position .at)))) (parseLine (lineAt t (s .position .at)))

@@ -12,7 +12,7 @@ use Rattle.pages.specs.declared.heading.Heading.{Heading}
 use Rattle.pages.specs.Heading.{noHeading}
 
 -- the line due, by its place in the template and its number
-pub record Due : Type 0 where
+pub record Position : Type 0 where
   pub at : ℕ
   pub line : ℕ
 
@@ -24,7 +24,7 @@ pub record Layout : Type 0 where
   pub feeds : Bool
 
 pub record State : Type 0 where
-  pub due : Due
+  pub position : Position
   -- IV, FV and SV; what $REC and $TBL were answered
   pub variables : Variables
   -- "the selected datasource"
@@ -48,23 +48,23 @@ seen s =
 
 -- ---- a state with one part of it anew
 
-abbrev pub withPlace : State → ℕ → ℕ → State
-withPlace s at line = record { due = record { at = at; line = line }; variables = s .variables; datasource = s .datasource; tables = s .tables; layout = s .layout; page = s .page }
+abbrev pub withPosition : State → ℕ → ℕ → State
+withPosition s at line = record { position = record { at = at; line = line }; variables = s .variables; datasource = s .datasource; tables = s .tables; layout = s .layout; page = s .page }
 
 abbrev pub withVariables : State → Variables → State
-withVariables s v = record { due = s .due; variables = v; datasource = s .datasource; tables = s .tables; layout = s .layout; page = s .page }
+withVariables s v = record { position = s .position; variables = v; datasource = s .datasource; tables = s .tables; layout = s .layout; page = s .page }
 
 abbrev pub withDatasource : State → ℕ → State
-withDatasource s d = record { due = s .due; variables = s .variables; datasource = d; tables = s .tables; layout = s .layout; page = s .page }
+withDatasource s d = record { position = s .position; variables = s .variables; datasource = d; tables = s .tables; layout = s .layout; page = s .page }
 
 abbrev pub withTables : State → List Table → State
-withTables s ts = record { due = s .due; variables = s .variables; datasource = s .datasource; tables = ts; layout = s .layout; page = s .page }
+withTables s ts = record { position = s .position; variables = s .variables; datasource = s .datasource; tables = ts; layout = s .layout; page = s .page }
 
 abbrev pub withLayout : State → List Heading → Bool → State
-withLayout s hs f = record { due = s .due; variables = s .variables; datasource = s .datasource; tables = s .tables; layout = record { headings = hs; feeds = f }; page = s .page }
+withLayout s hs f = record { position = s .position; variables = s .variables; datasource = s .datasource; tables = s .tables; layout = record { headings = hs; feeds = f }; page = s .page }
 
 abbrev pub withPage : State → Page → State
-withPage s p = record { due = s .due; variables = s .variables; datasource = s .datasource; tables = s .tables; layout = s .layout; page = p }
+withPage s p = record { position = s .position; variables = s .variables; datasource = s .datasource; tables = s .tables; layout = s .layout; page = p }
 
 -- ---- what a section starts with
 
@@ -85,4 +85,4 @@ noLayout = record { headings = replicate 9 noHeading; feeds = true }
 
 -- "Each executed $SEC sets IV and FV to 0, SV to empty, clears R, T and headings, ends $NOFF. Page and datasource go on."
 abbrev pub cleared : State → State
-cleared s = record { due = s .due; variables = noVariables; datasource = s .datasource; tables = s .tables; layout = noLayout; page = s .page }
+cleared s = record { position = s .position; variables = noVariables; datasource = s .datasource; tables = s .tables; layout = noLayout; page = s .page }

@@ -270,7 +270,7 @@ pub fn no_heading_line(
 }
 
 // "$NP breaks always"
-pub fn break_line(number: u32, text: &mut [u8], printed: usize, flow: Flow, asked: usize) -> Lined
+fn break_line(number: u32, text: &mut [u8], printed: usize, flow: Flow, asked: usize) -> Lined
     requires { ⌜ TurnReady (flow .page) (now text) printed ⌝ }
     ensures { λ r. ⌜ BreaksLine number flow (now (text .entry)) printed asked (now (text .exit)) r ⌝ }
 {

@@ -59,7 +59,7 @@ module _ (t : List ℕ) (start l : ℕ) (body : List ℕ) (s : State) (d : Betwe
   form-asks (form.Compare c x y) b = tests (testMeaning (seen s) body l c x y) (test-asks (seen s) d l body c x y (b .0) (b .1))
   form-asks form.Else b = tt
   form-asks form.EndIf b = tt
-  form-asks (form.BeginTable a) b = asks-then AnswerWithin Allowed (beginMeaning (seen s) body l (s .tables) (s .due .at) (s .due .line) a) (λ x. done (tableBegun t s x)) (begin-asks (seen s) d l body (s .tables) (s .due .at) (s .due .line) a b) (λ x. tt)
+  form-asks (form.BeginTable a) b = asks-then AnswerWithin Allowed (beginMeaning (seen s) body l (s .tables) (s .position .at) (s .position .line) a) (λ x. done (tableBegun t s x)) (begin-asks (seen s) d l body (s .tables) (s .position .at) (s .position .line) a b) (λ x. tt)
   form-asks (form.EndTable k) b = asks-then AnswerWithin Allowed (endMeaning (seen s) body l (s .tables) k) (λ x. done (tableEnded s x)) (end-asks (seen s) d l body (s .tables) k b) (λ x. tt)
   form-asks (form.Records f) b = sets (recordsMeaning (seen s) l f) (records-asks (seen s) d l f b)
   form-asks (form.Entries f) b = sets (entriesMeaning (seen s) l f) (entries-asks (seen s) d l f b)
@@ -73,4 +73,4 @@ module _ (t : List ℕ) (start l : ℕ) (body : List ℕ) (s : State) (d : Betwe
 -- One line.
 pub line-asks : (t : List ℕ) (s : State) → Between 1 35 (s .datasource) → AsksAllowed (lineMeaning t s)
 unfolding lineMeaning
-line-asks t s d = let body = lineAt t (s .due .at) in form-asks t (s .due .at) (s .due .line) body (past s (length body)) d (parseLine body) (parsed-bounded body (parseLine body) refl)
+line-asks t s d = let body = lineAt t (s .position .at) in form-asks t (s .position .at) (s .position .line) body (past s (length body)) d (parseLine body) (parsed-bounded body (parseLine body) refl)

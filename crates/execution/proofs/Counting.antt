@@ -27,7 +27,7 @@ use Rattle.control.proofs.Giving.{Shaped, set-gives, records-gives, entries-giv
 use Rattle.pages.specs.declared.page.Page.{Page}
 use Rattle.pages.specs.Page.{breakMeaning, lineStep}
 use Rattle.pages.proofs.Counting.{counting, OnPage, break-counts, step-counts}
-use Rattle.control.specs.State.{State, seen, withPlace, withVariables, withDatasource, withTables, withPage}
+use Rattle.control.specs.State.{State, seen, withPosition, withVariables, withDatasource, withTables, withPage}
 use Rattle.control.specs.Line.{past, jumped, branched, tableBegun, tableEnded, breaking, breakingFor, newPageMeaning, formMeaning, lineMeaning}
 use Rattle.shapes.specs.declared.seek.Sought.the-variants.{TableEnd}
 
@@ -58,7 +58,7 @@ module _ (t : List ℕ) (start l : ℕ) (body : List ℕ) (s : State) (c : ℕ) 
 
   ended-page : (x : Looping) → tableEnded s x .page ≡ s .page
   unfolding tableEnded
-  ended-page x = same-page (x .jumps) (withPlace (withTables s (x .tables)) (innermost (x .tables) .start) (innermost (x .tables) .line)) (withTables s (x .tables)) refl refl
+  ended-page x = same-page (x .jumps) (withPosition (withTables s (x .tables)) (innermost (x .tables) .start) (innermost (x .tables) .line)) (withTables s (x .tables)) refl refl
 
   breaks-count : Keeps counting (breaking l s) c Counted
   unfolding breaking
@@ -85,7 +85,7 @@ module _ (t : List ℕ) (start l : ℕ) (body : List ℕ) (s : State) (c : ℕ) 
   form-counts (form.Compare k a b) = asks-count (testMeaning (seen s) body l k a b) Anything (test-gives (seen s) body l k a b) (branched t s) branch-page
   form-counts form.Else = h
   form-counts form.EndIf = h
-  form-counts (form.BeginTable a) = asks-count (beginMeaning (seen s) body l (s .tables) (s .due .at) (s .due .line) a) (Begun (s .tables) (s .due .at) (s .due .line)) (begin-gives (seen s) body l (s .tables) (s .due .at) (s .due .line) a) (tableBegun t s) begun-page
+  form-counts (form.BeginTable a) = asks-count (beginMeaning (seen s) body l (s .tables) (s .position .at) (s .position .line) a) (Begun (s .tables) (s .position .at) (s .position .line)) (begin-gives (seen s) body l (s .tables) (s .position .at) (s .position .line) a) (tableBegun t s) begun-page
   form-counts (form.EndTable k) = asks-count (endMeaning (seen s) body l (s .tables) k) (Counting (s .tables)) (end-gives (seen s) body l (s .tables) k) (tableEnded s) ended-page
   form-counts (form.Records f) = asks-count (recordsMeaning (seen s) l f) (Shaped (s .variables)) (records-gives (seen s) l f) (withVariables s) (λ _. refl)
   form-counts (form.Entries f) = asks-count (entriesMeaning (seen s) l f) (Shaped (s .variables)) (entries-gives (seen s) l f) (withVariables s) (λ _. refl)
@@ -99,4 +99,4 @@ module _ (t : List ℕ) (start l : ℕ) (body : List ℕ) (s : State) (c : ℕ) 
 -- One line.
 pub line-counts : (t : List ℕ) (s : State) (c : ℕ) → Counted s c → Keeps counting (lineMeaning t s) c Counted
 unfolding lineMeaning
-line-counts t s c h = form-counts t (s .due .at) (s .due .line) (lineAt t (s .due .at)) (past s (length (lineAt t (s .due .at)))) c h (parseLine (lineAt t (s .due .at)))
+line-counts t s c h = form-counts t (s .position .at) (s .position .line) (lineAt t (s .position .at)) (past s (length (lineAt t (s .position .at)))) c h (parseLine (lineAt t (s .position .at)))

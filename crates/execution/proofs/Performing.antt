@@ -206,7 +206,7 @@ module _ {body b index t : List ℕ} {h : Held} {scene : Scene} {start : ℕ} {f
       let m : recordsIn ws ≡ recordsIn (h .words) = d .others 99 10 (omega arith) in
       let o : entriesIn ws ≡ entriesIn (h .words) = d .others 109 10 (omega arith) in
       let q : headingsIn ws ≡ headingsIn (h .words) = d .others 119 9 (omega arith) in
-      λ z. record { due = record { at = g .at; line = g .line }; variables = record { integers = integersIn (h .numbers); decimals = decimalsIn (h .numbers); strings = texts (h .rows) 0 (l z); records = map (fetched (sourceOf b) Records) (m z); entries = map (fetched (sourceOf b) Entries) (o z) }; datasource = g .datasource; tables = openOf ws (g .depth); layout = record { headings = headingsOf (q z); feeds = g .feeds }; page = g .page }
+      λ z. record { position = record { at = g .at; line = g .line }; variables = record { integers = integersIn (h .numbers); decimals = decimalsIn (h .numbers); strings = texts (h .rows) 0 (l z); records = map (fetched (sourceOf b) Records) (m z); entries = map (fetched (sourceOf b) Entries) (o z) }; datasource = g .datasource; tables = openOf ws (g .depth); layout = record { headings = headingsOf (q z); feeds = g .feeds }; page = g .page }
 
   begun-same : (ws : List ℕ) → Stays (h .words) ws → openOf ws (f .depth) ≡ openOf (h .words) (f .depth) → (holds : Bool) → stateAt b (held (h .numbers) (h .rows) ws) (begunIn t f holds) ≡ tableBegun t s (beginning ws (f .depth) holds)
   unfolding tableBegun
@@ -232,11 +232,11 @@ module _ {body b index t : List ℕ} {h : Held} {scene : Scene} {start : ℕ} {f
       let l : lengthsIn ws ≡ lengthsIn (h .words) = d .others 0 99 (omega arith) in
       let m : recordsIn ws ≡ recordsIn (h .words) = d .others 99 10 (omega arith) in
       let o : entriesIn ws ≡ entriesIn (h .words) = d .others 109 10 (omega arith) in
-      λ z. record { due = record { at = f .at; line = f .line }; variables = record { integers = integersIn (h .numbers); decimals = decimalsIn (h .numbers); strings = texts (h .rows) 0 (l z); records = map (fetched (sourceOf b) Records) (m z); entries = map (fetched (sourceOf b) Entries) (o z) }; datasource = f .datasource; tables = opened (y z) (f .depth); layout = record { headings = d .set z; feeds = f .feeds }; page = f .page }
+      λ z. record { position = record { at = f .at; line = f .line }; variables = record { integers = integersIn (h .numbers); decimals = decimalsIn (h .numbers); strings = texts (h .rows) 0 (l z); records = map (fetched (sourceOf b) Records) (m z); entries = map (fetched (sourceOf b) Entries) (o z) }; datasource = f .datasource; tables = opened (y z) (f .depth); layout = record { headings = d .set z; feeds = f .feeds }; page = f .page }
 
   -- R, T and the variables as a command left them, with the headings and tables as they were
   variables-same : (h′ : Held) → headingsIn (h′ .words) ≡ headingsIn (h .words) → tablesIn (h′ .words) ≡ tablesIn (h .words) → stateAt b h′ f ≡ withVariables s (variablesOf (sourceOf b) h′)
-  variables-same h′ e y = λ z. record { due = record { at = f .at; line = f .line }; variables = variablesOf (sourceOf b) h′; datasource = f .datasource; tables = opened (y z) (f .depth); layout = record { headings = headingsOf (e z); feeds = f .feeds }; page = f .page }
+  variables-same h′ e y = λ z. record { position = record { at = f .at; line = f .line }; variables = variablesOf (sourceOf b) h′; datasource = f .datasource; tables = opened (y z) (f .depth); layout = record { headings = headingsOf (e z); feeds = f .feeds }; page = f .page }
 
   module _ (log : List ℕ) (p : ℕ) (v : Worths) where
     abbrev With : List ℕ → List ℕ → Held → Lined → Type 0
@@ -337,7 +337,7 @@ module _ {body b index t : List ℕ} {h : Held} {scene : Scene} {start : ℕ} {f
             let o : map (fetched (sourceOf b) Entries) (entriesIn words′) ≡ replicate 10 [] = ap (map (fetched (sourceOf b) Entries)) (words-zero 109 10 (omega arith)) ∙ fetched-cleared (sourceOf b) Entries 10 in
             let y : tablesIn words′ ≡ tablesIn (h .words) = ap (bank 128 20) (c .words-zero) ∙ zeros-behind 0 (h .words) 128 20 in
             let q : headingsOf (headingsIn words′) ≡ replicate 9 noHeading = ap headingsOf (words-zero 119 9 (omega arith)) ∙ headings-cleared 9 in
-            λ z. record { due = record { at = f .at; line = f .line }; variables = record { integers = i z; decimals = j z; strings = l z; records = m z; entries = o z }; datasource = f .datasource; tables = opened (y z) (f .depth); layout = record { headings = q z; feeds = true }; page = f .page }
+            λ z. record { position = record { at = f .at; line = f .line }; variables = record { integers = i z; decimals = j z; strings = l z; records = m z; entries = o z }; datasource = f .datasource; tables = opened (y z) (f .depth); layout = record { headings = q z; feeds = true }; page = f .page }
 
   -- ---- with the values of the arguments
 

@@ -36,7 +36,7 @@ use Rattle.control.proofs.Giving.{loop-bounded, Selectable, datasource-gives}
 use Rattle.control.proofs.Ranges.{Held, held, gives-yields, set-within, begin-within, end-within, records-within, entries-within}
 use Rattle.pages.specs.declared.page.Page.{Page}
 use Rattle.pages.specs.Page.{breakMeaning, lineStep}
-use Rattle.control.specs.State.{State, seen, withPlace, withVariables, withDatasource, withTables, withPage, noVariables, cleared}
+use Rattle.control.specs.State.{State, seen, withPosition, withVariables, withDatasource, withTables, withPage, noVariables, cleared}
 use Rattle.control.specs.Line.{past, jumped, setting, branched, testing, tableBegun, tableEnded, breaking, breakingFor, newPageMeaning, formMeaning, lineMeaning}
 use Rattle.control.specs.inner.Sound.{Sound}
 use Rattle.execution.proofs.Sounds.{each-same, full-none}
@@ -59,7 +59,7 @@ heading-there t g s i n b = held (s .layout .headings) 9 n (i .headings) b
 -- ---- the state behind a line, with one part changed
 
 module _ {s : State} (r : InRange s) where
-  range-at : (at line : ℕ) → InRange (withPlace s at line)
+  range-at : (at line : ℕ) → InRange (withPosition s at line)
   range-at at line = record { variables = r .variables; tables = r .tables; datasource = r .datasource }
 
   range-tables : (ts : List Table) → Each G.Bounded ts → InRange (withTables s ts)
@@ -113,7 +113,7 @@ module _ (t : List ℕ) (start l : ℕ) (body : List ℕ) (s : State) (h : Machi
   unfolding tableEnded
   ends x k = by (x .jumps)
     where
-      by : (b : Bool) → InRange (cond b (withPlace (withTables s (x .tables)) (innermost (x .tables) .start) (innermost (x .tables) .line)) (withTables s (x .tables)))
+      by : (b : Bool) → InRange (cond b (withPosition (withTables s (x .tables)) (innermost (x .tables) .start) (innermost (x .tables) .line)) (withTables s (x .tables)))
       by true = range-at (range-tables r (x .tables) k) _ _
       by false = range-tables r (x .tables) k
 
@@ -144,7 +144,7 @@ module _ (t : List ℕ) (start l : ℕ) (body : List ℕ) (s : State) (h : Machi
   form-in-range (form.Compare c x y) b = tests (testMeaning (seen s) body l c x y)
   form-in-range form.Else b = range-at r _ _
   form-in-range form.EndIf b = r
-  form-in-range (form.BeginTable a) b = yields-bind AnswerWithin (beginMeaning (seen s) body l (s .tables) (s .due .at) (s .due .line) a) (λ x. done (tableBegun t s x)) (λ x. Each G.Bounded (x .tables)) InRange (begin-within (seen s) h l body (s .tables) (s .due .at) (s .due .line) a b (r .tables)) (λ x k. begins x k)
+  form-in-range (form.BeginTable a) b = yields-bind AnswerWithin (beginMeaning (seen s) body l (s .tables) (s .position .at) (s .position .line) a) (λ x. done (tableBegun t s x)) (λ x. Each G.Bounded (x .tables)) InRange (begin-within (seen s) h l body (s .tables) (s .position .at) (s .position .line) a b (r .tables)) (λ x k. begins x k)
   form-in-range (form.EndTable k) b = yields-bind AnswerWithin (endMeaning (seen s) body l (s .tables) k) (λ x. done (tableEnded s x)) (λ x. Each G.Bounded (x .tables)) InRange (end-within (seen s) body l (s .tables) k (r .tables)) (λ x e. ends x e)
   form-in-range (form.Records f) b = sets (recordsMeaning (seen s) l f) (records-within (seen s) h l f)
   form-in-range (form.Entries f) b = sets (entriesMeaning (seen s) l f) (entries-within (seen s) h l f)
@@ -159,5 +159,5 @@ module _ (t : List ℕ) (start l : ℕ) (body : List ℕ) (s : State) (h : Machi
 pub line-in-range : (t : List ℕ) (g : ℕ) (s : State) → g ≤ integerLimit → Sound t g s → InRange s → Yields AnswerWithin (lineMeaning t s) InRange
 unfolding lineMeaning
 line-in-range t g s h i r =
-    let body = lineAt t (s .due .at) in
-    form-in-range t (s .due .at) (s .due .line) body (past s (length body)) (seen-within t g s h i r) (range-at r _ _) (parseLine body) (parsed-bounded body (parseLine body) refl)
+    let body = lineAt t (s .position .at) in
+    form-in-range t (s .position .at) (s .position .line) body (past s (length body)) (seen-within t g s h i r) (range-at r _ _) (parseLine body) (parsed-bounded body (parseLine body) refl)

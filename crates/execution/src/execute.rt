@@ -112,7 +112,7 @@ pub fn execute<'a>(
             let judged = table::end_table(k, words, flow.depth);
             arms::ended(judged, scene.number, words, flow, printed, asked)
         }
-        // A fetch is lent copies: what the line is executed in needn't lie in memory then.
+        // A fetch is handed copies: what the line is executed in needn't lie in memory then.
         Line::Records(f) => {
             let here = scene;
             let wanted = f;

@@ -50,7 +50,7 @@ use Rattle.pages.specs.declared.page.Page.{Page}
 use Rattle.pages.specs.declared.heading.Heading.{Heading}
 use Rattle.pages.specs.Heading.{noHeading}
 use Rattle.pages.specs.Page.{headLine, breakMeaning, lineStep}
-use Rattle.control.specs.State.{State, seen, withPlace, withVariables, withDatasource, withTables, withPage, noVariables}
+use Rattle.control.specs.State.{State, seen, withPosition, withVariables, withDatasource, withTables, withPage, noVariables}
 use Rattle.control.specs.Line.{past, jumped, setting, branched, testing, tableBegun, tableEnded, breaking, breakingFor, newPageMeaning, headed, formMeaning, lineMeaning}
 use Rattle.execution.proofs.Sounds.{each-same}
 use Rattle.runs.specs.Report.{runFrom, startOf, runMeaning, Outcome, refusedWith, checkedOutcome, reportOf}
@@ -85,10 +85,10 @@ module _ (t : List ℕ) (whole : Each Permitted t) (at l : ℕ) (s : State) (h :
   abbrev body : List ℕ
   body = lineAt t at
 
-  place-clean : (k n : ℕ) → StateClean t (withPlace s k n)
+  place-clean : (k n : ℕ) → StateClean t (withPosition s k n)
   place-clean k n = record { variables = h .variables; heads = h .heads }
 
-  tables-clean : (x : Looping) (k n : ℕ) → StateClean t (withPlace (withTables s (x .tables)) k n)
+  tables-clean : (x : Looping) (k n : ℕ) → StateClean t (withPosition (withTables s (x .tables)) k n)
   tables-clean x k n = record { variables = h .variables; heads = h .heads }
 
   page-clean : (p : Page) → StateClean t (withPage s p)
@@ -128,7 +128,7 @@ module _ (t : List ℕ) (whole : Each Permitted t) (at l : ℕ) (s : State) (h :
   unfolding tableEnded
   ended-clean x = by (x .jumps)
     where
-      by : (b : Bool) → StateClean t (cond b (withPlace (withTables s (x .tables)) (innermost (x .tables) .start) (innermost (x .tables) .line)) (withTables s (x .tables)))
+      by : (b : Bool) → StateClean t (cond b (withPosition (withTables s (x .tables)) (innermost (x .tables) .start) (innermost (x .tables) .line)) (withTables s (x .tables)))
       by true = tables-clean x _ _
       by false = tables-clean x _ _
 
@@ -160,7 +160,7 @@ module _ (t : List ℕ) (whole : Each Permitted t) (at l : ℕ) (s : State) (h :
   form-says (form.Compare k a b) = test-says (testMeaning (seen s) body l k a b) (test-gives (seen s) body l k a b)
   form-says form.Else = place-clean _ _
   form-says form.EndIf = h
-  form-says (form.BeginTable a) = only-asks (beginMeaning (seen s) body l (s .tables) (s .due .at) (s .due .line) a) (Begun (s .tables) (s .due .at) (s .due .line)) (begin-gives (seen s) body l (s .tables) (s .due .at) (s .due .line) a) (tableBegun t s) begun-clean
+  form-says (form.BeginTable a) = only-asks (beginMeaning (seen s) body l (s .tables) (s .position .at) (s .position .line) a) (Begun (s .tables) (s .position .at) (s .position .line)) (begin-gives (seen s) body l (s .tables) (s .position .at) (s .position .line) a) (tableBegun t s) begun-clean
   form-says (form.EndTable k) = only-asks (endMeaning (seen s) body l (s .tables) k) (Counting (s .tables)) (end-gives (seen s) body l (s .tables) k) (tableEnded s) ended-clean
   form-says (form.Records f) = set-says (recordsMeaning (seen s) l f) (Shaped (s .variables)) (records-gives (seen s) l f) (records-clean (seen s) (h .variables) l f)
   form-says (form.Entries f) = set-says (entriesMeaning (seen s) l f) (Shaped (s .variables)) (entries-gives (seen s) l f) (entries-clean (seen s) (h .variables) l f)
@@ -173,16 +173,16 @@ module _ (t : List ℕ) (whole : Each Permitted t) (at l : ℕ) (s : State) (h :
 
 line-says : (t : List ℕ) → Each Permitted t → (s : State) → StateClean t s → Says (lineMeaning t s) (StateClean t)
 unfolding lineMeaning
-line-says t whole s h = form-says t whole (s .due .at) (s .due .line) (past s (length (lineAt t (s .due .at)))) (record { variables = h .variables; heads = h .heads }) (parseLine (lineAt t (s .due .at)))
+line-says t whole s h = form-says t whole (s .position .at) (s .position .line) (past s (length (lineAt t (s .position .at)))) (record { variables = h .variables; heads = h .heads }) (parseLine (lineAt t (s .position .at)))
 
 run-says : (n : ℕ) (t : List ℕ) → Each Permitted t → (end : ℕ) (s : State) → StateClean t s → Says (runFrom n t end s) (StateClean t)
 unfolding runFrom
-run-says zero t whole end s h = by (ltb (s .due .at) end)
+run-says zero t whole end s h = by (ltb (s .position .at) end)
   where
-    by : (b : Bool) → Says (cond {A = Meaning State} b (stop TooManyLines (s .due .line)) (done s)) (StateClean t)
+    by : (b : Bool) → Says (cond {A = Meaning State} b (stop TooManyLines (s .position .line)) (done s)) (StateClean t)
     by true = tt
     by false = h
-run-says (suc n) t whole end s h = by (ltb (s .due .at) end) (λ s′ k. run-says n t whole end s′ k)
+run-says (suc n) t whole end s h = by (ltb (s .position .at) end) (λ s′ k. run-says n t whole end s′ k)
   where
     by : (b : Bool) → ((s′ : State) → StateClean t s′ → Says (runFrom n t end s′) (StateClean t)) → Says (cond {A = Meaning State} b (bind (lineMeaning t s) (runFrom n t end)) (done s)) (StateClean t)
     by true k = says-bind (lineMeaning t s) (runFrom n t end) (StateClean t) (StateClean t) (line-says t whole s h) k

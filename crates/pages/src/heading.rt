@@ -7,8 +7,8 @@ ghost use Rattle.questions.specs.inner.State.{headingsIn};
 ghost use Rattle.pages.specs.Heading.{noHeading};
 ghost use Rattle.pages.specs.inner.Packed.{Small, headingIn, headingsOf};
 
-// The $PH line that defined a heading: where it starts in the template, how long it is, where its text starts in it, and its
-// number; 0 for a heading that is undefined.
+// A line that is due on a page: the $PH line that defined a heading, or a text line. Where it starts in the template, how long it
+// is, where its text starts in it, and its number; 0 for a heading that is undefined.
 pub struct Heading {
     pub start: usize,
     pub length: usize,

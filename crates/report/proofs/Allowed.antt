@@ -35,17 +35,17 @@ use Rattle.report.proofs.Ranges.{start-in-range}
 
 run-asks : (n : ℕ) (t : List ℕ) (end g : ℕ) (s : State) (c : ℕ) → end ≤ length t → g + n ≤ integerLimit → On t g s c → InRange s → AsksAllowed (runFrom n t end s)
 unfolding runFrom
-run-asks zero t end g s c h b i r = by (ltb (s .due .at) end)
+run-asks zero t end g s c h b i r = by (ltb (s .position .at) end)
   where
-    by : (x : Bool) → AsksAllowed (cond {A = Meaning State} x (stop TooManyLines (s .due .line)) (done s))
+    by : (x : Bool) → AsksAllowed (cond {A = Meaning State} x (stop TooManyLines (s .position .line)) (done s))
     by true = tt
     by false = tt
-run-asks (suc n) t end g s c h b i r = by (ltb (s .due .at) end) refl (λ s′ c′ j r′. run-asks n t end (g + 1) s′ c′ h (omega arith) j r′)
+run-asks (suc n) t end g s c h b i r = by (ltb (s .position .at) end) refl (λ s′ c′ j r′. run-asks n t end (g + 1) s′ c′ h (omega arith) j r′)
   where
-    by : (x : Bool) → ltb (s .due .at) end ≡ x → ((s′ : State) (c′ : ℕ) → On t (g + 1) s′ c′ → InRange s′ → AsksAllowed (runFrom n t end s′)) → AsksAllowed (cond {A = Meaning State} x (bind (lineMeaning t s) (runFrom n t end)) (done s))
+    by : (x : Bool) → ltb (s .position .at) end ≡ x → ((s′ : State) (c′ : ℕ) → On t (g + 1) s′ c′ → InRange s′ → AsksAllowed (runFrom n t end s′)) → AsksAllowed (cond {A = Meaning State} x (bind (lineMeaning t s) (runFrom n t end)) (done s))
     by true e next =
         asks-bind AnswerWithin Allowed (lineMeaning t s) (runFrom n t end) (λ s′. InRange s′ × (c′ : ℕ) × On t (g + 1) s′ c′) (line-asks t s (r .datasource))
-        (yields-kept AnswerWithin (pageLimit 60) (lineMeaning t s) c (On t (g + 1)) InRange (line-keeps i (omega (arith, h, ltb-true (s .due .at) end e))) (line-in-range t g s (omega arith) (i .sound) r))
+        (yields-kept AnswerWithin (pageLimit 60) (lineMeaning t s) c (On t (g + 1)) InRange (line-keeps i (omega (arith, h, ltb-true (s .position .at) end e))) (line-in-range t g s (omega arith) (i .sound) r))
         (λ s′ q. next s′ (q .1) (q .2) (q .0))
     by false e next = tt
 

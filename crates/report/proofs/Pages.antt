@@ -39,15 +39,15 @@ Any s c = Unit {0}
 
 run-keeps : (n : ℕ) (t : List ℕ) (end g : ℕ) (s : State) (c : ℕ) → end ≤ length t → On t g s c → Keeps (pageLimit 60) (runFrom n t end s) c Any
 unfolding runFrom
-run-keeps zero t end g s c h i = by (ltb (s .due .at) end)
+run-keeps zero t end g s c h i = by (ltb (s .position .at) end)
   where
-    by : (b : Bool) → Keeps (pageLimit 60) (cond {A = Meaning State} b (stop TooManyLines (s .due .line)) (done s)) c Any
+    by : (b : Bool) → Keeps (pageLimit 60) (cond {A = Meaning State} b (stop TooManyLines (s .position .line)) (done s)) c Any
     by true = tt
     by false = tt
-run-keeps (suc n) t end g s c h i = by (ltb (s .due .at) end) refl (λ s′ c′ j. run-keeps n t end (g + 1) s′ c′ h j)
+run-keeps (suc n) t end g s c h i = by (ltb (s .position .at) end) refl (λ s′ c′ j. run-keeps n t end (g + 1) s′ c′ h j)
   where
-    by : (b : Bool) → ltb (s .due .at) end ≡ b → ((s′ : State) (c′ : ℕ) → On t (g + 1) s′ c′ → Keeps (pageLimit 60) (runFrom n t end s′) c′ Any) → Keeps (pageLimit 60) (cond {A = Meaning State} b (bind (lineMeaning t s) (runFrom n t end)) (done s)) c Any
-    by true e k = keeps-bind (pageLimit 60) (lineMeaning t s) (runFrom n t end) c (On t (g + 1)) Any (line-keeps i (omega (arith, h, ltb-true (s .due .at) end e))) k
+    by : (b : Bool) → ltb (s .position .at) end ≡ b → ((s′ : State) (c′ : ℕ) → On t (g + 1) s′ c′ → Keeps (pageLimit 60) (runFrom n t end s′) c′ Any) → Keeps (pageLimit 60) (cond {A = Meaning State} b (bind (lineMeaning t s) (runFrom n t end)) (done s)) c Any
+    by true e k = keeps-bind (pageLimit 60) (lineMeaning t s) (runFrom n t end) c (On t (g + 1)) Any (line-keeps i (omega (arith, h, ltb-true (s .position .at) end e))) k
     by false e k = tt
 
 abbrev Sixty : Outcome → Type 0
@@ -86,12 +86,12 @@ pages-reported t name b n places room = by (isHeld (held b n))
 
 run-counts : (n : ℕ) (t : List ℕ) (end : ℕ) (s : State) (c : ℕ) → Counted s c → Keeps counting (runFrom n t end s) c Counted
 unfolding runFrom
-run-counts zero t end s c h = by (ltb (s .due .at) end)
+run-counts zero t end s c h = by (ltb (s .position .at) end)
   where
-    by : (b : Bool) → Keeps counting (cond {A = Meaning State} b (stop TooManyLines (s .due .line)) (done s)) c Counted
+    by : (b : Bool) → Keeps counting (cond {A = Meaning State} b (stop TooManyLines (s .position .line)) (done s)) c Counted
     by true = tt
     by false = h
-run-counts (suc n) t end s c h = by (ltb (s .due .at) end) (λ s′ c′ j. run-counts n t end s′ c′ j)
+run-counts (suc n) t end s c h = by (ltb (s .position .at) end) (λ s′ c′ j. run-counts n t end s′ c′ j)
   where
     by : (b : Bool) → ((s′ : State) (c′ : ℕ) → Counted s′ c′ → Keeps counting (runFrom n t end s′) c′ Counted) → Keeps counting (cond {A = Meaning State} b (bind (lineMeaning t s) (runFrom n t end)) (done s)) c Counted
     by true k = keeps-bind counting (lineMeaning t s) (runFrom n t end) c Counted Counted (line-counts t s c h) k
@@ -100,7 +100,7 @@ run-counts (suc n) t end s c h = by (ltb (s .due .at) end) (λ s′ c′ j. run-
 stretch-counts : (n : ℕ) (t : List ℕ) (end : ℕ) (s : State) (c : ℕ) → Counted s c → Keeps counting (stretch n t end s) c Counted
 unfolding stretch
 stretch-counts zero t end s c h = h
-stretch-counts (suc n) t end s c h = by (ltb (s .due .at) end) (λ s′ c′ j. stretch-counts n t end s′ c′ j)
+stretch-counts (suc n) t end s c h = by (ltb (s .position .at) end) (λ s′ c′ j. stretch-counts n t end s′ c′ j)
   where
     by : (b : Bool) → ((s′ : State) (c′ : ℕ) → Counted s′ c′ → Keeps counting (stretch n t end s′) c′ Counted) → Keeps counting (cond {A = Meaning State} b (bind (lineMeaning t s) (stretch n t end)) (done s)) c Counted
     by true k = keeps-bind counting (lineMeaning t s) (stretch n t end) c Counted Counted (line-counts t s c h) k

@@ -48,12 +48,12 @@ ranged t g s h i r =
 stretch-in-range : (k : ℕ) (t : List ℕ) (end g : ℕ) (s : State) (c : ℕ) → end ≤ length t → g + k + 1 ≤ integerLimit → On t g s c → InRange s → Yields AnswerWithin (stretch k t end s) Ranged
 unfolding stretch
 stretch-in-range zero t end g s c h b i r = ranged t g s (omega arith) (i .sound) r
-stretch-in-range (suc k) t end g s c h b i r = by (ltb (s .due .at) end) refl (λ s′ c′ j r′. stretch-in-range k t end (g + 1) s′ c′ h (omega arith) j r′)
+stretch-in-range (suc k) t end g s c h b i r = by (ltb (s .position .at) end) refl (λ s′ c′ j r′. stretch-in-range k t end (g + 1) s′ c′ h (omega arith) j r′)
   where
-    by : (x : Bool) → ltb (s .due .at) end ≡ x → ((s′ : State) (c′ : ℕ) → On t (g + 1) s′ c′ → InRange s′ → Yields AnswerWithin (stretch k t end s′) Ranged) → Yields AnswerWithin (cond {A = Meaning State} x (bind (lineMeaning t s) (stretch k t end)) (done s)) Ranged
+    by : (x : Bool) → ltb (s .position .at) end ≡ x → ((s′ : State) (c′ : ℕ) → On t (g + 1) s′ c′ → InRange s′ → Yields AnswerWithin (stretch k t end s′) Ranged) → Yields AnswerWithin (cond {A = Meaning State} x (bind (lineMeaning t s) (stretch k t end)) (done s)) Ranged
     by true e next =
         yields-bind AnswerWithin (lineMeaning t s) (stretch k t end) (λ s′. InRange s′ × (c′ : ℕ) × On t (g + 1) s′ c′) Ranged
-        (yields-kept AnswerWithin (pageLimit 60) (lineMeaning t s) c (On t (g + 1)) InRange (line-keeps i (omega (arith, h, ltb-true (s .due .at) end e))) (line-in-range t g s (omega arith) (i .sound) r))
+        (yields-kept AnswerWithin (pageLimit 60) (lineMeaning t s) c (On t (g + 1)) InRange (line-keeps i (omega (arith, h, ltb-true (s .position .at) end e))) (line-in-range t g s (omega arith) (i .sound) r))
         (λ s′ q. next s′ (q .1) (q .2) (q .0))
     by false e next = ranged t g s (omega arith) (i .sound) r
 

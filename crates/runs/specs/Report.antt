@@ -27,14 +27,14 @@ use Rattle.control.specs.Line.{lineMeaning}
 -- the lines up to a place of the template, where n may still be executed. 7: "50,000 lines were executed and another is due,
 -- which is named."
 unfoldable pub runFrom : ℕ → List ℕ → ℕ → State → Meaning State
-runFrom zero t end s = cond (ltb (s .due .at) end) (stop TooManyLines (s .due .line)) (done s)
-runFrom (suc n) t end s = cond (ltb (s .due .at) end) (bind (lineMeaning t s) (runFrom n t end)) (done s)
+runFrom zero t end s = cond (ltb (s .position .at) end) (stop TooManyLines (s .position .line)) (done s)
+runFrom (suc n) t end s = cond (ltb (s .position .at) end) (bind (lineMeaning t s) (runFrom n t end)) (done s)
 
 -- where a run starts: "Cells ask in the selected datasource, 1 at the start."; "PAGENUM starts at 1"
 abbrev pub startOf : Run → State
 startOf r =
     record {
-      due = record { at = r .start; line = r .line };
+      position = record { at = r .start; line = r .line };
       variables = noVariables;
       datasource = 1;
       tables = [];

@@ -14,7 +14,7 @@ use Rattle.stretches.specs.inner.Stretch.{stretch}
 
 module _ (t : List ℕ) (end : ℕ) where
   -- no line is due
-  run-done : (f : ℕ) (s : State) → ltb (s .due .at) end ≡ false → runFrom f t end s ≡ done s
+  run-done : (f : ℕ) (s : State) → ltb (s .position .at) end ≡ false → runFrom f t end s ≡ done s
   unfolding runFrom
   run-done zero s h = rw h
   run-done (suc f) s h = rw h
@@ -22,12 +22,12 @@ module _ (t : List ℕ) (end : ℕ) where
   pub run-split : (k f : ℕ) (s : State) → runFrom (k + f) t end s ≡ bind (stretch k t end s) (runFrom f t end)
   unfolding runFrom stretch
   run-split zero f s = let z : 0 + f ≡ f = omega arith in ap (λ (n : ℕ). runFrom n t end s) z
-  run-split (suc k) f s = ap (λ (n : ℕ). runFrom n t end s) z ∙ by (ltb (s .due .at) end) refl (λ s′. run-split k f s′)
+  run-split (suc k) f s = ap (λ (n : ℕ). runFrom n t end s) z ∙ by (ltb (s .position .at) end) refl (λ s′. run-split k f s′)
     where
       z : suc k + f ≡ suc (k + f)
       z = omega arith
 
-      by : (b : Bool) → ltb (s .due .at) end ≡ b → ((s′ : State) → runFrom (k + f) t end s′ ≡ bind (stretch k t end s′) (runFrom f t end))
+      by : (b : Bool) → ltb (s .position .at) end ≡ b → ((s′ : State) → runFrom (k + f) t end s′ ≡ bind (stretch k t end s′) (runFrom f t end))
           → cond b (bind (lineMeaning t s) (runFrom (k + f) t end)) (done s) ≡ bind (cond b (bind (lineMeaning t s) (stretch k t end)) (done s)) (runFrom f t end)
       by true e i =
           bind-same (lineMeaning t s) (runFrom (k + f) t end) (λ s′. bind (stretch k t end s′) (runFrom f t end)) i

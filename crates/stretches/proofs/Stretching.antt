@@ -43,23 +43,23 @@ use Rattle.stretches.proofs.Splitting.{run-split}
 
 module _ (t : List ℕ) (end : ℕ) where
   -- ---- the clauses
-  stretch-more : (k : ℕ) (s : State) → s .due .at < end → stretch (suc k) t end s ≡ bind (lineMeaning t s) (stretch k t end)
+  stretch-more : (k : ℕ) (s : State) → s .position .at < end → stretch (suc k) t end s ≡ bind (lineMeaning t s) (stretch k t end)
   unfolding stretch
-  stretch-more k s h = rw (lt-ltb (s .due .at) end h)
+  stretch-more k s h = rw (lt-ltb (s .position .at) end h)
 
-  run-more : (f : ℕ) (s : State) → 0 < f → s .due .at < end → runFrom f t end s ≡ bind (lineMeaning t s) (runFrom (f - 1) t end)
+  run-more : (f : ℕ) (s : State) → 0 < f → s .position .at < end → runFrom f t end s ≡ bind (lineMeaning t s) (runFrom (f - 1) t end)
   unfolding runFrom
   run-more zero s z h = absurd (omega arith)
-  run-more (suc f) s z h = let e : suc f - 1 ≡ f = omega arith in rw (lt-ltb (s .due .at) end h, e)
+  run-more (suc f) s z h = let e : suc f - 1 ≡ f = omega arith in rw (lt-ltb (s .position .at) end h, e)
 
-  run-done : (f : ℕ) (s : State) → end ≤ s .due .at → runFrom f t end s ≡ done s
+  run-done : (f : ℕ) (s : State) → end ≤ s .position .at → runFrom f t end s ≡ done s
   unfolding runFrom
-  run-done zero s h = rw (le-ltb (s .due .at) end h)
-  run-done (suc f) s h = rw (le-ltb (s .due .at) end h)
+  run-done zero s h = rw (le-ltb (s .position .at) end h)
+  run-done (suc f) s h = rw (le-ltb (s .position .at) end h)
 
-  run-late : (f : ℕ) (s : State) → f ≤ 0 → s .due .at < end → runFrom f t end s ≡ stop TooManyLines (s .due .line)
+  run-late : (f : ℕ) (s : State) → f ≤ 0 → s .position .at < end → runFrom f t end s ≡ stop TooManyLines (s .position .line)
   unfolding runFrom
-  run-late zero s z h = rw (lt-ltb (s .due .at) end h)
+  run-late zero s z h = rw (lt-ltb (s .position .at) end h)
   run-late (suc f) s z h = absurd (omega arith)
 
 -- ---- where the loop stands

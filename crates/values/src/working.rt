@@ -10,7 +10,7 @@ ghost use Rattle.strings.specs.inner.Texts.{Sized};
 ghost use Rattle.questions.specs.inner.State.{held};
 ghost use Rattle.values.specs.inner.Working.{Workable, WorksOut};
 
-// The arguments that a line has.
+// The arguments that are worked out before a command.
 pub enum Inputs {
     None,
     One(Argument),

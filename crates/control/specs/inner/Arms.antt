@@ -16,6 +16,7 @@ use Rattle.meaning.specs.Number.{endOf}
 use Rattle.meaning.specs.declared.question.Question.{Question}
 use Rattle.meaning.specs.declared.refusal.Refusal.{Refusal}
 use Rattle.meaning.specs.declared.refusal.Refusal.the-variants.{BadIndex}
+use Rattle.meaning.specs.declared.end.Halt.{Halt}
 use Rattle.meaning.specs.declared.end.Halt.the-variants.{Refused}
 use Rattle.meaning.specs.declared.end.Ended.the-variants.{Finished, Halted}
 use Rattle.coercions.specs.declared.settle.Taken.{Taken}
@@ -60,10 +61,11 @@ overIn ws f holds = cond holds (againIn ws f) (depthIn f (f .depth - 1))
 unfoldable pub datasourceAt : ℕ → Settled ℕ
 datasourceAt n = cond (leb 1 n && leb n 35) (settled n) (against BadIndex)
 
--- $REC, $TBL: Rn or Tn, which begin at a place of the words
+-- $REC, $TBL: Rn or Tn, which begin at a place of the words; a fetch that was refused or cut leaves all of them
 pub record Refills (from n : ℕ) (v : Fetched) (words : List ℕ) (f : Flow) (u : ℕ) (words′ : List ℕ) (r : Lined) : Type 0 where
   pub went : r ≡ endedIn (v .end) f u (v .asked)
   pub puts : v .end ≡ Finished → Puts words from 10 n (v .fetched) words′
+  pub kept : (h : Halt) (l : ℕ) → v .end ≡ Halted h l → words′ ≡ words
   pub tables : tablesIn words′ ≡ tablesIn words
 
 -- $SEC

@@ -62,7 +62,7 @@ formWith t start l body s (form.Compare c a b) v = settling l (compared c (v .fi
 formWith t start l body s form.Else v = formMeaning t start l body s form.Else
 formWith t start l body s form.EndIf v = formMeaning t start l body s form.EndIf
 formWith t start l body s (form.BeginTable a) v =
-    settling l (beginFrom (s .tables) (s .due .at) (s .due .line) (integerFrom (v .first))) (tableBegun t s)
+    settling l (beginFrom (s .tables) (s .position .at) (s .position .line) (integerFrom (v .first))) (tableBegun t s)
 formWith t start l body s (form.EndTable k) v =
     settling l (endFrom (s .tables) (integerOr (pos 1) k (v .first))) (tableEnded s)
 formWith t start l body s (form.Records f) v = formMeaning t start l body s (form.Records f)

@@ -11,7 +11,7 @@ use Rattle.control.specs.State.{State}
 abbrev pub stateOf : (Question → Answer) → Held → Flow → State
 stateOf source h f =
     record {
-      due = record { at = f .at; line = f .line };
+      position = record { at = f .at; line = f .line };
       variables = variablesOf source h;
       datasource = f .datasource;
       tables = opened (tablesIn (h .words)) (f .depth);

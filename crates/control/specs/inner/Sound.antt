@@ -47,7 +47,7 @@ pub record Full (v : Variables) : Type 0 where
 -- PAGENUM is at most g
 pub record Sound (t : List ℕ) (g : ℕ) (s : State) : Type 0 where
   pub checks : Checks t
-  pub nested : s .due .at < length t → Nested t (s .due .at) (s .due .line) (s .tables)
+  pub nested : s .position .at < length t → Nested t (s .position .at) (s .position .line) (s .tables)
   pub number : s .page .number ≤ g
   pub first-row : 1 ≤ s .page .line
   pub last-row : s .page .line ≤ 61

@@ -27,7 +27,7 @@ use Rattle.runs.specs.inner.Begun.{heldIn}
 -- at most k lines
 unfoldable pub stretch : ℕ → List ℕ → ℕ → State → Meaning State
 stretch zero t end s = done s
-stretch (suc k) t end s = cond (ltb (s .due .at) end) (bind (lineMeaning t s) (stretch k t end)) (done s)
+stretch (suc k) t end s = cond (ltb (s .position .at) end) (bind (lineMeaning t s) (stretch k t end)) (done s)
 
 -- the part of the store buffer that is the store
 abbrev pub storeOf : Saved → List ℕ → List ℕ
