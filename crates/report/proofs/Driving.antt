@@ -28,9 +28,9 @@ use Rattle.control.specs.State.{State}
 use Rattle.runs.specs.Report.{runFrom, startOf, runMeaning, ranTo, checkedOutcome, reportOf}
 use Rattle.report.specs.Reported.{HandsBack, Reported}
 use Rattle.runs.specs.inner.Begun.{Begun}
-use Rattle.stretches.specs.inner.Stretch.{stretch, stateIn, storeOf, Standing, RunReady, fresh, Ran}
+use Rattle.runs.specs.inner.Stretch.{stretch, stateIn, storeOf, Standing, RunReady, fresh, Ran}
 use Rattle.control.specs.inner.Executing.{sourceOf, Kept}
-use Rattle.stretches.proofs.Splitting.{run-split}
+use Rattle.runs.proofs.Splitting.{run-split}
 use Rattle.template.proofs.Accepted.{accepted-runs}
 use Rattle.report.proofs.Sounding.{start-standing}
 use Rattle.runs.proofs.Stored.{part-held, part-answers}

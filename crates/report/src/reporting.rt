@@ -3,7 +3,7 @@ use meaning::question::Question;
 use runs::Report;
 use runs::reads;
 use runs::start;
-use stretches::stretch;
+use runs::stretch;
 ghost use Rattle.report.specs.Reported.{Reported};
 
 // The report of a template on a store: the text and the questions asked, each from its buffer's start, and how it ended.

@@ -4,3 +4,5 @@ pub mod Rows
 pub mod Starting
 pub mod Stored
 pub mod Beginning
+pub mod Splitting
+pub mod Stretching

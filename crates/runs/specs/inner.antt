@@ -1,2 +1,3 @@
 pub mod Start
 pub mod Begun
+pub mod Stretch

@@ -55,7 +55,7 @@ use Rattle.runs.specs.declared.state.Log.{Log}
 use Rattle.runs.specs.declared.state.Stretch.{Stretch}
 use Rattle.report.specs.Reported.{Reported}
 use Rattle.runs.specs.inner.Begun.{Begun}
-use Rattle.stretches.specs.inner.Stretch.{RunReady, Ran}
+use Rattle.runs.specs.inner.Stretch.{RunReady, Ran}
 use Rattle.report.proofs.Loan.{Slice, Kept, lent, back}
 use Rattle.report.proofs.Local.{arrayTy, is-repeat, lends-local, local-back}
 use Rattle.runs.proofs.Walk.{tests}
@@ -71,10 +71,10 @@ use Rattle.runs.proofs.start.begin as begin
 use Rattle.runs.proofs.start.begin.Symbol as begin-def
 use Rattle.runs.proofs.start.begin.Symbol.{name as #begin}
 use Rattle.runs.proofs.start.begin.Met as begin-thm
-use Rattle.stretches.proofs.stretch.run as run-fn
-use Rattle.stretches.proofs.stretch.run.Symbol as run-def
-use Rattle.stretches.proofs.stretch.run.Symbol.{name as #run}
-use Rattle.stretches.proofs.stretch.run.Met as run-thm
+use Rattle.runs.proofs.stretch.run as run-fn
+use Rattle.runs.proofs.stretch.run.Symbol as run-def
+use Rattle.runs.proofs.stretch.run.Symbol.{name as #run}
+use Rattle.runs.proofs.stretch.run.Met as run-thm
 use Rattle.runs.proofs.reads.append as append
 use Rattle.runs.proofs.reads.append.Symbol as append-def
 use Rattle.runs.proofs.reads.append.Symbol.{name as #append}
@@ -582,5 +582,5 @@ report-spec 𝓤 H 𝓜 𝓖 𝓡 =
     (tables 𝓤 H 𝓜 𝓡 code.env .C) (tables 𝓤 H 𝓜 𝓡 code.env .Λ) #report code.function (code.unfolded 𝓤 H 𝓜 𝓡)
     (report-meets 𝓤 H (𝓖 .A) (givenOf 𝓤 H 𝓜 𝓖) (𝓜 .mem) (𝓡 .run) (tablesOf 𝓤 H 𝓜 (tables 𝓤 H 𝓜 𝓡 code.env))
     (cited 𝓤 H (Begin 𝓤 H (𝓖 .A) (givenOf 𝓤 H 𝓜 𝓖) (𝓜 .mem) (𝓡 .run)) 𝓜 𝓡 code.env #begin begin-def.routine code.calls-runs·start·begin (begin-thm.met 𝓤 H 𝓜 𝓖 𝓡))
-    (cited 𝓤 H (Run 𝓤 H (𝓖 .A) (givenOf 𝓤 H 𝓜 𝓖) (𝓜 .mem) (𝓡 .run)) 𝓜 𝓡 code.env #run run-def.routine code.calls-stretches·stretch·run (run-thm.met 𝓤 H 𝓜 𝓖 𝓡))
+    (cited 𝓤 H (Run 𝓤 H (𝓖 .A) (givenOf 𝓤 H 𝓜 𝓖) (𝓜 .mem) (𝓡 .run)) 𝓜 𝓡 code.env #run run-def.routine code.calls-runs·stretch·run (run-thm.met 𝓤 H 𝓜 𝓖 𝓡))
     (cited 𝓤 H (Append 𝓤 H (𝓖 .A) (givenOf 𝓤 H 𝓜 𝓖) (𝓜 .mem) (𝓡 .run)) 𝓜 𝓡 code.env #append append-def.routine code.calls-runs·reads·append (append-thm.met 𝓤 H 𝓜 𝓖 𝓡)))

@@ -33,13 +33,13 @@ use Rattle.control.specs.State.{State}
 use Rattle.control.specs.Line.{lineMeaning}
 use Rattle.control.specs.inner.Executing.{sourceOf, Kept, stateAt, LineReady, Executes}
 use Rattle.execution.proofs.Sounds.{On, sound-more, line-keeps}
 use Rattle.runs.specs.declared.state.Saved.{Saved}
 use Rattle.runs.specs.declared.state.Stretch.{Stretch}
 use Rattle.runs.specs.Report.{runFrom}
 use Rattle.runs.specs.inner.Start.{overAt, fullAt}
 use Rattle.runs.specs.inner.Begun.{heldIn}
-use Rattle.stretches.specs.inner.Stretch.{stretch, storeOf, stateIn, Standing, RunReady, fresh, Ran}
-use Rattle.stretches.proofs.Splitting.{run-split}
+use Rattle.runs.specs.inner.Stretch.{stretch, storeOf, stateIn, Standing, RunReady, fresh, Ran}
+use Rattle.runs.proofs.Splitting.{run-split}
 
 module _ (t : List ℕ) (end : ℕ) where
   -- ---- the clauses

@@ -9,8 +9,8 @@ use Rattle.meaning.specs.Tree.{done, bind}
 use Rattle.meaning.proofs.Binding.{bind-assoc, bind-same}
 use Rattle.control.specs.State.{State}
 use Rattle.control.specs.Line.{lineMeaning}
 use Rattle.runs.specs.Report.{runFrom}
-use Rattle.stretches.specs.inner.Stretch.{stretch}
+use Rattle.runs.specs.inner.Stretch.{stretch}
 
 module _ (t : List ℕ) (end : ℕ) where
   -- no line is due

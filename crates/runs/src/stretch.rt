@@ -1,14 +1,14 @@
 // A stretch of lines: as many as the log has places for.
+use crate::ends;
+use crate::state::Saved;
+use crate::state::Stretch;
 use execution::line;
 use meaning::count::Counts;
 use meaning::end::Ended;
 use meaning::end::Halt;
 use meaning::refusal::Refusal;
-use runs::ends;
-use runs::state::Saved;
-use runs::state::Stretch;
 ghost use mathlib.Core.Path.{_≡_};
-ghost use Rattle.stretches.specs.inner.Stretch.{RunReady, Ran};
+ghost use Rattle.runs.specs.inner.Stretch.{RunReady, Ran};
 
 // From a stretch on: lines are executed while the log has places for all questions that a line may ask.
 pub fn run<'a, 'b, 'c>(

@@ -3,10 +3,10 @@ use mathlib.Core.Path.{_≡_, refl, sym}
 use lib.ListN.{length}
 use native.Mathlib.Omega.{arith}
 use Rattle.questions.specs.inner.State.{held}
-use Rattle.stretches.proofs.Stretching.{Going, going-start, asked-fit, run-ends, run-exceeds, run-full, line-ready, asked-next, text-next, run-halts, going-next}
+use Rattle.runs.proofs.Stretching.{Going, going-start, asked-fit, run-ends, run-exceeds, run-full, line-ready, asked-next, text-next, run-halts, going-next}
 use borrow.Author.Needs.{needs}
-use Rattle.stretches.proofs.stretch.run.Statement.{statement}
-use Rattle.stretches.proofs.stretch.run.Tie as tie
+use Rattle.runs.proofs.stretch.run.Statement.{statement}
+use Rattle.runs.proofs.stretch.run.Tie as tie
 
 abbrev Inv-loop : tie.InvT-loop
 Inv-loop template store text₀ strings₀ saved len part end count cells asked places numbers₀ words₀ flow₀ left₀ printed₀ log₀ logged₀ text strings numbers words flow left printed log logged =
