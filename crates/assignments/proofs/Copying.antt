@@ -7,15 +7,15 @@ use native.Mathlib.Omega.{arith}
 use native.Mathlib.Nat.{le-antisymm}
 use lib.ListN.{length, take, drop, getD, set, length-set, length-take}
 use lib.Seq.{sets, sets-eq, take-all, take-at, length-take-le}
-use Rattle.questions.specs.inner.Registers.{Puts}
-use Rattle.questions.specs.Machine.{setNumbered}
+use Rattle.values.specs.inner.Registers.{Puts}
+use Rattle.values.specs.Machine.{setNumbered}
 use Rattle.meaning.specs.declared.refusal.Refusal.{Refusal}
 use Rattle.buffers.proofs.Laws.{copied-more}
-use Rattle.strings.specs.declared.part.Text.{Text}
-use Rattle.strings.specs.Letters.{letter}
-use Rattle.strings.specs.inner.Texts.{zeros, rowFor, chosen, Strings, strings, cased}
-use Rattle.strings.proofs.Texts.{text-is, length-cased}
-use Rattle.questions.specs.inner.State.{texts, bank, lengthsIn}
+use Rattle.values.specs.declared.string.Text.{Text}
+use Rattle.values.specs.Letters.{letter}
+use Rattle.values.specs.inner.Texts.{zeros, rowFor, chosen, Strings, strings, cased}
+use Rattle.values.proofs.Texts.{text-is, length-cased}
+use Rattle.values.specs.inner.State.{texts, bank, lengthsIn}
 use Rattle.values.specs.declared.worth.Worth.{Worth}
 use Rattle.values.proofs.Keeping.{strings-kept}
 use Rattle.coercions.specs.declared.settle.Verdict.the-variants as Ve
@@ -25,7 +25,7 @@ use Rattle.assignments.specs.Setting.{stored, stringNew}
 use Rattle.coercions.specs.Settling.{settled}
 use Rattle.coercions.specs.inner.Contracts.{TakesText}
 use Rattle.assignments.specs.inner.Contracts.{Rowed, PutsString, StoresString}
-use Rattle.questions.proofs.Puts.{put-none, put-in, put-past}
+use Rattle.values.proofs.Puts.{put-none, put-in, put-past}
 
 -- ---- a copy of at most 16 bytes
 

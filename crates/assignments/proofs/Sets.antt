@@ -4,7 +4,7 @@ use mathlib.Core.List.{List}
 use Prim.Native.Nat.{ℕ}
 use native.Mathlib.Omega.{arith}
 use lib.IntN.{ℤ, pos}
-use Rattle.questions.specs.inner.Registers.{Puts}
+use Rattle.values.specs.inner.Registers.{Puts}
 use Rattle.meaning.specs.Answer.{Answer}
 use Rattle.meaning.specs.declared.question.Question.{Question}
 use Rattle.meaning.specs.declared.refusal.Refusal.{Refusal}
@@ -12,9 +12,9 @@ use Rattle.numbers.specs.Outcome.{Outcome}
 use Rattle.lines.specs.declared.command.Operation.{Operation}
 use Rattle.lines.specs.declared.command.Target.{Target}
 use Rattle.lines.specs.declared.command.Target.the-variants.{IntegerTarget, DecimalTarget, StringTarget}
-use Rattle.strings.specs.inner.Texts.{Strings, strings}
-use Rattle.questions.specs.Machine.{Variables, numbered}
-use Rattle.questions.specs.inner.State.{texts, integersIn, decimalsIn, lengthsIn, held, variablesOf}
+use Rattle.values.specs.inner.Texts.{Strings, strings}
+use Rattle.values.specs.Machine.{Variables, numbered}
+use Rattle.values.specs.inner.State.{texts, integersIn, decimalsIn, lengthsIn, held, variablesOf}
 use Rattle.values.specs.declared.worth.Worth.{Worth}
 use Rattle.values.specs.Worth as D
 use Rattle.values.specs.inner.Yielding.{meant}

@@ -12,7 +12,7 @@ use Rattle.lines.specs.declared.command.Operation.{Operation}
 use Rattle.lines.specs.declared.command.Operation.the-variants.{Assign, Add, Subtract, Multiply, Divide}
 use Rattle.lines.specs.declared.command.Target.{Target}
 use Rattle.lines.specs.declared.command.Target.the-variants.{IntegerTarget, DecimalTarget, StringTarget}
-use Rattle.questions.specs.Machine.{Variables, Machine, numbered, setNumbered}
+use Rattle.values.specs.Machine.{Variables, Machine, numbered, setNumbered}
 use Rattle.values.specs.Worth.{Worth}
 use Rattle.coercions.specs.Settling.{Settled, settled, andThen, fromOne, integerFrom, decimalFrom, stringFrom, resultOf}
 

@@ -13,7 +13,7 @@ use Rattle.numbers.specs.declared.Quantity.the-variants.{Integer, Decimal}
 use Rattle.numbers.specs.Outcome as N
 use Rattle.numbers.specs.Arithmetic.{inMillionths}
 use Rattle.arguments.specs.declared.argument.Argument.{Argument}
-use Rattle.questions.specs.Machine.{Machine}
+use Rattle.values.specs.Machine.{Machine}
 use Rattle.values.specs.Worth.{Worth, missing, wrong, number, string}
 use Rattle.values.specs.Meanings.{argumentMeaning}
 

@@ -9,8 +9,8 @@ use Rattle.numbers.specs.Order.{equalTo, lessThan, atMost, isZero}
 use Rattle.arguments.specs.declared.argument.Argument.{Argument}
 use Rattle.lines.specs.declared.command.Comparison.{Comparison}
 use Rattle.lines.specs.declared.command.Comparison.the-variants.{SameString, SameLetters, Equal, NotEqual, Less, AtMost, Greater, AtLeast}
-use Rattle.strings.specs.Letters.{equalStrings}
-use Rattle.questions.specs.Machine.{Machine}
+use Rattle.values.specs.Letters.{equalStrings}
+use Rattle.values.specs.Machine.{Machine}
 use Rattle.values.specs.Worth.{Worth, missing, wrong, number, string}
 use Rattle.coercions.specs.Settling.{Settled, settled, against, andThen, quantityFrom, stringFrom, fromOne, fromTwo}
 

@@ -16,10 +16,10 @@ use Rattle.lines.specs.declared.command.Optional.{Optional}
 use Rattle.lines.specs.declared.command.Optional.the-variants.{Given, Absent}
 use Rattle.lines.specs.declared.command.Target.{Target}
 use Rattle.lines.proofs.Accepted.{OptionalWithin, FetchWithin}
-use Rattle.questions.specs.declared.fetch.Along.the-variants.{Records, Entries}
-use Rattle.questions.specs.Machine.{Machine, setNumbered}
-use Rattle.questions.specs.Indexes.{indexNumber}
-use Rattle.questions.specs.Fetching.{fetchMeaning}
+use Rattle.values.specs.declared.fetch.Along.the-variants.{Records, Entries}
+use Rattle.values.specs.Machine.{Machine, setNumbered}
+use Rattle.values.specs.Indexes.{indexNumber}
+use Rattle.values.specs.Fetching.{fetchMeaning}
 use Rattle.values.specs.Worth.{Worth}
 use Rattle.values.specs.Meanings.{argumentMeaning}
 use Rattle.values.proofs.Allowed.{Allowed, AsksAllowed, argument-asks, fetch-asks}

@@ -14,8 +14,8 @@ use Rattle.meaning.specs.declared.end.Halt.{Halt}
 use Rattle.meaning.specs.declared.end.Ended.{Ended}
 use Rattle.meaning.specs.declared.end.Ended.the-variants.{Finished, Halted}
 use Rattle.meaning.proofs.Doing.{then-does, then-over, does-done, does-stop}
-use Rattle.questions.specs.inner.Word.{questions}
-use Rattle.questions.specs.inner.State.{Held}
+use Rattle.values.specs.inner.Word.{questions}
+use Rattle.values.specs.inner.State.{Held}
 use Rattle.coercions.specs.inner.Contracts.{mapped}
 use Rattle.coercions.specs.Settling.{Settled, settled, against, concluded}
 use Rattle.pages.specs.declared.page.Page.{Page}

@@ -10,8 +10,8 @@ use lib.Dec.{leb}
 use lib.IntN.{ℤ, pos, negsuc}
 use lib.Signed.{ltZ}
 use lib.ListN.{length, drop, take, set, drop-of-length-le, length-take}
-use Rattle.questions.specs.inner.Registers.{Puts}
-use Rattle.questions.specs.Machine.{setNumbered}
+use Rattle.values.specs.inner.Registers.{Puts}
+use Rattle.values.specs.Machine.{setNumbered}
 use Rattle.buffers.proofs.Laws.{map-set}
 use Rattle.shapes.specs.declared.seek.Sought.{Sought}
 use Rattle.shapes.specs.declared.seek.Skip.{Skip}
@@ -23,14 +23,14 @@ use Rattle.meaning.specs.declared.refusal.Refusal.the-variants.{BadIndex}
 use Rattle.meaning.specs.declared.end.Halt.{Halt}
 use Rattle.meaning.specs.declared.end.Halt.the-variants.{Refused}
 use Rattle.meaning.specs.declared.end.Ended.the-variants.{Finished, Halted}
-use Rattle.questions.specs.declared.scene.Scene.{Scene}
-use Rattle.questions.specs.declared.fetch.Fetched.{Fetched}
-use Rattle.questions.specs.inner.Hearing.{placeOf}
+use Rattle.values.specs.declared.scene.Scene.{Scene}
+use Rattle.values.specs.declared.fetch.Fetched.{Fetched}
+use Rattle.values.specs.inner.Hearing.{placeOf}
 use Rattle.coercions.specs.Settling.{Settled, settled, against}
 use Rattle.control.specs.Selecting.{datasourceFrom}
 use Rattle.coercions.specs.declared.settle.Taken.{Taken}
 use Rattle.coercions.specs.declared.settle.Taken.the-variants as K
-use Rattle.questions.specs.inner.State.{headingsIn}
+use Rattle.values.specs.inner.State.{headingsIn}
 use Rattle.tables.specs.Looping.{loop}
 use Rattle.tables.specs.inner.Open.{opened}
 use Rattle.pages.specs.declared.heading.Heading.{Heading}

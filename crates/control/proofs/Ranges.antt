@@ -27,9 +27,9 @@ use Rattle.lines.specs.declared.command.Operation.the-variants.{Assign, Add, Su
 use Rattle.lines.specs.declared.command.Optional.{Optional}
 use Rattle.lines.specs.declared.command.Target.{Target}
 use Rattle.lines.specs.declared.command.Target.the-variants.{IntegerTarget, DecimalTarget, StringTarget}
-use Rattle.questions.specs.declared.fetch.Along.the-variants.{Records, Entries}
-use Rattle.questions.specs.Machine.{Machine, numbered, Variables, setNumbered}
-use Rattle.questions.specs.Fetching.{fetchMeaning}
+use Rattle.values.specs.declared.fetch.Along.the-variants.{Records, Entries}
+use Rattle.values.specs.Machine.{Machine, numbered, Variables, setNumbered}
+use Rattle.values.specs.Fetching.{fetchMeaning}
 use Rattle.values.specs.Worth.{Worth, missing, wrong, number, string}
 use Rattle.values.specs.Meanings.{argumentMeaning}
 use Rattle.values.proofs.Giving.{Gives}

@@ -5,9 +5,9 @@ use Rattle.meaning.specs.Answer.{Answer}
 use Rattle.meaning.specs.Tree.{done, bind}
 use Rattle.meaning.specs.Meaning.{Meaning}
 use Rattle.lines.specs.declared.command.Fetch.{Fetch}
-use Rattle.questions.specs.declared.fetch.Along.the-variants.{Records, Entries}
-use Rattle.questions.specs.Machine.{Variables, Machine, setNumbered}
-use Rattle.questions.specs.Fetching.{fetchMeaning}
+use Rattle.values.specs.declared.fetch.Along.the-variants.{Records, Entries}
+use Rattle.values.specs.Machine.{Variables, Machine, setNumbered}
+use Rattle.values.specs.Fetching.{fetchMeaning}
 
 abbrev pub withRecords : Variables → List (List Answer) → Variables
 withRecords v l = record { integers = v .integers; decimals = v .decimals; strings = v .strings; records = l; entries = v .entries }

@@ -16,7 +16,7 @@ use Rattle.shapes.specs.declared.seek.Sought.the-variants.{Branch, TestEnd, Tab
 use Rattle.shapes.specs.Seek.{skipped}
 use Rattle.meaning.specs.Tree.{done, bind}
 use Rattle.meaning.specs.Meaning.{Meaning}
-use Rattle.questions.specs.Machine.{Variables, setNumbered}
+use Rattle.values.specs.Machine.{Variables, setNumbered}
 use Rattle.coercions.specs.Settling.{integerMeaning}
 use Rattle.assignments.specs.Setting.{setMeaning}
 use Rattle.conditions.specs.Testing.{zeroMeaning, testMeaning}

@@ -33,11 +33,11 @@ use Rattle.lines.specs.declared.command.Optional.{Optional}
 use Rattle.lines.specs.declared.command.Optional.the-variants.{Given, Absent}
 use Rattle.lines.specs.declared.command.Comparison.{Comparison}
 use Rattle.lines.specs.declared.command.Comparison.the-variants.{SameString, SameLetters, Equal, Less}
-use Rattle.strings.specs.Letters.{upper, alike}
-use Rattle.questions.specs.Machine.{Machine, numbered, Variables, setNumbered}
-use Rattle.questions.specs.Indexes.{indexNumber, limited, indexValue}
-use Rattle.questions.specs.Asking.{asks, cellMeaning}
-use Rattle.questions.specs.Fetching.{firstOf, elementQuestion, elementQuestions, countValue, asksElements, fetchMeaning}
+use Rattle.values.specs.Letters.{upper, alike}
+use Rattle.values.specs.Machine.{Machine, numbered, Variables, setNumbered}
+use Rattle.values.specs.Indexes.{indexNumber, limited, indexValue}
+use Rattle.values.specs.Asking.{asks, cellMeaning}
+use Rattle.values.specs.Fetching.{firstOf, elementQuestion, elementQuestions, countValue, asksElements, fetchMeaning}
 use Rattle.values.specs.Worth.{answered, ranged, absolute, filteredNumber, filteredString, filtered, kindOf}
 use Rattle.values.specs.Meanings.{worthOf, operandMeaning, argumentMeaning}
 use Rattle.tables.specs.declared.table.Table.{Table}

@@ -6,8 +6,8 @@ use lib.IntN.{ℤ, pos, negsuc}
 use Rattle.meaning.specs.Meaning.{Meaning}
 use Rattle.meaning.specs.declared.refusal.Refusal.the-variants.{BadIndex}
 use Rattle.arguments.specs.declared.index.Index.{Index}
-use Rattle.questions.specs.Machine.{Machine}
-use Rattle.questions.specs.Indexes.{indexNumber}
+use Rattle.values.specs.Machine.{Machine}
+use Rattle.values.specs.Indexes.{indexNumber}
 use Rattle.coercions.specs.Settling.{Settled, settled, against, concluded}
 
 -- 8: "a $SETDS number outside 1–35"

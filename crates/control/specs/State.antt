@@ -4,7 +4,7 @@ use mathlib.Core.List.{List, []}
 use Prim.Native.Nat.{ℕ}
 use lib.IntN.{pos}
 use lib.ListN.{replicate}
-use Rattle.questions.specs.Machine.{Variables, Machine}
+use Rattle.values.specs.Machine.{Variables, Machine}
 use Rattle.tables.specs.declared.table.Table.{Table}
 use Rattle.tables.specs.Looping.{loop}
 use Rattle.pages.specs.declared.page.Page.{Page}

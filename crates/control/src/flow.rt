@@ -1,14 +1,14 @@
 // Where a run goes on, and what its lines are executed in.
 use crate::state::Flow;
 use pages::page::Page;
-use questions::registers::Words;
-use questions::scene::Scene;
 use shapes::seek;
 use shapes::seek::Sought;
 use tables::table;
+use values::registers::Words;
+use values::scene::Scene;
 ghost use mathlib.Core.Path.{_≡_};
 ghost use Prim.Native.Nat.{_+_, _≤_};
-ghost use Rattle.questions.specs.inner.State.{tablesIn};
+ghost use Rattle.values.specs.inner.State.{tablesIn};
 ghost use Rattle.control.specs.inner.Arms.{Jumpable};
 ghost use Rattle.control.specs.inner.Going.{sceneOf, placedAt, datasourceIn, depthIn, feedsIn, pageIn, jumpedIn, againIn};
 

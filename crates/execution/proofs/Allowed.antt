@@ -18,7 +18,7 @@ use Rattle.meaning.specs.Meaning.{Meaning}
 use Rattle.meaning.proofs.Questions.{asks-then}
 use Rattle.cells.proofs.Limits.{AnswerWithin}
 use Rattle.arguments.proofs.Parsed.{Between}
-use Rattle.questions.specs.Machine.{Variables}
+use Rattle.values.specs.Machine.{Variables}
 use Rattle.values.proofs.Allowed.{Allowed, AsksAllowed}
 use Rattle.coercions.specs.Settling.{integerMeaning}
 use Rattle.assignments.specs.Setting.{setMeaning}

@@ -15,9 +15,9 @@ use Rattle.lines.specs.declared.command.Line.the-variants.{BeginTable}
 use Rattle.lines.specs.readers.Command.{parseLine}
 use Rattle.shapes.specs.Form.{shapeIn, shapeOf}
 use Rattle.template.proofs.Opening.{checks-short, opens-line}
-use Rattle.questions.specs.declared.scene.Scene.{Scene}
-use Rattle.questions.specs.declared.fetch.Along.the-variants.{Records, Entries}
-use Rattle.questions.specs.inner.State.{tablesIn, headingsIn}
+use Rattle.values.specs.declared.scene.Scene.{Scene}
+use Rattle.values.specs.declared.fetch.Along.the-variants.{Records, Entries}
+use Rattle.values.specs.inner.State.{tablesIn, headingsIn}
 use Rattle.tables.specs.inner.Open.{opened}
 use Rattle.tables.proofs.Tabling.{opened-length}
 use Rattle.pages.specs.inner.Packed.{headingIn}
@@ -26,7 +26,7 @@ use Rattle.lines.specs.inner.Known.{formOf}
 use Rattle.lines.proofs.KnownLaws.{form-known}
 use Rattle.control.specs.declared.state.Flow.{Flow}
 use Rattle.control.specs.declared.state.Lined.{Lined}
-use Rattle.questions.specs.inner.State.{Held}
+use Rattle.values.specs.inner.State.{Held}
 use Rattle.control.specs.Line.{formMeaning, lineMeaning}
 use Rattle.control.specs.inner.Sound.{Nested}
 use Rattle.control.specs.inner.Going.{endedIn, sceneOf, placedAt}
@@ -39,8 +39,8 @@ use Rattle.meaning.specs.Place.{at, Does}
 use Rattle.meaning.specs.Number.{endOf}
 use Rattle.meaning.specs.declared.end.Halt.{Halt}
 use Rattle.meaning.specs.declared.end.Ended.the-variants.{Finished, Halted}
-use Rattle.strings.specs.inner.Texts.{Strings, strings, Sized}
-use Rattle.questions.specs.inner.Word.{questions}
+use Rattle.values.specs.inner.Texts.{Strings, strings, Sized}
+use Rattle.values.specs.inner.Word.{questions}
 use Rattle.values.specs.declared.working.Inputs.{Inputs}
 use Rattle.values.specs.declared.working.Operands.{Operands}
 use Rattle.values.specs.inner.Yielding.{meant}

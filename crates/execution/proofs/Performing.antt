@@ -7,7 +7,7 @@ use native.Mathlib.Omega.{arith}
 use lib.IntN.{ℤ, pos}
 use lib.Signed.{ltZ}
 use lib.ListN.{length, take, drop, replicate, length-take, length-drop}
-use Rattle.questions.specs.inner.Registers.{Puts}
+use Rattle.values.specs.inner.Registers.{Puts}
 use Rattle.arguments.specs.declared.argument.Argument.{Argument}
 use Rattle.arguments.specs.declared.index.Index.{Index}
 use Rattle.lines.specs.declared.command.Comparison.{Comparison}
@@ -30,18 +30,18 @@ use Rattle.meaning.specs.Place.{at, Does}
 use Rattle.meaning.specs.Number.{endOf}
 use Rattle.meaning.specs.declared.end.Ended.the-variants.{Finished}
 use Rattle.meaning.proofs.Doing.{does-done, does-stop}
-use Rattle.strings.specs.inner.Texts.{Strings, strings}
-use Rattle.questions.specs.declared.scene.Scene.{Scene}
-use Rattle.questions.specs.declared.fetch.Along.{Along}
-use Rattle.questions.specs.declared.fetch.Along.the-variants.{Records, Entries}
-use Rattle.questions.specs.declared.fetch.Fetched.{Fetched}
-use Rattle.questions.specs.Machine.{Variables, setNumbered}
-use Rattle.questions.specs.Fetching.{fetchMeaning}
-use Rattle.questions.specs.inner.Hearing.{placeOf}
-use Rattle.questions.specs.Indexes.{indexNumber}
-use Rattle.questions.specs.inner.Word.{questions}
-use Rattle.questions.specs.inner.Fetch.{Fetchable, FetchValue}
-use Rattle.questions.specs.inner.State.{texts, fetched, bank, integersIn, decimalsIn, lengthsIn, recordsIn, entriesIn, headingsIn, tablesIn, Held, held, variablesOf}
+use Rattle.values.specs.inner.Texts.{Strings, strings}
+use Rattle.values.specs.declared.scene.Scene.{Scene}
+use Rattle.values.specs.declared.fetch.Along.{Along}
+use Rattle.values.specs.declared.fetch.Along.the-variants.{Records, Entries}
+use Rattle.values.specs.declared.fetch.Fetched.{Fetched}
+use Rattle.values.specs.Machine.{Variables, setNumbered}
+use Rattle.values.specs.Fetching.{fetchMeaning}
+use Rattle.values.specs.inner.Hearing.{placeOf}
+use Rattle.values.specs.Indexes.{indexNumber}
+use Rattle.values.specs.inner.Word.{questions}
+use Rattle.values.specs.inner.Fetch.{Fetchable, FetchValue}
+use Rattle.values.specs.inner.State.{texts, fetched, bank, integersIn, decimalsIn, lengthsIn, recordsIn, entriesIn, headingsIn, tablesIn, Held, held, variablesOf}
 use Rattle.values.specs.declared.worth.Worth as W
 use Rattle.values.specs.Worth.{Worth}
 use Rattle.values.specs.inner.Yielding.{meant}
@@ -59,7 +59,7 @@ use Rattle.conditions.specs.inner.Contracts.{JudgesZero}
 use Rattle.tables.specs.inner.Open.{opened, openOf, beginning, passing, AtMostOpen, Stays, beginFrom, endFrom, BeginsTable, EndsTable}
 use Rattle.control.specs.Selecting.{datasourceFrom, datasourceMeaning}
 use Rattle.control.specs.Fetching.{withRecords, withEntries, recordsMeaning, entriesMeaning}
-use Rattle.questions.proofs.Clearing.{zeros-bank, zeros-behind, texts-cleared, fetched-cleared}
+use Rattle.values.proofs.Clearing.{zeros-bank, zeros-behind, texts-cleared, fetched-cleared}
 use Rattle.rendering.specs.inner.Pass.{lent}
 use Rattle.pages.specs.declared.heading.Heading.{Heading}
 use Rattle.pages.specs.declared.step.Paged.{Paged}

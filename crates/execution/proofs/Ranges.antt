@@ -21,7 +21,7 @@ use Rattle.meaning.proofs.Yielding.{Yields, yields-bind, yields-any}
 use Rattle.numbers.specs.Range.{integerLimit}
 use Rattle.cells.proofs.Limits.{AnswerWithin}
 use Rattle.arguments.proofs.Parsed.{Between}
-use Rattle.questions.specs.Machine.{Variables}
+use Rattle.values.specs.Machine.{Variables}
 use Rattle.values.proofs.Ranges.{IntegerWithin, DecimalWithin, Short, MachineWithin, VariablesWithin}
 use Rattle.shapes.specs.declared.seek.Sought.the-variants.{TableEnd}
 use Rattle.tables.specs.declared.table.Table.{Table}

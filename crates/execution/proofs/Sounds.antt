@@ -29,7 +29,7 @@ use Rattle.meaning.specs.Tree.{done, bind}
 use Rattle.meaning.specs.Rule.{Keeps, pageLimit}
 use Rattle.meaning.specs.Meaning.{Meaning}
 use Rattle.meaning.proofs.Keeping.{keeps-bind}
-use Rattle.questions.specs.Machine.{Variables}
+use Rattle.values.specs.Machine.{Variables}
 use Rattle.values.proofs.Giving.{Gives, Anything, gives-keeps}
 use Rattle.tables.specs.declared.table.Table as C
 use Rattle.coercions.specs.Settling.{integerMeaning}

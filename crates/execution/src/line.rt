@@ -9,10 +9,10 @@ use control::state::Lined;
 use lines::command;
 use meaning::count::Counts;
 use meaning::end::Ended;
-use questions::registers::Numbers;
-use questions::registers::Words;
+use values::registers::Numbers;
+use values::registers::Words;
 use values::working;
-ghost use Rattle.questions.specs.inner.State.{held};
+ghost use Rattle.values.specs.inner.State.{held};
 ghost use Rattle.control.specs.Line.{lineMeaning};
 ghost use Rattle.control.specs.inner.Executing.{stateAt, LineReady, Executes};
 

@@ -20,7 +20,7 @@ use Rattle.texts.specs.Pieces.{read, piecesOf}
 use Rattle.meaning.specs.Each.{Each}
 use Rattle.meaning.specs.Tree.{done, bind}
 use Rattle.meaning.proofs.Yielding.{Yields, yields-bind}
-use Rattle.questions.specs.Machine.{Machine}
+use Rattle.values.specs.Machine.{Machine}
 use Rattle.values.specs.Worth.{Worth}
 use Rattle.values.specs.Meanings.{argumentMeaning}
 use Rattle.values.proofs.Giving.{Anything}

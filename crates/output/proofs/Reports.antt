@@ -35,8 +35,8 @@ use Rattle.meaning.specs.Meaning.{Meaning}
 use Rattle.meaning.specs.declared.question.Question.{Question}
 use Rattle.meaning.specs.declared.refusal.Refusal.the-variants.{TooManyLines, BadStore}
 use Rattle.meaning.proofs.Yielding.{Yields, yields-any}
-use Rattle.questions.specs.Machine.{Variables}
-use Rattle.questions.specs.Source.{answers}
+use Rattle.values.specs.Machine.{Variables}
+use Rattle.values.specs.Source.{answers}
 use Rattle.values.proofs.Giving.{Gives, Anything}
 use Rattle.coercions.specs.Settling.{integerMeaning}
 use Rattle.assignments.specs.Setting.{setMeaning}

@@ -22,11 +22,11 @@ use Rattle.lines.specs.declared.command.Fetch.{Fetch}
 use Rattle.lines.specs.declared.command.Operation.{Operation}
 use Rattle.lines.specs.declared.command.Target.{Target}
 use Rattle.lines.specs.declared.command.Target.the-variants.{IntegerTarget, DecimalTarget, StringTarget}
-use Rattle.questions.specs.declared.fetch.Along.the-variants.{Records, Entries}
-use Rattle.questions.specs.Machine.{Machine, numbered, Variables, setNumbered}
+use Rattle.values.specs.declared.fetch.Along.the-variants.{Records, Entries}
+use Rattle.values.specs.Machine.{Machine, numbered, Variables, setNumbered}
 use Rattle.values.specs.Worth.{Worth, missing, wrong, number, string, answered, ranged, absolute, filteredNumber, filteredString, filtered, kindOf}
-use Rattle.questions.specs.Asking.{cellMeaning}
-use Rattle.questions.specs.Fetching.{element, fetchMeaning}
+use Rattle.values.specs.Asking.{cellMeaning}
+use Rattle.values.specs.Fetching.{element, fetchMeaning}
 use Rattle.values.specs.Meanings.{worthOf, operandMeaning, argumentMeaning}
 use Rattle.values.proofs.Answering.{cell-has, fetch-has}
 use Rattle.values.proofs.Ranges.{numbered-each}

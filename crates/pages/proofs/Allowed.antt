@@ -12,7 +12,7 @@ use Rattle.texts.specs.declared.text.Piece.{Piece}
 use Rattle.texts.specs.declared.text.Piece.the-variants.{Plain, Placed}
 use Rattle.texts.specs.Pieces.{piecesOf}
 use Rattle.texts.proofs.FieldLaws.{EachLimited, fields-limited}
-use Rattle.questions.specs.Machine.{Machine}
+use Rattle.values.specs.Machine.{Machine}
 use Rattle.values.specs.Meanings.{argumentMeaning}
 use Rattle.values.proofs.Allowed.{Allowed, AsksAllowed, argument-asks}
 use Rattle.pages.specs.declared.page.Page.{Page}

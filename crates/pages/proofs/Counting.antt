@@ -13,7 +13,7 @@ use Rattle.meaning.specs.Event.{Event, line, break, breaks}
 use Rattle.meaning.specs.Tree.{done, bind}
 use Rattle.meaning.specs.Rule.{Rule, after, Keeps}
 use Rattle.meaning.proofs.Keeping.{keeps-bind}
-use Rattle.questions.specs.Machine.{Machine}
+use Rattle.values.specs.Machine.{Machine}
 use Rattle.values.specs.Meanings.{argumentMeaning}
 use Rattle.values.proofs.Giving.{Gives, Anything, gives-bind, gives-keeps, argument-gives}
 use Rattle.rendering.specs.Text.{fieldValues, rendered, anyWrong, printed, textMeaning}

@@ -5,8 +5,8 @@ use Prim.Native.Nat.{ℕ, zero, suc, _+_, _*_, _/_, _%_, _≤_}
 use native.Mathlib.Omega.{arith}
 use native.Mathlib.Numerals.{add-one}
 use lib.ListN.{length, getD, take, drop, length-take, length-map, List·getD-eq-default}
-use Rattle.questions.specs.Machine.{numbered}
-use Rattle.questions.specs.inner.State.{bank, headingsIn}
+use Rattle.values.specs.Machine.{numbered}
+use Rattle.values.specs.inner.State.{bank, headingsIn}
 use Rattle.pages.specs.declared.heading.Heading.{Heading}
 use Rattle.pages.specs.Heading.{noHeading}
 use Rattle.pages.specs.inner.Packed.{headingIn, headingsOf, Small}

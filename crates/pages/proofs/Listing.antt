@@ -12,7 +12,7 @@ use Rattle.meaning.specs.Event.{break}
 use Rattle.meaning.specs.Tree.{done, print, bind}
 use Rattle.meaning.specs.Meaning.{Meaning}
 use Rattle.meaning.proofs.Binding.{bind-assoc}
-use Rattle.questions.specs.Machine.{Machine}
+use Rattle.values.specs.Machine.{Machine}
 use Rattle.rendering.specs.Text.{textMeaning}
 use Rattle.pages.specs.declared.page.Page.{Page}
 use Rattle.pages.specs.declared.heading.Heading.{Heading}

@@ -15,7 +15,7 @@ use Rattle.texts.specs.declared.text.Piece.the-variants.{Plain, Placed}
 use Rattle.texts.specs.Pieces.{piecesOf}
 use Rattle.texts.proofs.FieldLaws.{Limited, EachLimited, fields-limited}
 use Rattle.fields.specs.Field.{widthAllowed, shown, fieldOf}
-use Rattle.questions.specs.Machine.{Machine}
+use Rattle.values.specs.Machine.{Machine}
 use Rattle.values.specs.Worth.{Worth, missing, wrong, number, string}
 use Rattle.values.specs.Meanings.{argumentMeaning}
 use Rattle.values.proofs.Ranges.{WorthWithin, MachineWithin, millionths-within, argument-within}

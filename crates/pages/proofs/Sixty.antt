@@ -11,7 +11,7 @@ use Rattle.meaning.specs.Event.{line}
 use Rattle.meaning.specs.Tree.{done, bind}
 use Rattle.meaning.specs.Rule.{Keeps, pageLimit}
 use Rattle.meaning.proofs.Keeping.{keeps-bind}
-use Rattle.questions.specs.Machine.{Machine}
+use Rattle.values.specs.Machine.{Machine}
 use Rattle.values.proofs.Giving.{Anything, gives-keeps}
 use Rattle.pages.specs.declared.page.Page.{Page}
 use Rattle.pages.specs.declared.heading.Heading.{Heading}

@@ -16,9 +16,9 @@ use Rattle.meaning.specs.declared.end.Halt.{Halt}
 use Rattle.meaning.specs.declared.end.Ended.the-variants.{Finished, Halted}
 use Rattle.meaning.proofs.Doing.{then-does, then-over, does-done}
 use Rattle.meaning.proofs.Looping.{Leads, leads-start, leads-next, leads-over, leads-end}
-use Rattle.questions.specs.declared.scene.Scene.{Scene}
-use Rattle.questions.specs.inner.Word.{questions}
-use Rattle.questions.specs.Source.{answers}
+use Rattle.values.specs.declared.scene.Scene.{Scene}
+use Rattle.values.specs.inner.Word.{questions}
+use Rattle.values.specs.Source.{answers}
 use Rattle.texts.specs.Pieces.{read, piecesOf, fieldCount}
 use Rattle.texts.specs.Width.{totalWidth}
 use Rattle.texts.specs.readers.Text.{piecesWithin, textPieces, fitsBehind, textFits}

@@ -7,7 +7,7 @@ use lib.ListN.{take, drop, getD}
 use Rattle.meaning.specs.Event.{break}
 use Rattle.meaning.specs.Tree.{done, print, bind}
 use Rattle.meaning.specs.Meaning.{Meaning}
-use Rattle.questions.specs.Machine.{Machine}
+use Rattle.values.specs.Machine.{Machine}
 use Rattle.pages.specs.declared.page.Page.{Page}
 use Rattle.pages.specs.declared.heading.Heading.{Heading}
 use Rattle.pages.specs.Heading.{noHeading}

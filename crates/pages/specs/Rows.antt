@@ -15,7 +15,7 @@ use Rattle.meaning.specs.declared.refusal.Refusal.{Refusal}
 use Rattle.meaning.specs.declared.refusal.Overflow.the-variants.{Output}
 use Rattle.scan.specs.Ascii.{ascii}
 use Rattle.texts.specs.readers.Text.{piecesWithin, textPieces}
-use Rattle.questions.specs.Machine.{Machine}
+use Rattle.values.specs.Machine.{Machine}
 use Rattle.pages.specs.declared.page.Page.{Page}
 use Rattle.pages.specs.declared.heading.Heading.{Heading}
 use Rattle.pages.specs.Heading.{noHeading}

@@ -1,9 +1,9 @@
 // Headings: each of nine is kept as one number.
-use questions::registers;
-use questions::registers::Words;
+use values::registers;
+use values::registers::Words;
 ghost use mathlib.Core.Path.{_≡_};
 ghost use lib.ListN.{getD};
-ghost use Rattle.questions.specs.inner.State.{headingsIn};
+ghost use Rattle.values.specs.inner.State.{headingsIn};
 ghost use Rattle.pages.specs.Heading.{noHeading};
 ghost use Rattle.pages.specs.inner.Packed.{Small, headingIn, headingsOf};
 

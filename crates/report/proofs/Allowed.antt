@@ -21,7 +21,7 @@ use Rattle.meaning.specs.declared.refusal.Refusal.the-variants.{TooManyLines, B
 use Rattle.meaning.proofs.Yielding.{yields-kept}
 use Rattle.meaning.proofs.Questions.{asks-bind, asks-run}
 use Rattle.numbers.specs.Range.{integerLimit}
-use Rattle.questions.specs.Source.{answers}
+use Rattle.values.specs.Source.{answers}
 use Rattle.values.proofs.Ranges.{answers-within}
 use Rattle.values.proofs.Allowed.{Allowed, AsksAllowed}
 use Rattle.control.specs.State.{State}

@@ -20,7 +20,7 @@ use Rattle.meaning.specs.declared.end.Ended.the-variants.{Finished, Halted}
 use Rattle.meaning.proofs.Doing.{text-kept}
 use Rattle.meaning.proofs.Looping.{Leads, leads-start, leads-next}
 use Rattle.meaning.proofs.Moving.{asked-most, moved}
-use Rattle.questions.specs.inner.Word.{unpacked, questions}
+use Rattle.values.specs.inner.Word.{unpacked, questions}
 use Rattle.runs.specs.declared.Report.{Report}
 use Rattle.runs.specs.declared.state.Saved.{Saved}
 use Rattle.runs.specs.declared.state.Stretch.{Stretch}

@@ -9,7 +9,7 @@ use borrow.Author.Tests.{ltb-false}
 use lib.Dec.{ltb}
 use lib.ListN.{length}
 use Rattle.numbers.specs.Range.{integerLimit}
-use Rattle.questions.specs.Machine.{Machine}
+use Rattle.values.specs.Machine.{Machine}
 use Rattle.values.proofs.Ranges.{MachineWithin}
 use Rattle.pages.specs.declared.page.Page.{Page}
 use Rattle.pages.specs.declared.heading.Heading.{Heading}

@@ -23,7 +23,7 @@ use Rattle.meaning.specs.declared.question.Question.{Question}
 use Rattle.meaning.specs.declared.refusal.Refusal.the-variants.{TooManyLines, BadStore}
 use Rattle.meaning.proofs.Keeping.{keeps-bind, keeps-end, keeps-pages}
 use Rattle.meaning.proofs.Events.{page-count}
-use Rattle.questions.specs.Source.{answers}
+use Rattle.values.specs.Source.{answers}
 use Rattle.control.specs.State.{State}
 use Rattle.control.specs.Line.{lineMeaning}
 use Rattle.pages.proofs.Counting.{counting, counted}

@@ -19,7 +19,7 @@ use Rattle.meaning.specs.declared.question.Question.{Question}
 use Rattle.meaning.proofs.Yielding.{Yields, yields-bind, yields-kept, yields-end}
 use Rattle.numbers.specs.Range.{integerLimit}
 use Rattle.cells.proofs.Limits.{AnswerWithin}
-use Rattle.questions.specs.Source.{answers}
+use Rattle.values.specs.Source.{answers}
 use Rattle.values.proofs.Ranges.{MachineWithin, answers-within}
 use Rattle.control.specs.State.{State, seen}
 use Rattle.control.specs.Line.{lineMeaning}

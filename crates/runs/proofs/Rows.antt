@@ -10,7 +10,7 @@ use denote.Array.{arrayVal}
 use lib.ListN.{length, getD, set, take, drop, length-set}
 use lib.Seq.{sets}
 use Rattle.meaning.specs.declared.question.Question.{Question}
-use Rattle.questions.specs.inner.Word.{unpacked, questions}
+use Rattle.values.specs.inner.Word.{unpacked, questions}
 use Rattle.runs.specs.declared.state.Log.{Log}
 
 -- with i questions of the log added, zs is the list: what the rest adds to it is what the whole adds to ys

@@ -5,7 +5,7 @@ use Prim.Native.Nat.{ℕ}
 use Rattle.template.specs.declared.Run.{Run}
 use Rattle.meaning.specs.Answer.{Answer}
 use Rattle.meaning.specs.declared.question.Question.{Question}
-use Rattle.questions.specs.inner.State.{texts, wordsFrom, fetched, bank}
+use Rattle.values.specs.inner.State.{texts, wordsFrom, fetched, bank}
 use Rattle.tables.specs.inner.Open.{opened}
 use Rattle.pages.specs.inner.Packed.{headingIn}
 use Rattle.control.specs.inner.Held.{stateOf}

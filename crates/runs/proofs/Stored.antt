@@ -17,7 +17,7 @@ use Rattle.cells.proofs.Locating.{held-some}
 use Rattle.cells.proofs.Replies.{index-ready}
 use Rattle.meaning.specs.Answer.{Answer}
 use Rattle.meaning.specs.declared.question.Question.{Question}
-use Rattle.questions.specs.Source.{answers}
+use Rattle.values.specs.Source.{answers}
 use Rattle.control.specs.inner.Executing.{sourceOf, Kept}
 
 module _ (b : List ℕ) (n : ℕ) (h : n ≤ length b) where

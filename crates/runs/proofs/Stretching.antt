@@ -25,8 +25,8 @@ use Rattle.meaning.specs.declared.end.Ended.the-variants.{Finished, Halted}
 use Rattle.meaning.proofs.Doing.{then-does, then-over, does-done, does-stop, room-kept, left-kept, text-kept}
 use Rattle.meaning.proofs.Looping.{Leads, leads-start, leads-next, leads-end}
 use Rattle.meaning.proofs.Keeping.{yields}
-use Rattle.questions.specs.inner.Word.{questions}
-use Rattle.questions.specs.inner.State.{bank, tablesIn, Held, held}
+use Rattle.values.specs.inner.Word.{questions}
+use Rattle.values.specs.inner.State.{bank, tablesIn, Held, held}
 use Rattle.control.specs.declared.state.Flow.{Flow}
 use Rattle.control.specs.declared.state.Lined.{Lined}
 use Rattle.control.specs.State.{State}

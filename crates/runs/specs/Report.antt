@@ -18,7 +18,7 @@ use Rattle.meaning.specs.Meaning.{Meaning}
 use Rattle.meaning.specs.declared.question.Question.{Question}
 use Rattle.meaning.specs.declared.refusal.Refusal.{Refusal}
 use Rattle.meaning.specs.declared.refusal.Refusal.the-variants.{TooManyLines, BadStore}
-use Rattle.questions.specs.Source.{answers}
+use Rattle.values.specs.Source.{answers}
 use Rattle.pages.specs.Page.{newPage}
 use Rattle.runs.specs.declared.Report.{Report}
 use Rattle.control.specs.State.{State, noVariables, noLayout}

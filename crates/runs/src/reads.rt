@@ -1,12 +1,12 @@
 // The read list.
 use crate::state::Log;
 use meaning::question::Question;
-use questions::word;
+use values::word;
 ghost use mathlib.Core.Path.{_≡_};
 ghost use Prim.Native.Nat.{_+_, _≤_};
 ghost use lib.ListN.{length, take};
 ghost use lib.Seq.{sets};
-ghost use Rattle.questions.specs.inner.Word.{questions};
+ghost use Rattle.values.specs.inner.Word.{questions};
 
 // Adds the questions of a log to the read list.
 pub fn append(reads: &mut [Question], log: Log)

@@ -1,8 +1,8 @@
 // What stands between two stretches of lines.
 use crate::Report;
 use control::state::Flow;
-use questions::registers::Numbers;
-use questions::registers::Words;
+use values::registers::Numbers;
+use values::registers::Words;
 
 // The questions of a stretch, each as one number, and the place of the first of them on the read list.
 pub struct Log {

@@ -14,7 +14,7 @@ use lib.Seq.{getD-take, getD-drop, getD-set-same, getD-set-other, drop-set-add, 
 use Rattle.meaning.specs.declared.refusal.Refusal.{Refusal}
 use Rattle.meaning.specs.declared.refusal.Refusal.the-variants.{OutOfRange}
 use Rattle.tables.specs.declared.table.Table.{Table}
-use Rattle.questions.specs.inner.State.{bank, tablesIn}
+use Rattle.values.specs.inner.State.{bank, tablesIn}
 use Rattle.coercions.specs.declared.settle.Judged.the-variants as J
 use Rattle.coercions.specs.declared.settle.Taken.{Taken}
 use Rattle.coercions.specs.declared.settle.Taken.the-variants.{Value, Refused}

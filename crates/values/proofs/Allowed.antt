@@ -28,12 +28,12 @@ use Rattle.arguments.specs.declared.operand.Operand.{Operand}
 use Rattle.arguments.specs.declared.operand.Operand.the-variants.{Number, Text, IntegerVariable, DecimalVariable, StringVariable, PageNumber, LineNumber, LoopCounter, RecordElement, EntryElement, Parameter, Record, Entry}
 use Rattle.arguments.specs.Admitted.{entries, neither, countOf, admits}
 use Rattle.arguments.proofs.Parsed.{Between, OperandWithin, ArgumentWithin}
-use Rattle.questions.specs.declared.fetch.Along.{Along}
-use Rattle.questions.specs.declared.fetch.Along.the-variants.{Records, Entries}
-use Rattle.questions.specs.Machine.{Machine}
-use Rattle.questions.specs.Indexes.{indexNumber, limited, indexValue}
-use Rattle.questions.specs.Asking.{question, asks, cellMeaning}
-use Rattle.questions.specs.Fetching.{elementQuestion, elementQuestions, countValue, firstOf, asksElements, fetchMeaning}
+use Rattle.values.specs.declared.fetch.Along.{Along}
+use Rattle.values.specs.declared.fetch.Along.the-variants.{Records, Entries}
+use Rattle.values.specs.Machine.{Machine}
+use Rattle.values.specs.Indexes.{indexNumber, limited, indexValue}
+use Rattle.values.specs.Asking.{question, asks, cellMeaning}
+use Rattle.values.specs.Fetching.{elementQuestion, elementQuestions, countValue, firstOf, asksElements, fetchMeaning}
 use Rattle.values.specs.Worth.{answered, filtered, kindOf}
 use Rattle.values.specs.Meanings.{worthOf, operandMeaning, argumentMeaning}
 

@@ -11,11 +11,11 @@ use Rattle.meaning.specs.declared.question.Question.{Question}
 use Rattle.meaning.specs.declared.refusal.Refusal.the-variants.{BadIndex}
 use Rattle.meaning.proofs.Yielding.{Yields, yields-bind, yields-any}
 use Rattle.arguments.specs.declared.index.Index.{Index}
-use Rattle.questions.specs.declared.fetch.Along.{Along}
-use Rattle.questions.specs.Machine.{Machine}
-use Rattle.questions.specs.Indexes.{indexNumber, indexValue}
-use Rattle.questions.specs.Asking.{question, asks, cellMeaning}
-use Rattle.questions.specs.Fetching.{elementQuestion, elementQuestions, countValue, firstOf, asksElements, fetchMeaning}
+use Rattle.values.specs.declared.fetch.Along.{Along}
+use Rattle.values.specs.Machine.{Machine}
+use Rattle.values.specs.Indexes.{indexNumber, indexValue}
+use Rattle.values.specs.Asking.{question, asks, cellMeaning}
+use Rattle.values.specs.Fetching.{elementQuestion, elementQuestions, countValue, firstOf, asksElements, fetchMeaning}
 use Rattle.values.specs.Worth.{Worth, answered}
 use Rattle.values.specs.Meanings.{worthOf}
 

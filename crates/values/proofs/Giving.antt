@@ -19,11 +19,11 @@ use Rattle.arguments.specs.declared.index.Index.{Index}
 use Rattle.arguments.specs.declared.index.Index.the-variants.{Fixed}
 use Rattle.arguments.specs.declared.operand.Operand.{Operand}
 use Rattle.arguments.specs.declared.operand.Operand.the-variants.{Number, Text, IntegerVariable, DecimalVariable, StringVariable, PageNumber, LineNumber, LoopCounter, RecordElement, EntryElement, Parameter, Record, Entry}
-use Rattle.questions.specs.declared.fetch.Along.{Along}
-use Rattle.questions.specs.Machine.{Machine}
-use Rattle.questions.specs.Indexes.{indexNumber, limited, indexValue}
-use Rattle.questions.specs.Asking.{asks, cellMeaning}
-use Rattle.questions.specs.Fetching.{firstOf, countValue, asksElements, elementQuestion, elementQuestions, fetchMeaning}
+use Rattle.values.specs.declared.fetch.Along.{Along}
+use Rattle.values.specs.Machine.{Machine}
+use Rattle.values.specs.Indexes.{indexNumber, limited, indexValue}
+use Rattle.values.specs.Asking.{asks, cellMeaning}
+use Rattle.values.specs.Fetching.{firstOf, countValue, asksElements, elementQuestion, elementQuestions, fetchMeaning}
 use Rattle.values.specs.Worth.{answered, filtered, kindOf}
 use Rattle.values.specs.Meanings.{worthOf, operandMeaning, argumentMeaning}
 

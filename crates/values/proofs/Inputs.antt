@@ -15,12 +15,12 @@ use Rattle.meaning.specs.declared.end.Ended.the-variants.{Finished, Halted}
 use Rattle.meaning.proofs.Doing.{then-does, then-over, does-done}
 use Rattle.arguments.specs.declared.argument.Argument.{Argument}
 use Rattle.arguments.specs.inner.Parameter.{parameterOf}
-use Rattle.strings.specs.inner.Texts.{Strings, strings}
-use Rattle.questions.specs.declared.scene.Scene.{Scene}
-use Rattle.questions.specs.inner.Word.{questions}
-use Rattle.questions.specs.Source.{answers}
-use Rattle.questions.specs.inner.State.{Held, machine}
-use Rattle.questions.specs.inner.Hearing.{Askable}
+use Rattle.values.specs.inner.Texts.{Strings, strings}
+use Rattle.values.specs.declared.scene.Scene.{Scene}
+use Rattle.values.specs.inner.Word.{questions}
+use Rattle.values.specs.Source.{answers}
+use Rattle.values.specs.inner.State.{Held, machine}
+use Rattle.values.specs.inner.Hearing.{Askable}
 use Rattle.values.specs.declared.worth.Worth as D
 use Rattle.values.specs.declared.worth.Worth.the-variants as W
 use Rattle.values.specs.declared.worth.Valued.{Valued}

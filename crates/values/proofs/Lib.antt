@@ -1,3 +1,12 @@
+pub mod Texts
+pub mod Words
+pub mod Lists
+pub mod Indexes
+pub mod Asking
+pub mod Recalling
+pub mod Fetches
+pub mod Puts
+pub mod Clearing
 pub mod Worths
 pub mod Operands
 pub mod Arguments

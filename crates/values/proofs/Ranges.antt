@@ -25,12 +25,12 @@ use Rattle.arguments.specs.declared.index.Index.the-variants.{Fixed, Variable, 
 use Rattle.arguments.specs.declared.operand.Operand.{Operand}
 use Rattle.arguments.specs.declared.operand.Operand.the-variants.{Number, Text, IntegerVariable, DecimalVariable, StringVariable, PageNumber, LineNumber, LoopCounter, RecordElement, EntryElement, Parameter, Record, Entry}
 use Rattle.arguments.proofs.Parsed.{Between, QuantityWithin, IndexWithin, OperandWithin, ArgumentWithin}
-use Rattle.strings.specs.Letters.{upper}
-use Rattle.questions.specs.declared.fetch.Along.{Along}
-use Rattle.questions.specs.Machine.{Variables, Machine, numbered}
-use Rattle.questions.specs.Asking.{cellMeaning}
-use Rattle.questions.specs.Fetching.{element, fetchMeaning}
-use Rattle.questions.specs.Source.{answers}
+use Rattle.values.specs.Letters.{upper}
+use Rattle.values.specs.declared.fetch.Along.{Along}
+use Rattle.values.specs.Machine.{Variables, Machine, numbered}
+use Rattle.values.specs.Asking.{cellMeaning}
+use Rattle.values.specs.Fetching.{element, fetchMeaning}
+use Rattle.values.specs.Source.{answers}
 use Rattle.values.specs.Worth.{Worth, missing, wrong, number, string, answered, absolute, filteredNumber, filteredString, filtered, kindOf}
 use Rattle.values.specs.Meanings.{worthOf, operandMeaning, argumentMeaning}
 use Rattle.values.proofs.Keeping.{absolute-integer, absolute-decimal}

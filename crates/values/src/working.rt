@@ -1,13 +1,13 @@
 // The arguments of a line, worked out before its command: "arguments left to right, 8 then 9 each".
+use crate::registers::Numbers;
+use crate::registers::Words;
+use crate::scene::Scene;
 use crate::value;
 use crate::worth::Worth;
 use arguments::argument::Argument;
 use meaning::end::Ended;
-use questions::registers::Numbers;
-use questions::registers::Words;
-use questions::scene::Scene;
-ghost use Rattle.strings.specs.inner.Texts.{Sized};
-ghost use Rattle.questions.specs.inner.State.{held};
+ghost use Rattle.values.specs.inner.Texts.{Sized};
+ghost use Rattle.values.specs.inner.State.{held};
 ghost use Rattle.values.specs.inner.Working.{Workable, WorksOut};
 
 // The arguments that are worked out before a command.

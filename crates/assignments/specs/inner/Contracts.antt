@@ -4,13 +4,13 @@ use mathlib.Core.List.{List}
 use Prim.Native.Nat.{ℕ, _+_, _≤_}
 use lib.IntN.{ℤ}
 use lib.ListN.{length}
-use Rattle.questions.specs.Machine.{setNumbered}
+use Rattle.values.specs.Machine.{setNumbered}
 use Rattle.meaning.specs.Answer.{Answer}
 use Rattle.meaning.specs.declared.question.Question.{Question}
 use Rattle.lines.specs.declared.command.Operation.{Operation}
 use Rattle.lines.specs.declared.command.Target.{Target}
-use Rattle.strings.specs.inner.Texts.{strings}
-use Rattle.questions.specs.inner.State.{texts, bank, lengthsIn, headingsIn, tablesIn, Held, variablesOf}
+use Rattle.values.specs.inner.Texts.{strings}
+use Rattle.values.specs.inner.State.{texts, bank, lengthsIn, headingsIn, tablesIn, Held, variablesOf}
 use Rattle.values.specs.declared.worth.Worth as W
 use Rattle.values.specs.inner.Yielding.{meant}
 use Rattle.coercions.specs.declared.settle.Taken.{Taken}

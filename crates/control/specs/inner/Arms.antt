@@ -7,8 +7,8 @@ use lib.Dec.{leb}
 use lib.IntN.{ℤ, pos}
 use lib.Signed.{ltZ}
 use lib.ListN.{length, drop, replicate}
-use Rattle.questions.specs.inner.Registers.{Puts}
-use Rattle.questions.specs.Machine.{setNumbered}
+use Rattle.values.specs.inner.Registers.{Puts}
+use Rattle.values.specs.Machine.{setNumbered}
 use Rattle.shapes.specs.declared.seek.Sought.the-variants.{Branch, TableEnd}
 use Rattle.meaning.specs.Answer.{Answer}
 use Rattle.meaning.specs.Place.{at, Does}
@@ -22,8 +22,8 @@ use Rattle.meaning.specs.declared.end.Ended.the-variants.{Finished, Halted}
 use Rattle.coercions.specs.declared.settle.Taken.{Taken}
 use Rattle.coercions.specs.declared.settle.Taken.the-variants as K
 use Rattle.coercions.specs.Settling.{Settled, settled, against}
-use Rattle.questions.specs.declared.fetch.Fetched.{Fetched}
-use Rattle.questions.specs.inner.State.{bank, headingsIn, tablesIn}
+use Rattle.values.specs.declared.fetch.Fetched.{Fetched}
+use Rattle.values.specs.inner.State.{bank, headingsIn, tablesIn}
 use Rattle.pages.specs.declared.heading.Heading.{Heading}
 use Rattle.pages.specs.inner.Packed.{headingsOf}
 use Rattle.pages.specs.Page.{breakMeaning}

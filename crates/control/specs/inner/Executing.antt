@@ -12,11 +12,11 @@ use Rattle.meaning.specs.Place.{at, Does}
 use Rattle.meaning.specs.Number.{endOf}
 use Rattle.meaning.specs.Meaning.{Meaning}
 use Rattle.meaning.specs.declared.question.Question.{Question}
-use Rattle.questions.specs.declared.scene.Scene.{Scene}
-use Rattle.questions.specs.inner.Word.{questions}
-use Rattle.questions.specs.Machine.{Machine}
-use Rattle.questions.specs.Source.{answers}
-use Rattle.questions.specs.inner.State.{decimalsIn, headingsIn, tablesIn, Held, machine}
+use Rattle.values.specs.declared.scene.Scene.{Scene}
+use Rattle.values.specs.inner.Word.{questions}
+use Rattle.values.specs.Machine.{Machine}
+use Rattle.values.specs.Source.{answers}
+use Rattle.values.specs.inner.State.{decimalsIn, headingsIn, tablesIn, Held, machine}
 use Rattle.arguments.specs.declared.argument.Argument.{Argument}
 use Rattle.lines.specs.declared.command.Line.{Line}
 use Rattle.lines.specs.declared.command.Line.the-variants.{BeginTable}

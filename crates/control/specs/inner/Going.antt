@@ -7,7 +7,7 @@ use lib.ListN.{drop}
 use Rattle.meaning.specs.declared.end.Ended.{Ended}
 use Rattle.shapes.specs.declared.seek.Sought.{Sought}
 use Rattle.shapes.specs.Seek.{skipped}
-use Rattle.questions.specs.declared.scene.Scene.{Scene}
+use Rattle.values.specs.declared.scene.Scene.{Scene}
 use Rattle.tables.specs.Looping.{loop, innermost}
 use Rattle.tables.specs.inner.Open.{opened}
 use Rattle.pages.specs.declared.page.Page.{Page}

@@ -1,7 +1,7 @@
 -- The state that stands for what the code holds between two lines.
 use Rattle.meaning.specs.Answer.{Answer}
 use Rattle.meaning.specs.declared.question.Question.{Question}
-use Rattle.questions.specs.inner.State.{headingsIn, tablesIn, Held, variablesOf}
+use Rattle.values.specs.inner.State.{headingsIn, tablesIn, Held, variablesOf}
 use Rattle.tables.specs.inner.Open.{opened}
 use Rattle.pages.specs.inner.Packed.{headingsOf}
 use Rattle.control.specs.declared.state.Flow.{Flow}

@@ -8,7 +8,7 @@ use Rattle.nesting.specs.Nest.{Mark, section, test, other, table}
 use Rattle.texts.specs.readers.Text.{textFits}
 use Rattle.template.specs.Opening.{Opens, Checks}
 use Rattle.meaning.specs.Each.{Each}
-use Rattle.questions.specs.Machine.{Variables}
+use Rattle.values.specs.Machine.{Variables}
 use Rattle.tables.specs.declared.table.Table.{Table}
 use Rattle.pages.specs.declared.heading.Heading.{Heading}
 use Rattle.pages.specs.Page.{headLine, headFrom}

@@ -10,7 +10,7 @@ use Rattle.meaning.specs.Place.{at, Does}
 use Rattle.meaning.specs.declared.count.Counts.{Counts}
 use Rattle.meaning.specs.declared.question.Question.{Question}
 use Rattle.texts.specs.readers.Text.{textFits}
-use Rattle.questions.specs.declared.scene.Scene.{Scene}
+use Rattle.values.specs.declared.scene.Scene.{Scene}
 use Rattle.pages.specs.declared.page.Page.{Page}
 use Rattle.pages.specs.declared.page.Turned.{Turned}
 use Rattle.pages.specs.declared.heading.Heading.{Heading}

@@ -17,11 +17,11 @@ use Rattle.cells.specs.inner.Index.{Ready}
 use Rattle.texts.specs.declared.text.Piece.{Piece}
 use Rattle.texts.specs.declared.text.Piece.the-variants.{Plain, Placed}
 use Rattle.texts.specs.readers.Text.{textFits}
-use Rattle.questions.specs.declared.scene.Scene.{Scene}
-use Rattle.questions.specs.inner.Word.{questions}
-use Rattle.questions.specs.Machine.{Machine}
-use Rattle.questions.specs.Source.{answers}
-use Rattle.questions.specs.inner.State.{Held, held, machine}
+use Rattle.values.specs.declared.scene.Scene.{Scene}
+use Rattle.values.specs.inner.Word.{questions}
+use Rattle.values.specs.Machine.{Machine}
+use Rattle.values.specs.Source.{answers}
+use Rattle.values.specs.inner.State.{Held, held, machine}
 use Rattle.values.specs.declared.worth.Worth as C
 use Rattle.values.specs.declared.worth.Worth.the-variants as W
 use Rattle.values.specs.Worth.{Worth}

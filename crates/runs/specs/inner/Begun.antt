@@ -12,7 +12,7 @@ use Rattle.meaning.specs.declared.question.Question.{Question}
 use Rattle.runs.specs.declared.state.Saved.{Saved}
 use Rattle.runs.specs.declared.state.Stretch.{Stretch}
 use Rattle.runs.specs.declared.Report.{Report}
-use Rattle.questions.specs.inner.State.{Held, held}
+use Rattle.values.specs.inner.State.{Held, held}
 use Rattle.control.specs.inner.Held.{stateOf}
 use Rattle.control.specs.inner.Executing.{Kept}
 use Rattle.runs.specs.Report.{startOf, Outcome, textIn, reportOf, reportIn}

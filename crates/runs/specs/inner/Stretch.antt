@@ -11,7 +11,7 @@ use Rattle.meaning.specs.Number.{numberOf, lineOf, endOf}
 use Rattle.meaning.specs.Meaning.{Meaning}
 use Rattle.meaning.specs.declared.question.Question.{Question}
 use Rattle.meaning.specs.declared.end.Ended.{Ended}
-use Rattle.questions.specs.inner.Word.{questions}
+use Rattle.values.specs.inner.Word.{questions}
 use Rattle.runs.specs.declared.state.Saved.{Saved}
 use Rattle.runs.specs.declared.state.Log.{Log}
 use Rattle.runs.specs.declared.state.Stretch.{Stretch}

@@ -6,7 +6,7 @@ use Prim.Native.Nat.{ℕ, zero, suc, _+_, _-_, _*_, _%_, _≤_}
 use lib.IntN.{ℤ}
 use lib.ListN.{length, getD}
 use Rattle.tables.specs.declared.table.Table.{Table}
-use Rattle.questions.specs.inner.State.{bank, tablesIn}
+use Rattle.values.specs.inner.State.{bank, tablesIn}
 use Rattle.coercions.specs.Settling.{Settled, settled, andThen}
 use Rattle.coercions.specs.inner.Contracts.{takenOf, judgedOf, mapped}
 use Rattle.coercions.specs.declared.settle.Taken.{Taken}

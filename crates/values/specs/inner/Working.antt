@@ -9,12 +9,12 @@ use Rattle.meaning.specs.Place.{at, Does}
 use Rattle.cells.specs.Cell.{Cell}
 use Rattle.cells.specs.inner.Index.{Ready}
 use Rattle.arguments.specs.inner.Parameter.{parameterOf}
-use Rattle.strings.specs.inner.Texts.{strings}
-use Rattle.questions.specs.declared.scene.Scene.{Scene}
-use Rattle.questions.specs.inner.Word.{questions}
-use Rattle.questions.specs.Machine.{Machine}
-use Rattle.questions.specs.Source.{answers}
-use Rattle.questions.specs.inner.State.{Held, machine}
+use Rattle.values.specs.inner.Texts.{strings}
+use Rattle.values.specs.declared.scene.Scene.{Scene}
+use Rattle.values.specs.inner.Word.{questions}
+use Rattle.values.specs.Machine.{Machine}
+use Rattle.values.specs.Source.{answers}
+use Rattle.values.specs.inner.State.{Held, machine}
 use Rattle.values.specs.declared.working.Inputs.{Inputs}
 use Rattle.values.specs.declared.working.Inputs.the-variants.{None, One, Two}
 use Rattle.values.specs.declared.working.Operands.{Operands}

@@ -15,12 +15,12 @@ use Rattle.cells.specs.Cell.{Cell}
 use Rattle.cells.specs.inner.Index.{Ready}
 use Rattle.arguments.specs.declared.argument.Argument.{Argument}
 use Rattle.arguments.specs.declared.operand.Operand.{Operand}
-use Rattle.strings.specs.inner.Texts.{Strings, strings, textOf}
-use Rattle.questions.specs.declared.question.Heard.{Heard}
-use Rattle.questions.specs.declared.scene.Scene.{Scene}
-use Rattle.questions.specs.inner.Word.{questions}
-use Rattle.questions.specs.Source.{answers}
-use Rattle.questions.specs.inner.State.{Held, held, machine}
+use Rattle.values.specs.inner.Texts.{Strings, strings, textOf}
+use Rattle.values.specs.declared.question.Heard.{Heard}
+use Rattle.values.specs.declared.scene.Scene.{Scene}
+use Rattle.values.specs.inner.Word.{questions}
+use Rattle.values.specs.Source.{answers}
+use Rattle.values.specs.inner.State.{Held, held, machine}
 use Rattle.values.specs.declared.worth.Worth as D
 use Rattle.values.specs.declared.worth.Worth.the-variants as W
 use Rattle.values.specs.declared.worth.Valued.{Valued}

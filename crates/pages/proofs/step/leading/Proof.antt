@@ -6,7 +6,7 @@ use Rattle.pages.specs.Page.{highestOf}
 use native.Mathlib.Omega.{arith}
 use Prim.Native.Nat.{_≤_}
 use mathlib.Core.Path.{_≡_, refl, _∙_}
-use Rattle.questions.specs.inner.State.{headingsIn}
+use Rattle.values.specs.inner.State.{headingsIn}
 use borrow.Author.Needs.{needs}
 use Rattle.pages.proofs.step.leading.Statement.{statement}
 use Rattle.pages.proofs.step.leading.Tie as tie

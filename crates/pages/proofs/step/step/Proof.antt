@@ -1,7 +1,7 @@
 use Rattle.pages.specs.inner.Packed.{headingsOf}
 use Rattle.pages.proofs.Stepping.{step-over, step-lines-ready, step-same, steps}
 use denote.Ref.{now}
-use Rattle.questions.specs.inner.State.{headingsIn}
+use Rattle.values.specs.inner.State.{headingsIn}
 use borrow.Author.Needs.{needs}
 use Rattle.pages.proofs.step.step.Statement.{statement}
 use Rattle.pages.proofs.step.step.Tie as tie

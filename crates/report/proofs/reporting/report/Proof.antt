@@ -49,7 +49,7 @@ use denote.Triple.Table.{entered, cited}
 use denote.Triple.Walked.{says, Stays, stay-slice, stay-none, stay-none-slice, walkOf, goes-slice, goes-none, goes-none-slice, Walks, ends-at, walked, walk-meets}
 use denote.Exit.{yes}
 use Rattle.meaning.specs.declared.question.Question.{Question}
-use Rattle.questions.specs.inner.Word.{questions}
+use Rattle.values.specs.inner.Word.{questions}
 use Rattle.runs.specs.declared.Report.{Report}
 use Rattle.runs.specs.declared.state.Log.{Log}
 use Rattle.runs.specs.declared.state.Stretch.{Stretch}

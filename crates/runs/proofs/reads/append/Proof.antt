@@ -47,7 +47,7 @@ use denote.Triple.Clauses.{ensured, lasts}
 use denote.Triple.Table.{entered, cited}
 use denote.Triple.Walked.{says, needs, Stays, stay-slice, stay-none, walkOf, goes-slice, goes-none, Walks, ends-at, walked, walk-meets}
 use denote.Exit.{yes}
-use Rattle.questions.specs.inner.Word.{unpacked, questions}
+use Rattle.values.specs.inner.Word.{unpacked, questions}
 use Rattle.meaning.specs.declared.question.Question.{Question}
 use Rattle.runs.specs.declared.state.Log.{Log}
 use Rattle.runs.proofs.Rows.{Added, none, more, all, near, placed, fits-next, small-place, word-fits}
@@ -57,10 +57,10 @@ use Rattle.meaning.proofs.question.Question as Q
 use Rattle.meaning.proofs.question.Question.Laws as Q′
 use Rattle.runs.proofs.state.Log as L
 use Rattle.runs.proofs.state.Log.Laws as L′
-use Rattle.questions.proofs.word.unpacked as unpack
-use Rattle.questions.proofs.word.unpacked.Symbol as unpack-def
-use Rattle.questions.proofs.word.unpacked.Symbol.{name as #questions·word·unpacked}
-use Rattle.questions.proofs.word.unpacked.Met as unpack-thm
+use Rattle.values.proofs.word.unpacked as unpack
+use Rattle.values.proofs.word.unpacked.Symbol as unpack-def
+use Rattle.values.proofs.word.unpacked.Symbol.{name as #questions·word·unpacked}
+use Rattle.values.proofs.word.unpacked.Met as unpack-thm
 use Rattle.runs.proofs.reads.append.Key.{name as #report·reads·append}
 use Rattle.runs.proofs.reads.append as f
 use Rattle.runs.proofs.reads.append.Statement as stated

@@ -2,7 +2,7 @@
 use mathlib.Core.Path.{_≡_, refl, sym}
 use lib.ListN.{length}
 use native.Mathlib.Omega.{arith}
-use Rattle.questions.specs.inner.State.{held}
+use Rattle.values.specs.inner.State.{held}
 use Rattle.runs.proofs.Stretching.{Going, going-start, asked-fit, run-ends, run-exceeds, run-full, line-ready, asked-next, text-next, run-halts, going-next}
 use borrow.Author.Needs.{needs}
 use Rattle.runs.proofs.stretch.run.Statement.{statement}

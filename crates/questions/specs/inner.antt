@@ -1,5 +1,0 @@
-pub mod Word
-pub mod State
-pub mod Hearing
-pub mod Fetch
-pub mod Registers
