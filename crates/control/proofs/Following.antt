@@ -13,10 +13,10 @@ use lib.ListN.{length, drop, take, set, drop-of-length-le, length-take}
 use Rattle.values.specs.inner.Registers.{Puts}
 use Rattle.values.specs.Machine.{setNumbered}
 use Rattle.buffers.proofs.Laws.{map-set}
-use Rattle.shapes.specs.declared.seek.Sought.{Sought}
-use Rattle.shapes.specs.declared.seek.Skip.{Skip}
-use Rattle.shapes.specs.Lines.{linesWithin, linesOf}
-use Rattle.shapes.specs.Seek.{atMost, skipFrom, skipped}
+use Rattle.template.specs.declared.seek.Sought.{Sought}
+use Rattle.template.specs.declared.seek.Skip.{Skip}
+use Rattle.template.specs.Lines.{linesWithin, linesOf}
+use Rattle.template.specs.Seek.{atMost, skipFrom, skipped}
 use Rattle.template.proofs.Reach.{found-inside, part-skip}
 use Rattle.meaning.specs.declared.refusal.Refusal.{Refusal}
 use Rattle.meaning.specs.declared.refusal.Refusal.the-variants.{BadIndex}

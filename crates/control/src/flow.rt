@@ -1,9 +1,9 @@
 // Where a run goes on, and what its lines are executed in.
 use crate::state::Flow;
 use pages::page::Page;
-use shapes::seek;
-use shapes::seek::Sought;
 use tables::table;
+use template::seek;
+use template::seek::Sought;
 use values::registers::Words;
 use values::scene::Scene;
 ghost use mathlib.Core.Path.{_≡_};

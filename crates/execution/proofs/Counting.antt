@@ -29,7 +29,7 @@ use Rattle.pages.specs.Page.{breakMeaning, lineStep}
 use Rattle.pages.proofs.Counting.{counting, OnPage, break-counts, step-counts}
 use Rattle.control.specs.State.{State, seen, withPosition, withVariables, withDatasource, withTables, withPage}
 use Rattle.control.specs.Line.{past, jumped, branched, tableBegun, tableEnded, breaking, breakingFor, newPageMeaning, formMeaning, lineMeaning}
-use Rattle.shapes.specs.declared.seek.Sought.the-variants.{TableEnd}
+use Rattle.template.specs.declared.seek.Sought.the-variants.{TableEnd}
 
 -- the page of a state
 abbrev pub Counted : State → ℕ → Type 0

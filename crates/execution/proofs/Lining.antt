@@ -8,12 +8,12 @@ use lib.Seq.{take-all}
 use Rattle.scan.specs.declared.run.Class.the-variants.{InLine}
 use Rattle.scan.specs.Line.{lineOf, lineAt}
 use Rattle.scan.proofs.RunLaws.{take-span}
-use Rattle.nesting.specs.declared.Shape.the-variants.{Table}
+use Rattle.template.specs.declared.nesting.Shape.the-variants.{Table}
 use Rattle.arguments.specs.declared.argument.Argument.{Argument}
 use Rattle.lines.specs.declared.command.Line.{Line}
 use Rattle.lines.specs.declared.command.Line.the-variants.{BeginTable}
 use Rattle.lines.specs.readers.Command.{parseLine}
-use Rattle.shapes.specs.Form.{shapeIn, shapeOf}
+use Rattle.template.specs.Shape.{shapeIn, shapeOf}
 use Rattle.template.proofs.Opening.{checks-short, opens-line}
 use Rattle.values.specs.declared.scene.Scene.{Scene}
 use Rattle.values.specs.declared.fetch.Along.the-variants.{Records, Entries}

@@ -18,7 +18,7 @@ use Rattle.lines.specs.declared.command.Optional.{Optional}
 use Rattle.lines.specs.declared.command.Line.{Line}
 use Rattle.lines.specs.declared.command.Line.the-variants as form
 use Rattle.lines.specs.inner.Sound as parsed
-use Rattle.shapes.specs.declared.seek.Sought.the-variants.{TestEnd, TableEnd}
+use Rattle.template.specs.declared.seek.Sought.the-variants.{TestEnd, TableEnd}
 use Rattle.texts.proofs.FieldLaws.{fields-few}
 use Rattle.buffers.proofs.Laws.{map-set}
 use Rattle.meaning.specs.Answer.{Answer}

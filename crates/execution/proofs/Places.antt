@@ -6,11 +6,11 @@ use Prim.Native.Nat.{ℕ, suc, _+_, _≤_, _<_}
 use native.Mathlib.Omega.{arith}
 use lib.ListN.{length, drop}
 use Rattle.scan.specs.Line.{lineAt}
-use Rattle.nesting.specs.declared.Shape.the-variants.{Section, Remark, Test, Else, EndTest, Table, EndTable, Plain}
-use Rattle.nesting.specs.Nest.{Mark, section, test, other, table, tables}
-use Rattle.shapes.specs.declared.seek.Sought.the-variants.{Branch, TestEnd, TableEnd}
-use Rattle.shapes.specs.Form.{shapeOf}
-use Rattle.shapes.specs.Seek.{skipped}
+use Rattle.template.specs.declared.nesting.Shape.the-variants.{Section, Remark, Test, Else, EndTest, Table, EndTable, Plain}
+use Rattle.template.specs.Nest.{Mark, section, test, other, table, tables}
+use Rattle.template.specs.declared.seek.Sought.the-variants.{Branch, TestEnd, TableEnd}
+use Rattle.template.specs.Shape.{shapeOf}
+use Rattle.template.specs.Seek.{skipped}
 use Rattle.template.specs.Opening.{Opens, Checks}
 use Rattle.template.proofs.Opening.{opens-few, behind-section, behind-remark, behind-plain, behind-test, behind-else, behind-end-test, behind-table, behind-end-table}
 use Rattle.template.proofs.Jumps.{failed-test, executed-else, skipped-table, failed-goes, else-goes, table-goes}

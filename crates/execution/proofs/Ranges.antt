@@ -23,7 +23,7 @@ use Rattle.cells.proofs.Limits.{AnswerWithin}
 use Rattle.arguments.proofs.Parsed.{Between}
 use Rattle.values.specs.Machine.{Variables}
 use Rattle.values.proofs.Ranges.{IntegerWithin, DecimalWithin, Short, MachineWithin, VariablesWithin}
-use Rattle.shapes.specs.declared.seek.Sought.the-variants.{TableEnd}
+use Rattle.template.specs.declared.seek.Sought.the-variants.{TableEnd}
 use Rattle.tables.specs.declared.table.Table.{Table}
 use Rattle.coercions.specs.Settling.{integerMeaning}
 use Rattle.assignments.specs.Setting.{setMeaning}

@@ -12,15 +12,15 @@ use lib.ListN.{length, drop, replicate, length-replicate}
 use Rattle.scan.specs.declared.run.Class.the-variants.{InLine}
 use Rattle.scan.specs.Line.{lineAt}
 use Rattle.scan.proofs.RunLaws.{take-span}
-use Rattle.nesting.specs.declared.Shape.{Shape}
-use Rattle.nesting.specs.declared.Shape.the-variants.{Section, Remark, Test, Else, EndTest, Table, EndTable, Plain}
+use Rattle.template.specs.declared.nesting.Shape.{Shape}
+use Rattle.template.specs.declared.nesting.Shape.the-variants.{Section, Remark, Test, Else, EndTest, Table, EndTable, Plain}
 use Rattle.lines.specs.declared.command.Optional.{Optional}
 use Rattle.lines.specs.declared.command.Optional.the-variants.{Given, Absent}
 use Rattle.lines.specs.declared.command.Line.{Line}
 use Rattle.lines.specs.declared.command.Line.the-variants as form
 use Rattle.lines.specs.readers.Command.{parseLine}
-use Rattle.shapes.specs.declared.seek.Sought.the-variants.{Branch, TestEnd, TableEnd}
-use Rattle.shapes.specs.Form.{shapeIn, shapeOf}
+use Rattle.template.specs.declared.seek.Sought.the-variants.{Branch, TestEnd, TableEnd}
+use Rattle.template.specs.Shape.{shapeIn, shapeOf}
 use Rattle.template.specs.Opening.{Checks}
 use Rattle.template.proofs.Opening.{opens-line}
 use Rattle.meaning.specs.Answer.{Answer}

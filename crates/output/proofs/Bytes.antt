@@ -12,7 +12,7 @@ use Rattle.scan.specs.declared.run.Class.the-variants.{Allowed, InLine}
 use Rattle.scan.specs.Run.{belongs, span, inRange}
 use Rattle.scan.specs.Line.{allAllowed, lineOf, lineAt}
 use Rattle.template.specs.declared.Verdict.the-variants.{Fine, Fault}
-use Rattle.shapes.specs.Lines.{linesWithin, linesOf}
+use Rattle.template.specs.Lines.{linesWithin, linesOf}
 use Rattle.template.specs.Verdicts.{firstFault, lineAllowed, bytesCheck}
 use Rattle.cells.proofs.BigEndian.{and-true}
 use Rattle.values.specs.Letters.{upper}

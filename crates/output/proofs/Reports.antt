@@ -20,7 +20,7 @@ use Rattle.lines.specs.readers.Command.{parseLine}
 use Rattle.template.specs.declared.Run.{Run}
 use Rattle.template.specs.declared.Checked.{Checked}
 use Rattle.template.specs.declared.Checked.the-variants.{Accepted, Refused}
-use Rattle.shapes.specs.declared.seek.Sought.the-variants.{TableEnd}
+use Rattle.template.specs.declared.seek.Sought.the-variants.{TableEnd}
 use Rattle.template.specs.Order.{templateChecked}
 use Rattle.template.proofs.Accepted.{accepted-runs}
 use Rattle.cells.specs.Cell.{each, between, printable}

@@ -30,14 +30,14 @@ use Rattle.lines.specs.readers.Compare.{compareAt}
 use Rattle.lines.specs.readers.Set.{stringTarget, targetOf, setAt}
 use Rattle.lines.specs.readers.Title.{nameAt, sectionAt}
 use Rattle.lines.specs.readers.Command.{commands, parseLine}
-use Rattle.nesting.specs.Nest.{allClosed, inSection, sectionBegun, tableEnded as nestingTableEnded, tables, testEnded, testTurned, tests, behind}
-use Rattle.names.specs.Name.{nameOf}
+use Rattle.template.specs.Nest.{allClosed, inSection, sectionBegun, tableEnded as nestingTableEnded, tables, testEnded, testTurned, tests, behind}
+use Rattle.template.specs.Name.{nameOf}
 use Rattle.cells.specs.Store.{above, rising, ordered, before as cellsBefore, cellRun as cellsRun, cells, held, isHeld}
 use Rattle.meaning.specs.Event.{breaks, joined}
 use Rattle.meaning.specs.Tree.{run as meaningRun}
-use Rattle.shapes.specs.Seek.{atMost, orSkip, past, amongTables, amongTests, atElse, roleOf, skipFrom, skipped}
-use Rattle.shapes.specs.Lines.{linesWithin, linesOf}
-use Rattle.shapes.specs.Form.{shapeWords, wordShape, hasForm, shapeIn, shapeOf, isFormed}
+use Rattle.template.specs.Seek.{atMost, orSkip, past, amongTables, amongTests, atElse, roleOf, skipFrom, skipped}
+use Rattle.template.specs.Lines.{linesWithin, linesOf}
+use Rattle.template.specs.Shape.{shapeWords, wordShape, hasForm, shapeIn, shapeOf, isFormed}
 use Rattle.template.specs.Verdicts.{firstFault, lineAllowed, bytesCheck}
 use Rattle.template.specs.Checks.{formCheck, nameEnd, hasName, cameBefore, nameStep, nameCheck, nestEnd, nestStep, nestCheck}
 use Rattle.template.specs.Walk.{orElse, walk}

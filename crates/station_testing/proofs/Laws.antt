@@ -24,7 +24,7 @@ use Rattle.cells.specs.Store.{held}
 use Rattle.cells.specs.inner.Index.{Indexes, Answers, Ready, offsets}
 use Rattle.cells.proofs.Replies.{answer-handed, built, not-held, index-ready}
 use Rattle.cells.proofs.Walking.{length-offsets}
-use Rattle.shapes.specs.declared.seek.Skip.{Skip}
+use Rattle.template.specs.declared.seek.Skip.{Skip}
 use Rattle.station.specs.Answers.{ToldParts}
 use Rattle.station_testing.specs.Codes.{Told, ToldUnits}
 use Rattle.station_testing.specs.Index.{Listing, listing, listed, ToldLookUp}

@@ -3,9 +3,9 @@ use mathlib.Core.Path.{_≡_}
 use mathlib.Core.Bool.{cond}
 use Prim.Native.Nat.{ℕ}
 use lib.Dec.{eqb}
-use Rattle.shapes.specs.declared.seek.Sought.{Sought}
-use Rattle.shapes.specs.declared.seek.Sought.the-variants.{Branch, TestEnd, TableEnd}
-use Rattle.shapes.specs.declared.seek.Skip.{Skip}
+use Rattle.template.specs.declared.seek.Sought.{Sought}
+use Rattle.template.specs.declared.seek.Sought.the-variants.{Branch, TestEnd, TableEnd}
+use Rattle.template.specs.declared.seek.Skip.{Skip}
 
 -- the search of a code: a failed test, an executed $ELSE, and a skipped table for any other
 unfoldable pub soughtOf : ℕ → Sought

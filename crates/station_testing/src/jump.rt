@@ -1,7 +1,7 @@
 // Where a failed test, an executed $ELSE and a skipped table go on.
-use shapes::seek::Sought;
+use template::seek::Sought;
 ghost use mathlib.Core.Path.{_≡_};
-ghost use Rattle.shapes.specs.Seek.{skipped};
+ghost use Rattle.template.specs.Seek.{skipped};
 ghost use Rattle.station_testing.specs.Jumps.{soughtOf, ToldSkip};
 
 fn sought_of(code: u32) -> Sought
@@ -22,7 +22,7 @@ pub extern "C" fn station_skip(rest: &[u8], code: u32, bytes: &mut usize, lines:
     ensures { λ _. ⌜ ToldSkip (skipped (now (rest .entry)) (soughtOf code)) (now (bytes .exit)) (now (lines .exit)) ⌝ }
 {
     let sought = sought_of(code);
-    let skip = shapes::seek::skip_lines(rest, sought);
+    let skip = template::seek::skip_lines(rest, sought);
     *bytes = skip.bytes;
     *lines = skip.lines;
 }

@@ -9,18 +9,18 @@ use borrow.Author.Tests.{le-ltb, ltb-true, ltb-false}
 use lib.Dec.{ltb}
 use lib.ListN.{length, drop, length-drop}
 use Rattle.scan.specs.Line.{lineAt, nextLine}
-use Rattle.nesting.specs.Nest.{Mark, test, other}
-use Rattle.shapes.specs.declared.seek.Sought.{Sought}
-use Rattle.shapes.specs.declared.seek.Sought.the-variants.{Branch, TestEnd, TableEnd}
-use Rattle.shapes.specs.declared.seek.Way.{Way}
-use Rattle.shapes.specs.declared.seek.Skip.{Skip}
-use Rattle.shapes.specs.Lines.{linesOf}
+use Rattle.template.specs.Nest.{Mark, test, other}
+use Rattle.template.specs.declared.seek.Sought.{Sought}
+use Rattle.template.specs.declared.seek.Sought.the-variants.{Branch, TestEnd, TableEnd}
+use Rattle.template.specs.declared.seek.Way.{Way}
+use Rattle.template.specs.declared.seek.Skip.{Skip}
+use Rattle.template.specs.Lines.{linesOf}
 use Rattle.template.specs.Checks.{nestStep}
-use Rattle.shapes.specs.Seek.{orSkip, skipFrom, atMost, skipped}
+use Rattle.template.specs.Seek.{orSkip, skipFrom, atMost, skipped}
 use Rattle.template.specs.Opening.{Opens, Checks}
-use Rattle.shapes.proofs.LineLaws.{lines-more}
+use Rattle.template.proofs.LineLaws.{lines-more}
 use Rattle.template.proofs.Opening.{checks-short, opens-line, opens-next, open-inside, line-turn}
-use Rattle.shapes.proofs.WordForm.{shape-by-word}
+use Rattle.template.proofs.WordForm.{shape-by-word}
 use Rattle.template.proofs.Matching.{Over, here, a-test, an-other, a-table, topOf, depthOf, Lands, behind-end, behind-else, Went, on, landed, over-open, search-step}
 use Rattle.structure.specs.Matching.{Around, closed, turned, MatchedBy, this, later}
 

@@ -16,19 +16,19 @@ use Rattle.lines.specs.declared.command.Line.{Line}
 use Rattle.lines.specs.declared.command.Line.the-variants.{NoForm, Text, Section, Set, IfZero, IfNonZero, Compare, Else, EndIf, BeginTable, EndTable, Records, Entries, Datasource, NoFormFeed, NewPage, Heading, NoHeading, Remark}
 use Rattle.lines.specs.readers.Command.{parseLine}
 use Rattle.lines.proofs.SectionLaws.{section-begins, begins-section}
-use Rattle.names.specs.Name as name
-use Rattle.names.specs.Name.{sectionWord, sameBytes}
+use Rattle.template.specs.Name as name
+use Rattle.template.specs.Name.{sectionWord, sameBytes}
 use Rattle.template.specs.declared.Verdict.the-variants.{Fine, Fault}
 use Rattle.template.specs.declared.sections.Found.{Found}
 use Rattle.template.specs.declared.sections.Found.the-variants.{At, Nowhere}
-use Rattle.shapes.specs.Lines.{linesOf}
-use Rattle.shapes.specs.Form.{isFormed}
+use Rattle.template.specs.Lines.{linesOf}
+use Rattle.template.specs.Shape.{isFormed}
 use Rattle.template.specs.Verdicts.{firstFault}
 use Rattle.template.specs.Walk.{orElse, walk}
 use Rattle.template.specs.Checks.{formCheck, hasName, cameBefore, nameStep, nameEnd, nameCheck}
 use Rattle.template.specs.Sections.{selects, sectionFrom, sectionEnd, runFrom, selected}
-use Rattle.shapes.proofs.LineLaws.{lines-none, lines-more}
-use Rattle.shapes.proofs.NameForm.{formed}
+use Rattle.template.proofs.LineLaws.{lines-none, lines-more}
+use Rattle.template.proofs.NameForm.{formed}
 use Rattle.grammar.specs.Line.{Spells, section}
 use Rattle.grammar.proofs.Lines.{reads-what-is-spelled}
 use Rattle.structure.specs.Sections.{nameIn, nameOf, isIn, repeatedFrom, isSection, isNamed, chooses, chosenFrom, chosenEnd, runOf, chosenRun}

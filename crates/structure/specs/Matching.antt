@@ -4,9 +4,9 @@ use mathlib.Core.List.{List, _∷_}
 use mathlib.Core.Option.{some}
 use Prim.Native.Nat.{ℕ, _+_}
 use lib.ListN.{length}
-use Rattle.nesting.specs.Nest.{Mark, other}
-use Rattle.shapes.specs.declared.seek.Sought.{Sought}
-use Rattle.shapes.specs.declared.seek.Sought.the-variants.{Branch}
+use Rattle.template.specs.Nest.{Mark, other}
+use Rattle.template.specs.declared.seek.Sought.{Sought}
+use Rattle.template.specs.declared.seek.Sought.the-variants.{Branch}
 use Rattle.template.specs.Checks.{nestStep}
 
 -- what is open behind the match, where M was open around the test or table: just M, or for a failed test its $ELSE part

@@ -9,14 +9,14 @@ use Rattle.lines.specs.declared.command.Line.{Line}
 use Rattle.lines.specs.declared.command.Line.the-variants.{NoForm, Text, Section, Set, IfZero, IfNonZero, Compare, Else, EndIf, BeginTable, EndTable, Records, Entries, Datasource, NoFormFeed, NewPage, Heading, NoHeading, Remark}
 use Rattle.lines.specs.readers.Command.{parseLine}
 use Rattle.scan.specs.Line.{nextLine}
-use Rattle.names.specs.Name.{sameBytes}
+use Rattle.template.specs.Name.{sameBytes}
 use Rattle.template.specs.declared.Verdict.{Verdict}
 use Rattle.template.specs.declared.Verdict.the-variants.{Fine, Fault}
 use Rattle.template.specs.declared.sections.Found.{Found}
 use Rattle.template.specs.declared.sections.Found.the-variants.{At, Nowhere}
 use Rattle.template.specs.declared.sections.Selection.{Selection}
 use Rattle.template.specs.declared.sections.Selection.the-variants.{Lines, NotThere}
-use Rattle.shapes.specs.Lines.{linesOf}
+use Rattle.template.specs.Lines.{linesOf}
 use Rattle.template.specs.Sections.{endAt}
 
 -- the name that a form of the line l has, by its first eight characters: "Names are compared by their first eight characters"

@@ -15,9 +15,9 @@ use Rattle.lines.specs.readers.Command.{parseLine}
 use Rattle.meaning.specs.declared.refusal.Refusal.{Refusal}
 use Rattle.meaning.specs.declared.refusal.Refusal.the-variants.{BadTemplate, BadLine, BadNesting, RepeatedSection}
 use Rattle.meaning.specs.Number.{refusalNumber}
-use Rattle.names.specs.Name.{sectionWord, nameOf}
-use Rattle.nesting.specs.declared.Shape.the-variants.{Section}
-use Rattle.nesting.specs.Nest.{Mark, tables}
+use Rattle.template.specs.Name.{sectionWord, nameOf}
+use Rattle.template.specs.declared.nesting.Shape.the-variants.{Section}
+use Rattle.template.specs.Nest.{Mark, tables}
 use Rattle.template.specs.declared.Verdict.{Verdict}
 use Rattle.template.specs.declared.Verdict.the-variants.{Fine, Fault}
 use Rattle.template.specs.declared.Run.{Run}
@@ -27,15 +27,15 @@ use Rattle.template.specs.declared.sections.Selection.{Selection}
 use Rattle.template.specs.declared.sections.Selection.the-variants.{Lines, NotThere}
 use Rattle.template.specs.declared.sections.Found.{Found}
 use Rattle.template.specs.declared.sections.Found.the-variants.{At, Nowhere}
-use Rattle.shapes.specs.Lines.{linesOf}
+use Rattle.template.specs.Lines.{linesOf}
 use Rattle.template.specs.Verdicts.{bytesCheck}
-use Rattle.shapes.specs.Form.{shapeIn, shapeOf, isFormed}
+use Rattle.template.specs.Shape.{shapeIn, shapeOf, isFormed}
 use Rattle.template.specs.Checks.{formCheck, nestCheck, nameCheck}
 use Rattle.template.specs.Sections.{selects, sectionFrom, endAt, sectionEnd, runFrom, selected}
 use Rattle.template.specs.Order.{unlessFault, acceptedRun, sectionChecked, namesChecked, nestingChecked, formsChecked, templateChecked}
 use Rattle.template.specs.Opening.{Opens, first, Checks}
-use Rattle.shapes.proofs.LineLaws.{lines-none, lines-more}
-use Rattle.shapes.proofs.NameForm.{formed}
+use Rattle.template.proofs.LineLaws.{lines-none, lines-more}
+use Rattle.template.proofs.NameForm.{formed}
 use Rattle.template.proofs.Opening.{checks-short, opens-line, opens-next, behind-section, line-before}
 
 -- ---- a line that a name selects is a section

@@ -3,12 +3,12 @@ use mathlib.Core.Path.{_≡_, ap, _∙_}
 use mathlib.Core.Bool.{Bool}
 use mathlib.Core.List.{List}
 use Prim.Native.Nat.{ℕ}
-use Rattle.nesting.specs.declared.Shape.{Shape}
+use Rattle.template.specs.declared.nesting.Shape.{Shape}
 use Rattle.template.specs.declared.Verdict.{Verdict}
 use Rattle.template.specs.declared.Verdict.the-variants.{Fine, Fault}
 use Rattle.template.specs.declared.forms.Faults.{Faults}
 use Rattle.template.specs.declared.forms.Faults.the-variants.{NoFault, InForm, InNesting}
-use Rattle.shapes.specs.Form.{shapeOf, hasForm, isFormed}
+use Rattle.template.specs.Shape.{shapeOf, hasForm, isFormed}
 use Rattle.template.specs.Checks.{formBeforeNesting}
 
 pub formed-by : (l : List ℕ) (shape : Shape) (b : Bool) → shape ≡ shapeOf l → b ≡ hasForm shape → b ≡ isFormed l

@@ -10,20 +10,20 @@ use borrow.Author.Tests.{leb-true, leb-false, ltb-true, le-ltb}
 use lib.Dec.{leb, ltb}
 use lib.ListN.{length, take, drop, length-drop}
 use Rattle.scan.specs.Line.{lineAt, nextLine}
-use Rattle.nesting.specs.declared.Shape.the-variants.{Section}
-use Rattle.nesting.specs.Nest.{Mark, test, other, table}
-use Rattle.shapes.specs.declared.seek.Sought.{Sought}
-use Rattle.shapes.specs.declared.seek.Sought.the-variants.{Branch, TestEnd, TableEnd}
-use Rattle.shapes.specs.declared.seek.Way.{Way}
-use Rattle.shapes.specs.declared.seek.Skip.{Skip}
-use Rattle.shapes.specs.Lines.{linesOf}
-use Rattle.shapes.specs.Form.{shapeOf}
-use Rattle.shapes.specs.Seek.{orSkip, skipFrom, atMost, skipped}
+use Rattle.template.specs.declared.nesting.Shape.the-variants.{Section}
+use Rattle.template.specs.Nest.{Mark, test, other, table}
+use Rattle.template.specs.declared.seek.Sought.{Sought}
+use Rattle.template.specs.declared.seek.Sought.the-variants.{Branch, TestEnd, TableEnd}
+use Rattle.template.specs.declared.seek.Way.{Way}
+use Rattle.template.specs.declared.seek.Skip.{Skip}
+use Rattle.template.specs.Lines.{linesOf}
+use Rattle.template.specs.Shape.{shapeOf}
+use Rattle.template.specs.Seek.{orSkip, skipFrom, atMost, skipped}
 use Rattle.template.specs.Opening.{Opens, Checks}
-use Rattle.shapes.proofs.LineLaws.{lines-more}
+use Rattle.template.proofs.LineLaws.{lines-more}
 use Rattle.template.proofs.Reach.{Inside, skip-inside, part-skip}
 use Rattle.template.proofs.Opening.{checks-short, opens-line, opens-next, open-inside, line-turn, line-before}
-use Rattle.shapes.proofs.WordForm.{shape-by-word}
+use Rattle.template.proofs.WordForm.{shape-by-word}
 use Rattle.template.proofs.Accepted.{RunEnd, at-end, at-section}
 use Rattle.template.proofs.Matching.{Over, here, topOf, depthOf, Lands, behind-end, behind-else, Went, on, landed, over-open, search-step, search-inside}
 

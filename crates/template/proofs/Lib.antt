@@ -1,3 +1,9 @@
+pub mod OpenLaws
+pub mod SectionNames
+pub mod LineLaws
+pub mod SeekLaws
+pub mod NameForm
+pub mod WordForm
 pub mod VerdictLaws
 pub mod WalkLaws
 pub mod NameLaws

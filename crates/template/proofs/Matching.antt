@@ -6,15 +6,15 @@ use mathlib.Core.List.{List, _∷_}
 use mathlib.Core.Option.{none, some}
 use Prim.Native.Nat.{ℕ, suc}
 use native.Mathlib.Omega.{arith}
-use Rattle.nesting.specs.declared.Shape.{Shape}
-use Rattle.nesting.specs.declared.Shape.the-variants.{Section}
-use Rattle.nesting.specs.Nest.{Mark, test, other, table, sectionBegun, allClosed}
-use Rattle.shapes.specs.declared.seek.Sought.{Sought}
-use Rattle.shapes.specs.declared.seek.Sought.the-variants.{Branch, TestEnd, TableEnd}
-use Rattle.shapes.specs.declared.seek.Role.the-variants.{Opens, Closes}
-use Rattle.shapes.specs.declared.seek.Way.{Way}
-use Rattle.shapes.specs.declared.seek.Way.the-variants.{On, Match}
-use Rattle.shapes.specs.Seek.{amongTests, amongTables, atElse, roleOf, past}
+use Rattle.template.specs.declared.nesting.Shape.{Shape}
+use Rattle.template.specs.declared.nesting.Shape.the-variants.{Section}
+use Rattle.template.specs.Nest.{Mark, test, other, table, sectionBegun, allClosed}
+use Rattle.template.specs.declared.seek.Sought.{Sought}
+use Rattle.template.specs.declared.seek.Sought.the-variants.{Branch, TestEnd, TableEnd}
+use Rattle.template.specs.declared.seek.Role.the-variants.{Opens, Closes}
+use Rattle.template.specs.declared.seek.Way.{Way}
+use Rattle.template.specs.declared.seek.Way.the-variants.{On, Match}
+use Rattle.template.specs.Seek.{amongTests, amongTables, atElse, roleOf, past}
 use Rattle.template.proofs.Turns.{Turn, first-section, next-section, remark, test-begun, test-turned, test-ended, other-ended, table-begun, table-ended, plain, no-form}
 
 -- what is open over `top` and M, of which a are tests and b tables

@@ -8,10 +8,10 @@ use native.Mathlib.Omega.{arith}
 use lib.ListN.{length, take, drop}
 use lib.Seq.{take-nil}
 use Rattle.scan.specs.Line.{lineAt, nextLine}
-use Rattle.names.specs.Name.{nameOf, sameBytes}
-use Rattle.shapes.specs.Lines.{linesOf}
+use Rattle.template.specs.Name.{nameOf, sameBytes}
+use Rattle.template.specs.Lines.{linesOf}
 use Rattle.template.specs.Checks.{hasName, cameBefore, nameStep}
-use Rattle.shapes.proofs.LineLaws.{lines-none, lines-more}
+use Rattle.template.proofs.LineLaws.{lines-none, lines-more}
 
 -- looking for a name in some lines: from a place on, what the whole gives
 module _ (t name : List ℕ) (at left : ℕ) {w : Bool} (inv : hasName name (take left (linesOf (drop at t))) ≡ w) where

@@ -10,13 +10,13 @@ use lib.Dec.{eqb}
 use lib.ListN.{length, getD, set, take, drop, length-set}
 use lib.Seq.{drop-drop, getD-set-same, getD-set-other}
 use Rattle.scan.specs.Line.{lineAt, nextLine}
-use Rattle.names.specs.Name.{nameOf, sameBytes}
-use Rattle.names.specs.inner.Hash.{hashOf}
-use Rattle.names.proofs.NameLaws.{hash-bound, other-hash}
-use Rattle.shapes.specs.Lines.{linesOf}
+use Rattle.template.specs.Name.{nameOf, sameBytes}
+use Rattle.template.specs.inner.Hash.{hashOf}
+use Rattle.template.proofs.SectionNames.{hash-bound, other-hash}
+use Rattle.template.specs.Lines.{linesOf}
 use Rattle.template.specs.Checks.{hasName}
 use Rattle.template.specs.inner.Notes.{slotOf, fingerprintOf, notedWith, RuledOut}
-use Rattle.shapes.proofs.LineLaws.{lines-more}
+use Rattle.template.proofs.LineLaws.{lines-more}
 
 -- ---- the lines before, and one more: a name that none of them has
 

@@ -12,20 +12,20 @@ use lib.ListN.{length, drop}
 use Rattle.scan.specs.Line.{allAllowed, lineAt, nextLine}
 use Rattle.lines.specs.declared.command.Line.the-variants as form
 use Rattle.lines.specs.readers.Command.{parseLine}
-use Rattle.nesting.specs.declared.Shape.the-variants.{Section, Remark, Test, Else, EndTest, Table, EndTable, Plain}
-use Rattle.nesting.specs.Nest.{Mark, section, test, other, table, tests, tables, allClosed}
+use Rattle.template.specs.declared.nesting.Shape.the-variants.{Section, Remark, Test, Else, EndTest, Table, EndTable, Plain}
+use Rattle.template.specs.Nest.{Mark, section, test, other, table, tests, tables, allClosed}
 use Rattle.template.specs.declared.Verdict.{Verdict}
 use Rattle.template.specs.declared.Verdict.the-variants.{Fine, Fault}
-use Rattle.shapes.specs.Lines.{linesOf}
+use Rattle.template.specs.Lines.{linesOf}
 use Rattle.template.specs.Verdicts.{firstFault, lineAllowed}
 use Rattle.template.specs.Walk.{orElse, walk}
-use Rattle.shapes.specs.Form.{shapeOf, isFormed}
+use Rattle.template.specs.Shape.{shapeOf, isFormed}
 use Rattle.template.specs.Checks.{formCheck, nestStep, nestEnd, nestCheck}
 use Rattle.template.specs.Opening.{Opens, first, next, Checks}
-use Rattle.shapes.proofs.LineLaws.{lines-none, lines-more}
+use Rattle.template.proofs.LineLaws.{lines-none, lines-more}
 use Rattle.template.proofs.VerdictLaws.{not-too-long}
 use Rattle.template.proofs.OrderLaws.{within-length}
-use Rattle.shapes.proofs.NameForm.{formed}
+use Rattle.template.proofs.NameForm.{formed}
 use Rattle.template.proofs.Turns.{Turn, turn, Grounded, turn-grounded, turn-tests, turn-tables, turn-section, turn-remark, turn-plain, turn-test, turn-else, turn-end-test, turn-table, turn-end-table}
 
 -- ---- the checks from a place on

@@ -9,13 +9,13 @@ use lib.Dec.{ltb}
 use lib.ListN.{length, take, drop, length-drop}
 use lib.Seq.{take-all}
 use Rattle.scan.specs.Line.{lineOf}
-use Rattle.shapes.specs.declared.seek.Sought.{Sought}
-use Rattle.shapes.specs.declared.seek.Way.{Way}
-use Rattle.shapes.specs.declared.seek.Way.the-variants.{On, Match}
-use Rattle.shapes.specs.declared.seek.Skip.{Skip}
-use Rattle.shapes.specs.Lines.{linesWithin, linesOf}
-use Rattle.shapes.specs.Form.{wordShape}
-use Rattle.shapes.specs.Seek.{roleOf, past, orSkip, skipFrom, atMost, skipped}
+use Rattle.template.specs.declared.seek.Sought.{Sought}
+use Rattle.template.specs.declared.seek.Way.{Way}
+use Rattle.template.specs.declared.seek.Way.the-variants.{On, Match}
+use Rattle.template.specs.declared.seek.Skip.{Skip}
+use Rattle.template.specs.Lines.{linesWithin, linesOf}
+use Rattle.template.specs.Shape.{wordShape}
+use Rattle.template.specs.Seek.{roleOf, past, orSkip, skipFrom, atMost, skipped}
 
 -- a template has no more lines than bytes
 lines-few : (k : ℕ) (s : List ℕ) → length (linesWithin k s) ≤ k

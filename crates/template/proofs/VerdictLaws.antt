@@ -17,9 +17,9 @@ use Rattle.scan.specs.Line.{allAllowed, lineAt, nextLine}
 use Rattle.scan.specs.inner.Bytes.{firstRefused}
 use Rattle.template.specs.declared.Verdict.{Verdict}
 use Rattle.template.specs.declared.Verdict.the-variants.{Fine, Fault}
-use Rattle.shapes.specs.Lines.{linesOf}
+use Rattle.template.specs.Lines.{linesOf}
 use Rattle.template.specs.Verdicts.{firstFault, lineAllowed, bytesCheck}
-use Rattle.shapes.proofs.LineLaws.{lines-none, lines-more}
+use Rattle.template.proofs.LineLaws.{lines-none, lines-more}
 
 -- ---- the first line at fault: the loop's rest gives what the whole gives
 

@@ -9,9 +9,9 @@ use lib.ListN.{length, drop}
 use Rattle.scan.specs.Line.{lineAt, nextLine}
 use Rattle.template.specs.declared.Verdict.{Verdict}
 use Rattle.template.specs.declared.Verdict.the-variants.{Fault}
-use Rattle.shapes.specs.Lines.{linesOf}
+use Rattle.template.specs.Lines.{linesOf}
 use Rattle.template.specs.Walk.{orElse, walk}
-use Rattle.shapes.proofs.LineLaws.{lines-none, lines-more}
+use Rattle.template.proofs.LineLaws.{lines-none, lines-more}
 
 module _ {S : Type 0} (step : S → List ℕ → Option S) (finish : S → ℕ → Verdict) (t : List ℕ) (at n : ℕ) (s : S) {w : Verdict} (inv : walk step finish s n (linesOf (drop at t)) ≡ w) where
   pub walk-end : length t ≤ at → finish s n ≡ w

@@ -5,16 +5,16 @@ use mathlib.Core.Option.{Option, none, some}
 use Prim.Native.Nat.{ℕ, _+_}
 use lib.Dec.{eqb}
 use lib.ListN.{length, take}
-use Rattle.names.specs.Name.{nameOf, sameBytes}
+use Rattle.template.specs.Name.{nameOf, sameBytes}
 use Rattle.template.specs.declared.Verdict.{Verdict}
 use Rattle.template.specs.declared.Verdict.the-variants.{Fine, Fault}
 use Rattle.template.specs.declared.forms.Faults.{Faults}
 use Rattle.template.specs.declared.forms.Faults.the-variants.{NoFault, InForm, InNesting}
-use Rattle.shapes.specs.Lines.{linesOf}
+use Rattle.template.specs.Lines.{linesOf}
 use Rattle.template.specs.Verdicts.{firstFault}
 use Rattle.template.specs.Walk.{walk}
-use Rattle.shapes.specs.Form.{shapeOf, isFormed}
-use Rattle.nesting.specs.Nest.{Mark, behind, allClosed}
+use Rattle.template.specs.Shape.{shapeOf, isFormed}
+use Rattle.template.specs.Nest.{Mark, behind, allClosed}
 
 -- 3
 unfoldable pub formCheck : List ℕ → Verdict

@@ -1,7 +1,12 @@
+pub mod Nest
+pub mod inner
+pub mod Name
+pub mod Lines
+pub mod Shape
+pub mod Seek
 pub mod Verdicts
 pub mod Walk
 pub mod Checks
-pub mod inner
 pub mod Sections
 pub mod Order
 pub mod Opening

@@ -25,21 +25,21 @@ use Rattle.lines.specs.readers.Fetch.{parameterAt, fetchedAt, fetchAt}
 use Rattle.lines.specs.readers.Title.{nameAt, sectionAt, headingOf, headingAt, remarkAt}
 use Rattle.lines.specs.readers.Command.{commands, parseLine}
 use Rattle.meaning.specs.declared.refusal.Refusal.the-variants.{BadTemplate, BadLine, BadNesting, RepeatedSection, NoSection}
-use Rattle.nesting.specs.Nest.{tests, tables, sectionBegun, testTurned, testEnded, tableEnded, inSection, behind, allClosed}
-use Rattle.names.specs.Name.{nameOf}
+use Rattle.template.specs.Nest.{tests, tables, sectionBegun, testTurned, testEnded, tableEnded, inSection, behind, allClosed}
+use Rattle.template.specs.Name.{nameOf}
 use Rattle.template.specs.declared.Checked.{Checked}
 use Rattle.template.specs.declared.Checked.the-variants.{Accepted, Refused}
-use Rattle.shapes.specs.declared.seek.Skip.{Skip}
-use Rattle.shapes.specs.declared.seek.Sought.{Sought}
-use Rattle.shapes.specs.declared.seek.Sought.the-variants.{Branch, TestEnd, TableEnd}
-use Rattle.shapes.specs.Lines.{linesWithin, linesOf}
+use Rattle.template.specs.declared.seek.Skip.{Skip}
+use Rattle.template.specs.declared.seek.Sought.{Sought}
+use Rattle.template.specs.declared.seek.Sought.the-variants.{Branch, TestEnd, TableEnd}
+use Rattle.template.specs.Lines.{linesWithin, linesOf}
 use Rattle.template.specs.Verdicts.{firstFault, lineAllowed, bytesCheck}
 use Rattle.template.specs.Walk.{orElse, walk}
-use Rattle.shapes.specs.Form.{shapeIn, shapeOf, hasForm, isFormed, shapeWords, wordShape}
+use Rattle.template.specs.Shape.{shapeIn, shapeOf, hasForm, isFormed, shapeWords, wordShape}
 use Rattle.template.specs.Checks.{formCheck, nestStep, nestEnd, nestCheck, hasName, cameBefore, nameStep, nameEnd, nameCheck}
 use Rattle.template.specs.Sections.{selects, sectionFrom, endAt, sectionEnd, runFrom, selected}
 use Rattle.template.specs.Order.{unlessFault, acceptedRun, sectionChecked, namesChecked, nestingChecked, formsChecked, templateChecked}
-use Rattle.shapes.specs.Seek.{amongTests, amongTables, atElse, roleOf, past, orSkip, skipFrom, atMost, skipped}
+use Rattle.template.specs.Seek.{amongTests, amongTables, atElse, roleOf, past, orSkip, skipFrom, atMost, skipped}
 
 -- lines, each with its line end
 unfoldable pub lines : List String → List ℕ

@@ -5,12 +5,12 @@ use Prim.Native.Nat.{ℕ, suc, _+_}
 use lib.Dec.{eqb}
 use lib.ListN.{length, drop}
 use Rattle.scan.specs.Line.{nextLine, window}
-use Rattle.names.specs.Name.{nameOf, sameBytes}
+use Rattle.template.specs.Name.{nameOf, sameBytes}
 use Rattle.template.specs.declared.sections.Selection.{Selection}
 use Rattle.template.specs.declared.sections.Selection.the-variants.{Lines, NotThere}
 use Rattle.template.specs.declared.sections.Found.{Found}
 use Rattle.template.specs.declared.sections.Found.the-variants.{At, Nowhere}
-use Rattle.shapes.specs.Lines.{linesOf}
+use Rattle.template.specs.Lines.{linesOf}
 
 -- names by their first eight characters, "the caller's may be any bytes"; a line that isn't $SEC has the empty name
 unfoldable pub selects : List ℕ → List ℕ → Bool

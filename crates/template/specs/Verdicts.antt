@@ -7,7 +7,7 @@ use lib.ListN.{length}
 use Rattle.scan.specs.Line.{allAllowed}
 use Rattle.template.specs.declared.Verdict.{Verdict}
 use Rattle.template.specs.declared.Verdict.the-variants.{Fine, Fault}
-use Rattle.shapes.specs.Lines.{linesOf}
+use Rattle.template.specs.Lines.{linesOf}
 
 -- the first of some lines, counted from n, that a check turns away
 unfoldable pub firstFault : (List ℕ → Bool) → ℕ → List (List ℕ) → Verdict

@@ -1,2 +1,5 @@
+pub mod Open
+pub mod Hash
+pub mod Numbered
 pub mod Notes
 pub mod Within

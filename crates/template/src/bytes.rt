@@ -1,11 +1,11 @@
 // 2: "The template is too long (line 0), has a byte or line outside its limits."
+use crate::LONGEST_TEMPLATE;
 use crate::Verdict;
-use shapes::LONGEST_TEMPLATE;
 ghost use mathlib.Core.Path.{_≡_};
 ghost use Prim.Native.Nat.{_≤_};
 ghost use lib.ListN.{length};
 ghost use Rattle.scan.specs.inner.Bytes.{firstRefused};
-ghost use Rattle.shapes.specs.Lines.{linesOf};
+ghost use Rattle.template.specs.Lines.{linesOf};
 ghost use Rattle.template.specs.Verdicts.{firstFault, lineAllowed, bytesCheck};
 
 const LONGEST_LINE: usize = 132;

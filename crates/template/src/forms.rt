@@ -1,16 +1,17 @@
 // 3: "A line has no form above, a number literal exceeds ±2,000,000,000, or fields widen a line past 132 bytes."
 // 4: nesting, from the first line to the last. One walk for both parses a line once.
 use crate::Verdict;
-use nesting::Open;
-use nesting::Step;
-use shapes::form;
+use crate::nesting;
+use crate::nesting::Open;
+use crate::nesting::Step;
+use crate::shapes;
 ghost use mathlib.Core.Path.{_≡_};
 ghost use Prim.Native.Nat.{_+_, _≤_};
 ghost use lib.ListN.{length, drop};
 ghost use Rattle.template.specs.declared.Verdict.the-variants.{Fault};
-ghost use Rattle.shapes.specs.Lines.{linesOf};
+ghost use Rattle.template.specs.Lines.{linesOf};
 ghost use Rattle.template.specs.Verdicts.{firstFault};
-ghost use Rattle.shapes.specs.Form.{isFormed};
+ghost use Rattle.template.specs.Shape.{isFormed};
 ghost use Rattle.template.specs.Checks.{formCheck, nestCheck, formBeforeNesting};
 
 // How 3 and then 4 end: no line is at fault, or the first that is.
@@ -29,7 +30,7 @@ fn formless_from(template: &[u8], from: usize, first: u32) -> Verdict
     let mut number: u32 = first;
     while at < template.len() {
         let line = scan::bytes::line_of(&template[at..]);
-        if !form::is_formed(line) {
+        if !shapes::is_formed(line) {
             return Verdict::Fault(number);
         }
         at += line.len() + 1;
@@ -63,8 +64,8 @@ pub fn check(template: &[u8]) -> Faults
     };
     while at < template.len() {
         let line = scan::bytes::line_of(&template[at..]);
-        let shape = form::shape_of(line);
-        if !form::has_form(shape) {
+        let shape = shapes::shape_of(line);
+        if !shapes::has_form(shape) {
             return Faults::InForm(lines + 1);
         }
         let Step::Went(next) = nesting::after_line(state, shape) else {

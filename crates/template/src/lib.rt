@@ -1,7 +1,8 @@
-// The checks of a whole template, in document 01's order, and where the run of a section starts and ends.
+// The checks of a whole template, in document 01's order, where the run of a section starts and ends, and where a jump goes on.
 //
-// check           2 to 5, each over the whole template, then 6
-// bytes::check    2: too long, a byte or a line outside its limits
+// check              2 to 5, each over the whole template, then 6
+// bytes::check       2: too long, a byte or a line outside its limits
+// seek::skip_lines   where a failed test, an executed $ELSE and a $BT with n below 1 go on
 use crate::forms::Faults;
 use crate::sections::Selection;
 use meaning::refusal::Refusal;
@@ -11,9 +12,16 @@ ghost use lib.ListN.{length};
 ghost use Rattle.template.specs.Order.{sectionChecked, namesChecked, formsChecked, templateChecked};
 
 pub mod bytes; // bytes.rt: check 2
+mod shapes; // shapes.rt: what a line is to the checks and to a search
+mod nesting; // nesting.rt: tests, tables and sections: what is open, from one line to the next
 mod forms; // forms.rt: checks 3 and 4
+mod names; // names.rt: the names of sections
 mod repeats; // repeats.rt: check 5
 mod sections; // sections.rt: check 6
+pub mod seek; // seek.rt: where a failed test, an executed $ELSE and a skipped table go on
+
+// "A template has at most 32,768 bytes"
+const LONGEST_TEMPLATE: usize = 32_768;
 
 // How a check ends: nothing at fault, or the first line that is. 0 is no line.
 pub enum Verdict {

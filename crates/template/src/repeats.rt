@@ -1,10 +1,11 @@
 // 5: "A section name came before; the later line is named."
 use crate::Verdict;
+use crate::names;
 ghost use mathlib.Core.Path.{_≡_};
 ghost use mathlib.Core.Bool.{false};
 ghost use Prim.Native.Nat.{_≤_};
 ghost use lib.ListN.{length, take};
-ghost use Rattle.shapes.specs.Lines.{linesOf};
+ghost use Rattle.template.specs.Lines.{linesOf};
 ghost use Rattle.template.specs.inner.Notes.{RuledOut, notedWith};
 ghost use Rattle.template.specs.Checks.{hasName, cameBefore, nameCheck};
 

@@ -1,9 +1,10 @@
 // 6: "The section asked for isn't there, or the name is empty and there is no $SEC."
 use crate::Run;
+use crate::names;
 ghost use mathlib.Core.Path.{_≡_};
 ghost use Prim.Native.Nat.{_+_, _<_, _≤_};
 ghost use lib.ListN.{length, drop};
-ghost use Rattle.shapes.specs.Lines.{linesOf};
+ghost use Rattle.template.specs.Lines.{linesOf};
 ghost use Rattle.template.specs.Sections.{selects, sectionFrom, sectionEnd, selected};
 ghost use Rattle.template.specs.inner.Within.{Within};
 

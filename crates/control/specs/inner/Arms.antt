@@ -9,7 +9,7 @@ use lib.Signed.{ltZ}
 use lib.ListN.{length, drop, replicate}
 use Rattle.values.specs.inner.Registers.{Puts}
 use Rattle.values.specs.Machine.{setNumbered}
-use Rattle.shapes.specs.declared.seek.Sought.the-variants.{Branch, TableEnd}
+use Rattle.template.specs.declared.seek.Sought.the-variants.{Branch, TableEnd}
 use Rattle.meaning.specs.Answer.{Answer}
 use Rattle.meaning.specs.Place.{at, Does}
 use Rattle.meaning.specs.Number.{endOf}

@@ -5,8 +5,8 @@ use Prim.Native.Nat.{ℕ, _+_}
 use lib.IntN.{pos}
 use lib.ListN.{drop}
 use Rattle.meaning.specs.declared.end.Ended.{Ended}
-use Rattle.shapes.specs.declared.seek.Sought.{Sought}
-use Rattle.shapes.specs.Seek.{skipped}
+use Rattle.template.specs.declared.seek.Sought.{Sought}
+use Rattle.template.specs.Seek.{skipped}
 use Rattle.values.specs.declared.scene.Scene.{Scene}
 use Rattle.tables.specs.Looping.{loop, innermost}
 use Rattle.tables.specs.inner.Open.{opened}

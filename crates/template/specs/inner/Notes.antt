@@ -4,7 +4,7 @@ use mathlib.Core.Bool.{cond}
 use mathlib.Core.List.{List}
 use Prim.Native.Nat.{ℕ, _+_, _/_, _%_}
 use lib.Dec.{eqb}
-use Rattle.names.specs.inner.Hash.{hashOf}
+use Rattle.template.specs.inner.Hash.{hashOf}
 
 -- the slot in which a name is noted, and its fingerprint there
 abbrev pub slotOf : List ℕ → ℕ

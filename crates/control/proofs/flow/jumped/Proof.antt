@@ -5,7 +5,7 @@ use Rattle.control.proofs.flow.jumped.Tie as tie
 use Rattle.control.proofs.flow.jumped.Reads as reads
 use Rattle.control.proofs.flow.jumped.Lts as lts
 use Rattle.control.proofs.flow.placed.Reads as placed-reads
-use Rattle.shapes.proofs.seek.skip_lines.Reads as skip-lines-reads
+use Rattle.template.proofs.seek.skip_lines.Reads as skip-lines-reads
 
 returns : tie.Need-returns
 returns c = jumped-outside _ _ _ (c .if1 .taken)

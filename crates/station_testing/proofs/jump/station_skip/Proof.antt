@@ -1,6 +1,6 @@
 -- What `skip_lines` says of the search that the code stands for.
 use mathlib.Core.Path.{ap, _∙_}
-use Rattle.shapes.specs.Seek.{skipped}
+use Rattle.template.specs.Seek.{skipped}
 use Rattle.station_testing.proofs.Laws.{told-skip}
 use borrow.Author.Needs.{needs}
 use Rattle.station_testing.proofs.jump.station_skip.Statement.{statement}

@@ -5,9 +5,9 @@ use denote.Ref.{now}
 use lib.ListN.{length, drop}
 use Rattle.scan.specs.Line.{lineAt}
 use Rattle.scan.specs.inner.Bytes.{firstRefused}
-use Rattle.shapes.specs.Lines.{linesOf}
+use Rattle.template.specs.Lines.{linesOf}
 use Rattle.template.specs.Verdicts.{firstFault, lineAllowed}
-use Rattle.shapes.proofs.LineLaws.{part-line}
+use Rattle.template.proofs.LineLaws.{part-line}
 use Rattle.template.proofs.VerdictLaws.{none-left, found-long, found-refused, next-line, next-fine}
 use borrow.Author.Needs.{needs}
 use Rattle.template.proofs.bytes.lines.Statement.{statement}

@@ -4,12 +4,12 @@ use Prim.Native.Nat.{_+_, _-_, _≤_, zero-le}
 use native.Mathlib.Omega.{arith}
 use borrow.Author.Tests.{not-true, not-false}
 use lib.ListN.{length, drop}
-use Rattle.shapes.specs.Lines.{linesOf}
+use Rattle.template.specs.Lines.{linesOf}
 use Rattle.template.specs.Verdicts.{firstFault}
 use Rattle.template.specs.Walk.{walk}
-use Rattle.shapes.specs.Form.{isFormed}
+use Rattle.template.specs.Shape.{isFormed}
 use Rattle.template.specs.Checks.{nestStep, nestEnd, formCheck, nestCheck}
-use Rattle.shapes.proofs.LineLaws.{part-line}
+use Rattle.template.proofs.LineLaws.{part-line}
 use Rattle.template.proofs.VerdictLaws.{none-left, fault-here, passed-later}
 use Rattle.template.proofs.NestLaws.{Sound, nest-start, nest-here, nest-later, nest-closed, nest-open}
 use Rattle.template.proofs.FormLaws.{formed-by, form-fault, nesting-fault, no-faults, same-faults}

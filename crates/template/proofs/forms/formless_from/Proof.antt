@@ -4,10 +4,10 @@ use Prim.Native.Nat.{_+_, _-_, _≤_}
 use native.Mathlib.Omega.{arith}
 use borrow.Author.Tests.{not-true, not-false}
 use lib.ListN.{length, drop}
-use Rattle.shapes.specs.Lines.{linesOf}
+use Rattle.template.specs.Lines.{linesOf}
 use Rattle.template.specs.Verdicts.{firstFault}
-use Rattle.shapes.specs.Form.{isFormed}
-use Rattle.shapes.proofs.LineLaws.{part-line}
+use Rattle.template.specs.Shape.{isFormed}
+use Rattle.template.proofs.LineLaws.{part-line}
 use Rattle.template.proofs.VerdictLaws.{none-left, fault-here, passed-later}
 use borrow.Author.Needs.{needs}
 use Rattle.template.proofs.forms.formless_from.Statement.{statement}

@@ -3,11 +3,11 @@ use mathlib.Core.Path.{_≡_, refl}
 use Prim.Native.Nat.{ℕ, _-_, _≤_, zero-le}
 use native.Mathlib.Omega.{arith}
 use lib.ListN.{length, take, drop, length-replicate}
-use Rattle.names.proofs.NameLaws.{hash-bound}
-use Rattle.shapes.specs.Lines.{linesOf}
+use Rattle.template.proofs.SectionNames.{hash-bound}
+use Rattle.template.specs.Lines.{linesOf}
 use Rattle.template.specs.Walk.{walk}
 use Rattle.template.specs.Checks.{nameStep, nameEnd, nameCheck}
-use Rattle.shapes.proofs.LineLaws.{part-line}
+use Rattle.template.proofs.LineLaws.{part-line}
 use Rattle.template.proofs.WalkLaws.{walk-end, walk-here, walk-later}
 use Rattle.template.proofs.NameLaws.{name-repeated, name-fresh}
 use Rattle.template.proofs.NoteLaws.{Noted, none-noted, lines-on, noted-on}

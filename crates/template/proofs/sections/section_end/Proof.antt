@@ -1,4 +1,4 @@
-use Rattle.shapes.proofs.LineLaws.{part-line}
+use Rattle.template.proofs.LineLaws.{part-line}
 use Rattle.template.proofs.SectionLaws.{end-of-all, end-at-next, end-of-last}
 use borrow.Author.Needs.{needs}
 use Rattle.template.proofs.sections.section_end.Statement.{statement}

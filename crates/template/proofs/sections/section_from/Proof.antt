@@ -3,10 +3,10 @@ use mathlib.Core.Path.{_≡_, refl}
 use Prim.Native.Nat.{_-_, _≤_}
 use native.Mathlib.Omega.{arith}
 use lib.ListN.{length, drop}
-use Rattle.shapes.specs.Lines.{linesOf}
+use Rattle.template.specs.Lines.{linesOf}
 use Rattle.template.specs.Sections.{sectionFrom}
 use Rattle.template.specs.inner.Within.{Within}
-use Rattle.shapes.proofs.LineLaws.{part-line}
+use Rattle.template.proofs.LineLaws.{part-line}
 use Rattle.template.proofs.SectionLaws.{section-none, section-here, section-later}
 use borrow.Author.Needs.{needs}
 use Rattle.template.proofs.sections.section_from.Statement.{statement}

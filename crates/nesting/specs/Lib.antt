@@ -1,2 +1,0 @@
-pub mod Nest
-pub mod inner

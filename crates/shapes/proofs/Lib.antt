@@ -1,4 +1,0 @@
-pub mod LineLaws
-pub mod SeekLaws
-pub mod NameForm
-pub mod WordForm

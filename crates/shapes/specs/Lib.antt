@@ -1,4 +1,0 @@
-pub mod inner
-pub mod Lines
-pub mod Form
-pub mod Seek
