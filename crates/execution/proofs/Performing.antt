@@ -60,7 +60,7 @@ use Rattle.tables.specs.inner.Open.{opened, openOf, beginning, passing, AtMostO
 use Rattle.control.specs.Selecting.{datasourceFrom, datasourceMeaning}
 use Rattle.control.specs.Fetching.{withRecords, withEntries, recordsMeaning, entriesMeaning}
 use Rattle.values.proofs.Clearing.{zeros-bank, zeros-behind, texts-cleared, fetched-cleared}
-use Rattle.rendering.specs.inner.Pass.{lent}
+use Rattle.pages.specs.inner.Pass.{lent}
 use Rattle.pages.specs.declared.heading.Heading.{Heading}
 use Rattle.pages.specs.declared.step.Paged.{Paged}
 use Rattle.pages.specs.Heading.{noHeading}

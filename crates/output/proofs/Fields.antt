@@ -16,7 +16,7 @@ use Rattle.fields.specs.Digits.{digits, digitCount}
 use Rattle.fields.specs.Field.{space, asterisk, hyphen, point, questionMark, placesOf, negative, minus, fraction, unsigned, rightIn, leftIn, widthAllowed, roundedField, shown, fieldOf}
 use Rattle.texts.specs.declared.text.Places as T
 use Rattle.values.specs.Worth.{Worth, missing, wrong, number, string}
-use Rattle.rendering.specs.Shown.{placesIn, valueOf, orStars, fieldBytes}
+use Rattle.pages.specs.Shown.{placesIn, valueOf, orStars, fieldBytes}
 use Rattle.output.specs.Printable.{Printable, Clean}
 use Rattle.output.proofs.Bytes.{each-take, each-append, each-replicate}
 

@@ -24,8 +24,8 @@ use Rattle.values.specs.Machine.{Machine}
 use Rattle.values.specs.Worth.{Worth}
 use Rattle.values.specs.Meanings.{argumentMeaning}
 use Rattle.values.proofs.Giving.{Anything}
-use Rattle.rendering.specs.Text.{fieldValues, rendered, anyWrong, printed, textMeaning}
-use Rattle.rendering.specs.Shown.{fieldBytes}
+use Rattle.pages.specs.Text.{fieldValues, rendered, anyWrong, printed, textMeaning}
+use Rattle.pages.specs.Shown.{fieldBytes}
 use Rattle.pages.specs.declared.page.Page.{Page}
 use Rattle.pages.specs.declared.heading.Heading.{Heading}
 use Rattle.pages.specs.Page.{advancedOf, on, sayMeaning, headLine, headFrom, headNumber, headMeaning, headsMeaning, highestOf, breakMeaning, turnMeaning, topMeaning, lineStep}

@@ -17,7 +17,7 @@ use Rattle.values.specs.Meanings.{argumentMeaning}
 use Rattle.values.proofs.Allowed.{Allowed, AsksAllowed, argument-asks}
 use Rattle.pages.specs.declared.page.Page.{Page}
 use Rattle.pages.specs.declared.heading.Heading.{Heading}
-use Rattle.rendering.specs.Text.{fieldValues, rendered, anyWrong, printed, textMeaning}
+use Rattle.pages.specs.Text.{fieldValues, rendered, anyWrong, printed, textMeaning}
 use Rattle.pages.specs.inner.Listing.{Due, saysOn, linesDue}
 use Rattle.pages.proofs.Listing.{top-says}
 use Rattle.pages.specs.Page.{on, advancedOf, sayMeaning, breakMeaning, turnMeaning, topMeaning, lineStep}

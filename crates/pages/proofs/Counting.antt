@@ -16,7 +16,7 @@ use Rattle.meaning.proofs.Keeping.{keeps-bind}
 use Rattle.values.specs.Machine.{Machine}
 use Rattle.values.specs.Meanings.{argumentMeaning}
 use Rattle.values.proofs.Giving.{Gives, Anything, gives-bind, gives-keeps, argument-gives}
-use Rattle.rendering.specs.Text.{fieldValues, rendered, anyWrong, printed, textMeaning}
+use Rattle.pages.specs.Text.{fieldValues, rendered, anyWrong, printed, textMeaning}
 use Rattle.pages.specs.declared.page.Page.{Page}
 use Rattle.pages.specs.declared.heading.Heading.{Heading}
 use Rattle.pages.specs.inner.Listing.{Due, saysOn, linesDue}

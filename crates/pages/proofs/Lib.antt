@@ -1,3 +1,7 @@
+pub mod Shows
+pub mod Making
+pub mod Telling
+pub mod InRange
 pub mod Heads
 pub mod Highest
 pub mod Listing

@@ -13,7 +13,7 @@ use Rattle.meaning.specs.Tree.{done, print, bind}
 use Rattle.meaning.specs.Meaning.{Meaning}
 use Rattle.meaning.proofs.Binding.{bind-assoc}
 use Rattle.values.specs.Machine.{Machine}
-use Rattle.rendering.specs.Text.{textMeaning}
+use Rattle.pages.specs.Text.{textMeaning}
 use Rattle.pages.specs.declared.page.Page.{Page}
 use Rattle.pages.specs.declared.heading.Heading.{Heading}
 use Rattle.pages.specs.Heading.{noHeading}

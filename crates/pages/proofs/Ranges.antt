@@ -20,10 +20,10 @@ use Rattle.values.specs.Worth.{Worth, missing, wrong, number, string}
 use Rattle.values.specs.Meanings.{argumentMeaning}
 use Rattle.values.proofs.Ranges.{WorthWithin, MachineWithin, millionths-within, argument-within}
 use Rattle.pages.specs.declared.page.Page.{Page}
-use Rattle.rendering.specs.Shown.{placesIn, valueOf, orStars, fieldBytes}
-use Rattle.rendering.specs.Text.{fieldValues}
+use Rattle.pages.specs.Shown.{placesIn, valueOf, orStars, fieldBytes}
+use Rattle.pages.specs.Text.{fieldValues}
 use Rattle.pages.specs.Page.{on}
-use Rattle.rendering.proofs.InRange.{number-shown}
+use Rattle.pages.proofs.InRange.{number-shown}
 
 -- a field with this value has its bytes
 abbrev pub FieldShown : Field → Worth → Type 0

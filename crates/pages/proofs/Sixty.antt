@@ -16,7 +16,7 @@ use Rattle.values.proofs.Giving.{Anything, gives-keeps}
 use Rattle.pages.specs.declared.page.Page.{Page}
 use Rattle.pages.specs.declared.heading.Heading.{Heading}
 use Rattle.texts.specs.Pieces.{piecesOf}
-use Rattle.rendering.specs.Text.{fieldValues, rendered, anyWrong, printed, textMeaning}
+use Rattle.pages.specs.Text.{fieldValues, rendered, anyWrong, printed, textMeaning}
 use Rattle.pages.specs.Page.{advancedOf, on, sayMeaning, breakMeaning, turnMeaning, topMeaning, lineStep}
 use Rattle.pages.specs.inner.Listing.{Due, saysOn, textDue, linesDue}
 use Rattle.pages.proofs.Listing.{top-says, lines-few}

@@ -22,8 +22,8 @@ use Rattle.values.specs.Source.{answers}
 use Rattle.texts.specs.Pieces.{read, piecesOf, fieldCount}
 use Rattle.texts.specs.Width.{totalWidth}
 use Rattle.texts.specs.readers.Text.{piecesWithin, textPieces, fitsBehind, textFits}
-use Rattle.rendering.specs.declared.text.Told.{Told}
-use Rattle.rendering.specs.inner.Pass.{Lent, machineOf, Sourced, Sayable, filledTo, Tells}
+use Rattle.pages.specs.declared.text.Told.{Told}
+use Rattle.pages.specs.inner.Pass.{Lent, machineOf, Sourced, Sayable, filledTo, Tells}
 use Rattle.pages.specs.declared.page.Page.{Page}
 use Rattle.pages.specs.declared.page.Turned.{Turned}
 use Rattle.pages.specs.declared.heading.Heading.{Heading}

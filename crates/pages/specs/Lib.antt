@@ -1,3 +1,5 @@
+pub mod Shown
+pub mod Text
 pub mod inner
 pub mod Heading
 pub mod Page

@@ -11,7 +11,7 @@ use Rattle.values.specs.Machine.{Machine}
 use Rattle.pages.specs.declared.page.Page.{Page}
 use Rattle.pages.specs.declared.heading.Heading.{Heading}
 use Rattle.pages.specs.Heading.{noHeading}
-use Rattle.rendering.specs.Text.{textMeaning}
+use Rattle.pages.specs.Text.{textMeaning}
 
 -- "PAGENUM starts at 1"
 abbrev pub newPage : Page

@@ -20,7 +20,7 @@ use Rattle.pages.specs.declared.page.Page.{Page}
 use Rattle.pages.specs.declared.heading.Heading.{Heading}
 use Rattle.pages.specs.Heading.{noHeading}
 use Rattle.texts.specs.Pieces.{read, piecesOf}
-use Rattle.rendering.specs.Text.{textMeaning}
+use Rattle.pages.specs.Text.{textMeaning}
 use Rattle.pages.specs.Page.{newPage, sayMeaning, headLine, headFrom, headNumber, headMeaning, highestOf, breakMeaning, turnMeaning, topMeaning, lineStep}
 
 abbrev sample : Machine

@@ -53,8 +53,8 @@ use Rattle.coercions.specs.Settling.{integerFrom, integerMeaning, resultOf, mil
 use Rattle.assignments.specs.Setting.{decimalOutcome, newFrom, integerOutcome, stored, stringNew, setOf, setMeaning}
 use Rattle.conditions.specs.Testing.{isMissing, ofNumbers, ofStrings, compared, testMeaning, zeroTest, zeroJudged, zeroMeaning, judged}
 use Rattle.texts.specs.Pieces.{read, piecesOf}
-use Rattle.rendering.specs.Text.{textMeaning}
-use Rattle.rendering.specs.Shown.{orStars, placesIn, valueOf as pagesValueOf, fieldBytes}
+use Rattle.pages.specs.Text.{textMeaning}
+use Rattle.pages.specs.Shown.{orStars, placesIn, valueOf as pagesValueOf, fieldBytes}
 use Rattle.pages.specs.Page.{sayMeaning, highestOf as pagesHighestOf, topMeaning, breakMeaning, turnMeaning, lineStep}
 use Rattle.control.specs.Line.{breaking, breakingFor, newPageMeaning, tableBegun, tableEnded as executionTableEnded, branched, formMeaning, lineMeaning}
 use Rattle.runs.specs.Report.{runFrom as reportRunFrom, checkedOutcome, reportOf, Outcome, textIn, reportIn}

@@ -16,7 +16,7 @@ use Rattle.pages.specs.declared.page.Turned.{Turned}
 use Rattle.pages.specs.declared.heading.Heading.{Heading}
 use Rattle.pages.specs.declared.step.Paged.{Paged}
 use Rattle.texts.specs.Pieces.{piecesOf, fieldCount}
-use Rattle.rendering.specs.inner.Pass.{Lent, machineOf, Sourced, filledTo}
+use Rattle.pages.specs.inner.Pass.{Lent, machineOf, Sourced, filledTo}
 use Rattle.pages.specs.Page.{breakMeaning, turnMeaning, lineStep}
 use Rattle.pages.specs.inner.Listing.{Due, saysOn, shown, bytesOf}
 

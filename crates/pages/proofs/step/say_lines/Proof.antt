@@ -3,7 +3,7 @@ use Rattle.pages.proofs.Heads.{nine-headings}
 use Rattle.pages.proofs.Stepping.{InLines, lines-begin, line-row, line-ready, line-same, line-over, line-next, lines-said}
 use Rattle.pages.specs.inner.Packed.{headingsOf}
 use Rattle.values.specs.inner.State.{headingsIn}
-use Rattle.rendering.specs.inner.Pass.{lent}
+use Rattle.pages.specs.inner.Pass.{lent}
 use Prim.Native.Nat.{_+_, _-_}
 use native.Mathlib.Omega.{arith}
 use denote.Ref.{now}

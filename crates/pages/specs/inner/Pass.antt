@@ -26,11 +26,11 @@ use Rattle.values.specs.declared.worth.Worth as C
 use Rattle.values.specs.declared.worth.Worth.the-variants as W
 use Rattle.values.specs.Worth.{Worth}
 use Rattle.values.specs.Meanings.{argumentMeaning}
-use Rattle.rendering.specs.declared.text.Made.{Made}
-use Rattle.rendering.specs.declared.text.Told.{Told}
-use Rattle.rendering.specs.Shown.{fieldBytes}
+use Rattle.pages.specs.declared.text.Made.{Made}
+use Rattle.pages.specs.declared.text.Told.{Told}
+use Rattle.pages.specs.Shown.{fieldBytes}
 use Rattle.texts.specs.Pieces.{piecesOf, fieldCount}
-use Rattle.rendering.specs.Text.{isWrong, textMeaning}
+use Rattle.pages.specs.Text.{isWrong, textMeaning}
 
 -- the bytes made so far, and whether a kind was wrong
 pub record Worked : Type 0 where

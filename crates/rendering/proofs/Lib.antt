@@ -1,4 +1,0 @@
-pub mod Shows
-pub mod Making
-pub mod Telling
-pub mod InRange
