@@ -23,12 +23,12 @@ use Rattle.values.specs.Fetching.{fetchMeaning}
 use Rattle.values.specs.Worth.{Worth}
 use Rattle.values.specs.Meanings.{argumentMeaning}
 use Rattle.values.proofs.Allowed.{Allowed, AsksAllowed, argument-asks, fetch-asks}
-use Rattle.tables.specs.declared.table.Table.{Table}
-use Rattle.coercions.specs.Settling.{Settled, settled, against, concluded, integerFrom, integerMeaning}
-use Rattle.assignments.specs.Setting.{setOf, setMeaning}
-use Rattle.conditions.specs.Testing.{zeroJudged, compared, zeroMeaning, testMeaning}
+use Rattle.commands.specs.declared.table.Table.{Table}
+use Rattle.commands.specs.Settling.{Settled, settled, against, concluded, integerFrom, integerMeaning}
+use Rattle.commands.specs.Setting.{setOf, setMeaning}
+use Rattle.commands.specs.Testing.{zeroJudged, compared, zeroMeaning, testMeaning}
 use Rattle.control.specs.Fetching.{withRecords, withEntries, recordsMeaning, entriesMeaning}
-use Rattle.tables.specs.Looping.{begun, beginMeaning, counted, endMeaning}
+use Rattle.commands.specs.Looping.{begun, beginMeaning, counted, endMeaning}
 use Rattle.control.specs.Selecting.{datasourceFrom, datasourceMeaning}
 
 concluded-asks : {A : Type 0} (line : ℕ) (x : Settled A) → AsksAllowed (concluded line x)

@@ -16,8 +16,8 @@ use Rattle.meaning.specs.declared.end.Ended.the-variants.{Finished, Halted}
 use Rattle.meaning.proofs.Doing.{then-does, then-over, does-done, does-stop}
 use Rattle.values.specs.inner.Word.{questions}
 use Rattle.values.specs.inner.State.{Held}
-use Rattle.coercions.specs.inner.Contracts.{mapped}
-use Rattle.coercions.specs.Settling.{Settled, settled, against, concluded}
+use Rattle.commands.specs.inner.Taking.{mapped}
+use Rattle.commands.specs.Settling.{Settled, settled, against, concluded}
 use Rattle.pages.specs.declared.page.Page.{Page}
 use Rattle.control.specs.declared.state.Flow.{Flow}
 use Rattle.control.specs.declared.state.Lined.{Lined}

@@ -26,13 +26,13 @@ use Rattle.meaning.specs.declared.end.Ended.the-variants.{Finished, Halted}
 use Rattle.values.specs.declared.scene.Scene.{Scene}
 use Rattle.values.specs.declared.fetch.Fetched.{Fetched}
 use Rattle.values.specs.inner.Hearing.{placeOf}
-use Rattle.coercions.specs.Settling.{Settled, settled, against}
+use Rattle.commands.specs.Settling.{Settled, settled, against}
 use Rattle.control.specs.Selecting.{datasourceFrom}
-use Rattle.coercions.specs.declared.settle.Taken.{Taken}
-use Rattle.coercions.specs.declared.settle.Taken.the-variants as K
+use Rattle.commands.specs.declared.settle.Taken.{Taken}
+use Rattle.commands.specs.declared.settle.Taken.the-variants as K
 use Rattle.values.specs.inner.State.{headingsIn}
-use Rattle.tables.specs.Looping.{loop}
-use Rattle.tables.specs.inner.Open.{opened}
+use Rattle.commands.specs.Looping.{loop}
+use Rattle.commands.specs.inner.Open.{opened}
 use Rattle.pages.specs.declared.heading.Heading.{Heading}
 use Rattle.pages.specs.declared.page.Turned.{Turned}
 use Rattle.pages.specs.inner.Packed.{headingIn, headingsOf}

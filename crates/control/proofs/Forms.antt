@@ -17,12 +17,12 @@ use Rattle.meaning.proofs.Binding.{bind-assoc}
 use Rattle.values.specs.Worth.{Worth, missing}
 use Rattle.values.specs.Meanings.{argumentMeaning}
 use Rattle.values.specs.inner.Working.{worths, inputsMeaning}
-use Rattle.coercions.specs.Settling.{Settled, settled, against, andThen, concluded, integerFrom, integerMeaning}
-use Rattle.coercions.specs.inner.Contracts.{integerOr}
-use Rattle.assignments.specs.Setting.{setOf, setMeaning}
-use Rattle.conditions.specs.Testing.{zeroJudged, compared, zeroMeaning, testMeaning}
-use Rattle.tables.specs.Looping.{begun, counted, beginMeaning, endMeaning}
-use Rattle.tables.specs.inner.Open.{beginFrom, endFrom}
+use Rattle.commands.specs.Settling.{Settled, settled, against, andThen, concluded, integerFrom, integerMeaning}
+use Rattle.commands.specs.inner.Taking.{integerOr}
+use Rattle.commands.specs.Setting.{setOf, setMeaning}
+use Rattle.commands.specs.Testing.{zeroJudged, compared, zeroMeaning, testMeaning}
+use Rattle.commands.specs.Looping.{begun, counted, beginMeaning, endMeaning}
+use Rattle.commands.specs.inner.Open.{beginFrom, endFrom}
 use Rattle.control.specs.State.{State, seen, withVariables}
 use Rattle.control.specs.Line.{branched, tableBegun, tableEnded, breakingFor, newPageMeaning, formMeaning}
 use Rattle.control.specs.inner.Forms.{optionalInput, inputsOf, settling, formWith}

@@ -35,11 +35,11 @@ use Rattle.values.specs.Meanings.{argumentMeaning}
 use Rattle.values.proofs.Giving.{Gives}
 use Rattle.values.proofs.Ranges as R
 use Rattle.values.proofs.Ranges.{IntegerWithin, DecimalWithin, Short, WorthWithin, MachineWithin, argument-within, fetch-within, All, VariablesWithin}
-use Rattle.tables.specs.declared.table.Table.{Table}
-use Rattle.coercions.specs.Settling.{Settled, settled, against, concluded, integerFrom, quantityFrom, stringFrom, resultOf, millionthsOf, decimalFrom, integerMeaning}
-use Rattle.assignments.specs.Setting.{integerOutcome, decimalOutcome, stored, newFrom, integerNew, decimalNew, stringNew, setOf, setMeaning}
+use Rattle.commands.specs.declared.table.Table.{Table}
+use Rattle.commands.specs.Settling.{Settled, settled, against, concluded, integerFrom, quantityFrom, stringFrom, resultOf, millionthsOf, decimalFrom, integerMeaning}
+use Rattle.commands.specs.Setting.{integerOutcome, decimalOutcome, stored, newFrom, integerNew, decimalNew, stringNew, setOf, setMeaning}
 use Rattle.control.specs.Fetching.{withRecords, withEntries, recordsMeaning, entriesMeaning}
-use Rattle.tables.specs.Looping.{begun, beginMeaning, endMeaning}
+use Rattle.commands.specs.Looping.{begun, beginMeaning, endMeaning}
 use Rattle.control.proofs.Giving.{Whenever, whenever-then, numbered-length, Counting, end-gives, Bounded, begun-bounded, counting-bounded}
 
 -- what a tree that only asks gives, it yields

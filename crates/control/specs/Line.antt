@@ -17,10 +17,10 @@ use Rattle.template.specs.Seek.{skipped}
 use Rattle.meaning.specs.Tree.{done, bind}
 use Rattle.meaning.specs.Meaning.{Meaning}
 use Rattle.values.specs.Machine.{Variables, setNumbered}
-use Rattle.coercions.specs.Settling.{integerMeaning}
-use Rattle.assignments.specs.Setting.{setMeaning}
-use Rattle.conditions.specs.Testing.{zeroMeaning, testMeaning}
-use Rattle.tables.specs.Looping.{Looping, innermost, beginMeaning, endMeaning}
+use Rattle.commands.specs.Settling.{integerMeaning}
+use Rattle.commands.specs.Setting.{setMeaning}
+use Rattle.commands.specs.Testing.{zeroMeaning, testMeaning}
+use Rattle.commands.specs.Looping.{Looping, innermost, beginMeaning, endMeaning}
 use Rattle.control.specs.Fetching.{recordsMeaning, entriesMeaning}
 use Rattle.control.specs.Selecting.{datasourceMeaning}
 use Rattle.pages.specs.declared.heading.Heading.{Heading}

@@ -8,7 +8,7 @@ use Rattle.meaning.specs.declared.refusal.Refusal.the-variants.{BadIndex}
 use Rattle.arguments.specs.declared.index.Index.{Index}
 use Rattle.values.specs.Machine.{Machine}
 use Rattle.values.specs.Indexes.{indexNumber}
-use Rattle.coercions.specs.Settling.{Settled, settled, against, concluded}
+use Rattle.commands.specs.Settling.{Settled, settled, against, concluded}
 
 -- 8: "a $SETDS number outside 1–35"
 unfoldable pub datasourceFrom : ℤ → Settled ℕ

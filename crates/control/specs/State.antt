@@ -5,8 +5,8 @@ use Prim.Native.Nat.{ℕ}
 use lib.IntN.{pos}
 use lib.ListN.{replicate}
 use Rattle.values.specs.Machine.{Variables, Machine}
-use Rattle.tables.specs.declared.table.Table.{Table}
-use Rattle.tables.specs.Looping.{loop}
+use Rattle.commands.specs.declared.table.Table.{Table}
+use Rattle.commands.specs.Looping.{loop}
 use Rattle.pages.specs.declared.page.Page.{Page}
 use Rattle.pages.specs.declared.heading.Heading.{Heading}
 use Rattle.pages.specs.Heading.{noHeading}

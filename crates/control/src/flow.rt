@@ -1,7 +1,7 @@
 // Where a run goes on, and what its lines are executed in.
 use crate::state::Flow;
+use commands::table;
 use pages::page::Page;
-use tables::table;
 use template::seek;
 use template::seek::Sought;
 use values::registers::Words;

@@ -20,10 +20,10 @@ use Rattle.cells.proofs.Limits.{AnswerWithin}
 use Rattle.arguments.proofs.Parsed.{Between}
 use Rattle.values.specs.Machine.{Variables}
 use Rattle.values.proofs.Allowed.{Allowed, AsksAllowed}
-use Rattle.coercions.specs.Settling.{integerMeaning}
-use Rattle.assignments.specs.Setting.{setMeaning}
-use Rattle.conditions.specs.Testing.{zeroMeaning, testMeaning}
-use Rattle.tables.specs.Looping.{beginMeaning, endMeaning}
+use Rattle.commands.specs.Settling.{integerMeaning}
+use Rattle.commands.specs.Setting.{setMeaning}
+use Rattle.commands.specs.Testing.{zeroMeaning, testMeaning}
+use Rattle.commands.specs.Looping.{beginMeaning, endMeaning}
 use Rattle.control.specs.Fetching.{recordsMeaning, entriesMeaning}
 use Rattle.control.specs.Selecting.{datasourceMeaning}
 use Rattle.control.proofs.Allowed.{set-asks, integer-asks, zero-asks, test-asks, begin-asks, end-asks, records-asks, entries-asks, datasource-asks}

@@ -18,8 +18,8 @@ use Rattle.template.proofs.Opening.{checks-short, opens-line}
 use Rattle.values.specs.declared.scene.Scene.{Scene}
 use Rattle.values.specs.declared.fetch.Along.the-variants.{Records, Entries}
 use Rattle.values.specs.inner.State.{tablesIn, headingsIn}
-use Rattle.tables.specs.inner.Open.{opened}
-use Rattle.tables.proofs.Tabling.{opened-length}
+use Rattle.commands.specs.inner.Open.{opened}
+use Rattle.commands.proofs.Tabling.{opened-length}
 use Rattle.pages.specs.inner.Packed.{headingIn}
 use Rattle.lines.proofs.Accepted.{parsed-sound}
 use Rattle.lines.specs.inner.Known.{formOf}

@@ -46,17 +46,17 @@ use Rattle.values.specs.declared.worth.Worth as W
 use Rattle.values.specs.Worth.{Worth}
 use Rattle.values.specs.inner.Yielding.{meant}
 use Rattle.values.specs.inner.Working.{Worths, worths}
-use Rattle.coercions.specs.declared.settle.Judged.{Judged}
-use Rattle.coercions.specs.declared.settle.Verdict.{Verdict}
-use Rattle.coercions.specs.declared.settle.Taken.{Taken}
-use Rattle.coercions.specs.declared.settle.Taken.the-variants as K
-use Rattle.coercions.specs.Settling.{Settled, concluded, integerFrom}
-use Rattle.coercions.specs.inner.Contracts.{takenOf, judgedOf, verdictOf, integerOr, Takes}
-use Rattle.assignments.specs.Setting.{setOf}
-use Rattle.assignments.specs.inner.Contracts.{Rowed, Assigns}
-use Rattle.conditions.specs.Testing.{compared}
-use Rattle.conditions.specs.inner.Contracts.{JudgesZero}
-use Rattle.tables.specs.inner.Open.{opened, openOf, beginning, passing, AtMostOpen, Stays, beginFrom, endFrom, BeginsTable, EndsTable}
+use Rattle.commands.specs.declared.settle.Judged.{Judged}
+use Rattle.commands.specs.declared.settle.Verdict.{Verdict}
+use Rattle.commands.specs.declared.settle.Taken.{Taken}
+use Rattle.commands.specs.declared.settle.Taken.the-variants as K
+use Rattle.commands.specs.Settling.{Settled, concluded, integerFrom}
+use Rattle.commands.specs.inner.Taking.{takenOf, judgedOf, verdictOf, integerOr, Takes}
+use Rattle.commands.specs.Setting.{setOf}
+use Rattle.commands.specs.inner.Assigning.{Rowed, Assigns}
+use Rattle.commands.specs.Testing.{compared}
+use Rattle.commands.specs.inner.Judging.{JudgesZero}
+use Rattle.commands.specs.inner.Open.{opened, openOf, beginning, passing, AtMostOpen, Stays, beginFrom, endFrom, BeginsTable, EndsTable}
 use Rattle.control.specs.Selecting.{datasourceFrom, datasourceMeaning}
 use Rattle.control.specs.Fetching.{withRecords, withEntries, recordsMeaning, entriesMeaning}
 use Rattle.values.proofs.Clearing.{zeros-bank, zeros-behind, texts-cleared, fetched-cleared}

@@ -14,8 +14,8 @@ use Rattle.template.specs.Seek.{skipped}
 use Rattle.template.specs.Opening.{Opens, Checks}
 use Rattle.template.proofs.Opening.{opens-few, behind-section, behind-remark, behind-plain, behind-test, behind-else, behind-end-test, behind-table, behind-end-table}
 use Rattle.template.proofs.Jumps.{failed-test, executed-else, skipped-table, failed-goes, else-goes, table-goes}
-use Rattle.tables.specs.declared.table.Table as C
-use Rattle.tables.specs.Looping.{countedTo, innermost}
+use Rattle.commands.specs.declared.table.Table as C
+use Rattle.commands.specs.Looping.{countedTo, innermost}
 use Rattle.control.specs.inner.Sound.{Tabled, Nested}
 
 -- as many tables are open in the run as check 4 counts

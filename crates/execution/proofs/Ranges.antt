@@ -24,11 +24,11 @@ use Rattle.arguments.proofs.Parsed.{Between}
 use Rattle.values.specs.Machine.{Variables}
 use Rattle.values.proofs.Ranges.{IntegerWithin, DecimalWithin, Short, MachineWithin, VariablesWithin}
 use Rattle.template.specs.declared.seek.Sought.the-variants.{TableEnd}
-use Rattle.tables.specs.declared.table.Table.{Table}
-use Rattle.coercions.specs.Settling.{integerMeaning}
-use Rattle.assignments.specs.Setting.{setMeaning}
-use Rattle.conditions.specs.Testing.{zeroMeaning, testMeaning}
-use Rattle.tables.specs.Looping.{Looping, innermost, beginMeaning, endMeaning}
+use Rattle.commands.specs.declared.table.Table.{Table}
+use Rattle.commands.specs.Settling.{integerMeaning}
+use Rattle.commands.specs.Setting.{setMeaning}
+use Rattle.commands.specs.Testing.{zeroMeaning, testMeaning}
+use Rattle.commands.specs.Looping.{Looping, innermost, beginMeaning, endMeaning}
 use Rattle.control.specs.Fetching.{recordsMeaning, entriesMeaning}
 use Rattle.control.specs.Selecting.{datasourceMeaning}
 use Rattle.control.proofs.Giving as G

@@ -31,11 +31,11 @@ use Rattle.meaning.specs.Meaning.{Meaning}
 use Rattle.meaning.proofs.Keeping.{keeps-bind}
 use Rattle.values.specs.Machine.{Variables}
 use Rattle.values.proofs.Giving.{Gives, Anything, gives-keeps}
-use Rattle.tables.specs.declared.table.Table as C
-use Rattle.coercions.specs.Settling.{integerMeaning}
-use Rattle.assignments.specs.Setting.{setMeaning}
-use Rattle.conditions.specs.Testing.{zeroMeaning, testMeaning}
-use Rattle.tables.specs.Looping.{Looping, innermost, newTable, countedTo, beginMeaning, endMeaning}
+use Rattle.commands.specs.declared.table.Table as C
+use Rattle.commands.specs.Settling.{integerMeaning}
+use Rattle.commands.specs.Setting.{setMeaning}
+use Rattle.commands.specs.Testing.{zeroMeaning, testMeaning}
+use Rattle.commands.specs.Looping.{Looping, innermost, newTable, countedTo, beginMeaning, endMeaning}
 use Rattle.control.specs.Fetching.{recordsMeaning, entriesMeaning}
 use Rattle.control.specs.Selecting.{datasourceMeaning}
 use Rattle.control.proofs.Giving.{Shaped, numbered-length, set-gives, records-gives, entries-gives, integer-gives, zero-gives, test-gives, Begun, skipped, opened, Counting, ended, again, begin-gives, end-gives, Selectable, datasource-gives}

@@ -1,7 +1,8 @@
 // A line by its form and the values of its arguments.
-use assignments::set;
-use coercions::settle;
-use conditions::test;
+use commands::set;
+use commands::settle;
+use commands::table;
+use commands::test;
 use control::arms;
 use control::flow;
 use control::state::Flow;
@@ -10,7 +11,6 @@ use lines::command::Line;
 use meaning::count::Counts;
 use pages::heading::Heading;
 use pages::step;
-use tables::table;
 use values::fetch;
 use values::fetch::Along;
 use values::registers;

@@ -30,8 +30,8 @@ use Rattle.values.specs.Fetching.{element, fetchMeaning}
 use Rattle.values.specs.Meanings.{worthOf, operandMeaning, argumentMeaning}
 use Rattle.values.proofs.Answering.{cell-has, fetch-has}
 use Rattle.values.proofs.Ranges.{numbered-each}
-use Rattle.coercions.specs.Settling.{Settled, settled, against, andThen, concluded, stringFrom}
-use Rattle.assignments.specs.Setting.{stored, stringNew, integerNew, decimalNew, withStrings, setOf, setMeaning}
+use Rattle.commands.specs.Settling.{Settled, settled, against, andThen, concluded, stringFrom}
+use Rattle.commands.specs.Setting.{stored, stringNew, integerNew, decimalNew, withStrings, setOf, setMeaning}
 use Rattle.control.specs.Fetching.{recordsMeaning, entriesMeaning}
 use Rattle.control.proofs.Ranges as C
 use Rattle.output.specs.Printable.{Printable, Clean}

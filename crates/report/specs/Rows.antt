@@ -48,10 +48,10 @@ use Rattle.values.specs.Letters.{upper, alike}
 use Rattle.values.specs.Machine.{numbered, setNumbered}
 use Rattle.values.specs.Worth.{ranged, absolute, filteredNumber, filteredString, filtered, kindOf as valuesKindOf}
 use Rattle.values.specs.Meanings.{operandMeaning, argumentMeaning}
-use Rattle.tables.specs.Looping.{begun, beginMeaning, exceeds, counting, counted, endMeaning, loop}
-use Rattle.coercions.specs.Settling.{integerFrom, integerMeaning, resultOf, millionthsOf, quantityFrom, decimalFrom, stringFrom}
-use Rattle.assignments.specs.Setting.{decimalOutcome, newFrom, integerOutcome, stored, stringNew, setOf, setMeaning}
-use Rattle.conditions.specs.Testing.{isMissing, ofNumbers, ofStrings, compared, testMeaning, zeroTest, zeroJudged, zeroMeaning, judged}
+use Rattle.commands.specs.Looping.{begun, beginMeaning, exceeds, counting, counted, endMeaning, loop}
+use Rattle.commands.specs.Settling.{integerFrom, integerMeaning, resultOf, millionthsOf, quantityFrom, decimalFrom, stringFrom}
+use Rattle.commands.specs.Setting.{decimalOutcome, newFrom, integerOutcome, stored, stringNew, setOf, setMeaning}
+use Rattle.commands.specs.Testing.{isMissing, ofNumbers, ofStrings, compared, testMeaning, zeroTest, zeroJudged, zeroMeaning, judged}
 use Rattle.texts.specs.Pieces.{read, piecesOf}
 use Rattle.pages.specs.Text.{textMeaning}
 use Rattle.pages.specs.Shown.{orStars, placesIn, valueOf as pagesValueOf, fieldBytes}

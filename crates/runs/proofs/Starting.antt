@@ -6,7 +6,7 @@ use Rattle.template.specs.declared.Run.{Run}
 use Rattle.meaning.specs.Answer.{Answer}
 use Rattle.meaning.specs.declared.question.Question.{Question}
 use Rattle.values.specs.inner.State.{texts, wordsFrom, fetched, bank}
-use Rattle.tables.specs.inner.Open.{opened}
+use Rattle.commands.specs.inner.Open.{opened}
 use Rattle.pages.specs.inner.Packed.{headingIn}
 use Rattle.control.specs.inner.Held.{stateOf}
 use Rattle.runs.specs.Report.{startOf}

@@ -19,9 +19,9 @@ use Rattle.meaning.specs.declared.refusal.Refusal.the-variants.{BadIndex}
 use Rattle.meaning.specs.declared.end.Halt.{Halt}
 use Rattle.meaning.specs.declared.end.Halt.the-variants.{Refused}
 use Rattle.meaning.specs.declared.end.Ended.the-variants.{Finished, Halted}
-use Rattle.coercions.specs.declared.settle.Taken.{Taken}
-use Rattle.coercions.specs.declared.settle.Taken.the-variants as K
-use Rattle.coercions.specs.Settling.{Settled, settled, against}
+use Rattle.commands.specs.declared.settle.Taken.{Taken}
+use Rattle.commands.specs.declared.settle.Taken.the-variants as K
+use Rattle.commands.specs.Settling.{Settled, settled, against}
 use Rattle.values.specs.declared.fetch.Fetched.{Fetched}
 use Rattle.values.specs.inner.State.{bank, headingsIn, tablesIn}
 use Rattle.pages.specs.declared.heading.Heading.{Heading}

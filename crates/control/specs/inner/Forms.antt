@@ -12,11 +12,11 @@ use Rattle.meaning.specs.Meaning.{Meaning}
 use Rattle.values.specs.declared.working.Inputs.{Inputs}
 use Rattle.values.specs.declared.working.Inputs.the-variants.{None, One, Two}
 use Rattle.values.specs.inner.Working.{Worths}
-use Rattle.coercions.specs.Settling.{Settled, concluded, integerFrom}
-use Rattle.coercions.specs.inner.Contracts.{integerOr}
-use Rattle.assignments.specs.Setting.{setOf}
-use Rattle.conditions.specs.Testing.{zeroJudged, compared}
-use Rattle.tables.specs.inner.Open.{beginFrom, endFrom}
+use Rattle.commands.specs.Settling.{Settled, concluded, integerFrom}
+use Rattle.commands.specs.inner.Taking.{integerOr}
+use Rattle.commands.specs.Setting.{setOf}
+use Rattle.commands.specs.Testing.{zeroJudged, compared}
+use Rattle.commands.specs.inner.Open.{beginFrom, endFrom}
 use Rattle.control.specs.State.{State, withVariables}
 use Rattle.control.specs.Line.{branched, tableBegun, tableEnded, breakingFor, formMeaning}
 

@@ -8,8 +8,8 @@ use Rattle.meaning.specs.declared.end.Ended.{Ended}
 use Rattle.template.specs.declared.seek.Sought.{Sought}
 use Rattle.template.specs.Seek.{skipped}
 use Rattle.values.specs.declared.scene.Scene.{Scene}
-use Rattle.tables.specs.Looping.{loop, innermost}
-use Rattle.tables.specs.inner.Open.{opened}
+use Rattle.commands.specs.Looping.{loop, innermost}
+use Rattle.commands.specs.inner.Open.{opened}
 use Rattle.pages.specs.declared.page.Page.{Page}
 use Rattle.control.specs.declared.state.Flow.{Flow}
 use Rattle.control.specs.declared.state.Lined.{Lined}

@@ -2,7 +2,7 @@
 use Rattle.meaning.specs.Answer.{Answer}
 use Rattle.meaning.specs.declared.question.Question.{Question}
 use Rattle.values.specs.inner.State.{headingsIn, tablesIn, Held, variablesOf}
-use Rattle.tables.specs.inner.Open.{opened}
+use Rattle.commands.specs.inner.Open.{opened}
 use Rattle.pages.specs.inner.Packed.{headingsOf}
 use Rattle.control.specs.declared.state.Flow.{Flow}
 use Rattle.control.specs.State.{State}

@@ -9,7 +9,7 @@ use Rattle.texts.specs.readers.Text.{textFits}
 use Rattle.template.specs.Opening.{Opens, Checks}
 use Rattle.meaning.specs.Each.{Each}
 use Rattle.values.specs.Machine.{Variables}
-use Rattle.tables.specs.declared.table.Table.{Table}
+use Rattle.commands.specs.declared.table.Table.{Table}
 use Rattle.pages.specs.declared.heading.Heading.{Heading}
 use Rattle.pages.specs.Page.{headLine, headFrom}
 use Rattle.control.specs.State.{State}

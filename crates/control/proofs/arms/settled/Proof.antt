@@ -1,6 +1,6 @@
 -- Refused, or set.
 use Rattle.control.proofs.Following.{settles-refused, settles-on}
-use Rattle.coercions.specs.inner.Contracts.{verdictOf}
+use Rattle.commands.specs.inner.Taking.{verdictOf}
 use mathlib.Core.Path.{refl, ap}
 use borrow.Author.Needs.{needs}
 use Rattle.control.proofs.arms.settled.Statement.{statement}

@@ -3,7 +3,7 @@ use Rattle.control.proofs.flow.again.Statement.{statement}
 use Rattle.control.proofs.flow.again.Tie as tie
 use Rattle.control.proofs.flow.again.Reads as reads
 use Rattle.control.proofs.flow.again.Lts as lts
-use Rattle.tables.proofs.table.innermost.Reads as innermost-reads
+use Rattle.commands.proofs.table.innermost.Reads as innermost-reads
 use Rattle.control.proofs.flow.placed.Reads as placed-reads
 
 innermost-requires : tie.Need-innermost-requires

@@ -8,7 +8,7 @@ use Rattle.control.proofs.flow.scene_of.Statement.{statement}
 use Rattle.control.proofs.flow.scene_of.Tie as tie
 use Rattle.control.proofs.flow.scene_of.Reads as reads
 use Rattle.control.proofs.flow.scene_of.Lts as lts
-use Rattle.tables.proofs.table.turn_of.Reads as turn-of-reads
+use Rattle.commands.proofs.table.turn_of.Reads as turn-of-reads
 
 turn-of-requires : tie.Need-turn-of-requires
 turn-of-requires c κs = search needs

@@ -1,0 +1,5 @@
+pub mod Settles
+pub mod Sets
+pub mod Copying
+pub mod Tests
+pub mod Tabling

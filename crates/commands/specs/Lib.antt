@@ -1,0 +1,5 @@
+pub mod Settling
+pub mod inner
+pub mod Setting
+pub mod Testing
+pub mod Looping

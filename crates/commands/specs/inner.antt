@@ -1,0 +1,5 @@
+pub mod Taking
+pub mod Assigning
+pub mod Kinds
+pub mod Judging
+pub mod Open
