@@ -29,7 +29,7 @@ use Rattle.control.specs.Line.{lineMeaning}
 use Rattle.execution.proofs.Sounds.{On, line-keeps}
 use Rattle.execution.proofs.Ranges.{InRange, line-in-range}
 use Rattle.execution.proofs.Allowed.{line-asks}
-use Rattle.runs.specs.Report.{runFrom, startOf, runMeaning, Outcome, refusedWith, checkedOutcome, reportOf}
+use Rattle.report.specs.Report.{runFrom, startOf, runMeaning, Outcome, refusedWith, checkedOutcome, reportOf}
 use Rattle.report.proofs.Sounding.{start-on}
 use Rattle.report.proofs.Ranges.{start-in-range}
 

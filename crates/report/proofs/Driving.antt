@@ -21,19 +21,19 @@ use Rattle.meaning.proofs.Doing.{text-kept}
 use Rattle.meaning.proofs.Looping.{Leads, leads-start, leads-next}
 use Rattle.meaning.proofs.Moving.{asked-most, moved}
 use Rattle.values.specs.inner.Word.{unpacked, questions}
-use Rattle.runs.specs.declared.Report.{Report}
-use Rattle.runs.specs.declared.state.Saved.{Saved}
-use Rattle.runs.specs.declared.state.Stretch.{Stretch}
+use Rattle.report.specs.declared.Report.{Report}
+use Rattle.report.specs.declared.state.Saved.{Saved}
+use Rattle.report.specs.declared.state.Stretch.{Stretch}
 use Rattle.control.specs.State.{State}
-use Rattle.runs.specs.Report.{runFrom, startOf, runMeaning, ranTo, checkedOutcome, reportOf}
+use Rattle.report.specs.Report.{runFrom, startOf, runMeaning, ranTo, checkedOutcome, reportOf}
 use Rattle.report.specs.Reported.{HandsBack, Reported}
-use Rattle.runs.specs.inner.Begun.{Begun}
-use Rattle.runs.specs.inner.Stretch.{stretch, stateIn, storeOf, Standing, RunReady, fresh, Ran}
+use Rattle.report.specs.inner.Begun.{Begun}
+use Rattle.report.specs.inner.Stretch.{stretch, stateIn, storeOf, Standing, RunReady, fresh, Ran}
 use Rattle.control.specs.inner.Executing.{sourceOf, Kept}
-use Rattle.runs.proofs.Splitting.{run-split}
+use Rattle.report.proofs.Splitting.{run-split}
 use Rattle.template.proofs.Accepted.{accepted-runs}
 use Rattle.report.proofs.Sounding.{start-standing}
-use Rattle.runs.proofs.Stored.{part-held, part-answers}
+use Rattle.report.proofs.Stored.{part-held, part-answers}
 
 -- between two stretches: what the rest does from here, the whole does from the start
 pub record Going (t name b : List ℕ) (n : ℕ) (T₀ : List ℕ) (R₀ : List Question) (v : Saved) (rows : List (List ℕ)) (index T : List ℕ) (R : List Question) : Type 0 where

@@ -1,3 +1,11 @@
+pub mod Elem
+pub mod Walk
+pub mod Rows
+pub mod Starting
+pub mod Stored
+pub mod Beginning
+pub mod Splitting
+pub mod Stretching
 pub mod Loan
 pub mod Local
 pub mod Sounding

@@ -29,8 +29,8 @@ use Rattle.control.specs.Line.{lineMeaning}
 use Rattle.pages.proofs.Counting.{counting, counted}
 use Rattle.execution.proofs.Sounds.{On, line-keeps}
 use Rattle.execution.proofs.Counting.{Counted, line-counts}
-use Rattle.runs.specs.Report.{runFrom, startOf, runMeaning, Outcome, ranTo, refusedWith, checkedOutcome, reportOf}
-use Rattle.runs.specs.inner.Stretch.{stretch}
+use Rattle.report.specs.Report.{runFrom, startOf, runMeaning, Outcome, ranTo, refusedWith, checkedOutcome, reportOf}
+use Rattle.report.specs.inner.Stretch.{stretch}
 use Rattle.report.proofs.Sounding.{start-on}
 
 -- whatever is known at a run's end

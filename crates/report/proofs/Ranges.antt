@@ -26,8 +26,8 @@ use Rattle.control.specs.Line.{lineMeaning}
 use Rattle.control.specs.inner.Sound.{Sound}
 use Rattle.execution.proofs.Sounds.{On, line-keeps}
 use Rattle.execution.proofs.Ranges.{InRange, seen-within, range-cleared, line-in-range}
-use Rattle.runs.specs.Report.{startOf}
-use Rattle.runs.specs.inner.Stretch.{stretch}
+use Rattle.report.specs.Report.{startOf}
+use Rattle.report.specs.inner.Stretch.{stretch}
 use Rattle.report.proofs.Sounding.{start-on}
 use Rattle.pages.specs.inner.Listing.{linesDue}
 use Rattle.pages.proofs.Listing.{turned}

@@ -20,8 +20,8 @@ use Rattle.meaning.specs.Event.{joined}
 use Rattle.meaning.proofs.Doing.{filled}
 use Rattle.meaning.proofs.Runs.{asked-fits, text-fits}
 use Rattle.values.specs.Source.{answers}
-use Rattle.runs.specs.declared.Report.{Report}
-use Rattle.runs.specs.Report.{runMeaning, Outcome, textIn, refusedWith, ranTo, checkedOutcome, reportOf, reportIn}
+use Rattle.report.specs.declared.Report.{Report}
+use Rattle.report.specs.Report.{runMeaning, Outcome, textIn, refusedWith, ranTo, checkedOutcome, reportOf, reportIn}
 use Rattle.report.specs.Reported.{HandsBack, Reported}
 
 -- the report on a store

@@ -12,8 +12,8 @@ use Rattle.pages.specs.Heading.{noHeading}
 use Rattle.control.specs.inner.Sound.{Fit}
 use Rattle.execution.proofs.Places.{none-open}
 use Rattle.execution.proofs.Sounds.{On, each-same, blank-heading, full-none}
-use Rattle.runs.specs.Report.{startOf}
-use Rattle.runs.specs.inner.Stretch.{Standing}
+use Rattle.report.specs.Report.{startOf}
+use Rattle.report.specs.inner.Stretch.{Standing}
 
 -- The run of an accepted template starts so, on an empty page.
 pub start-on : (t name : List ℕ) (r : Run) → templateChecked t name ≡ Accepted r → On t 1 (startOf r) 0

@@ -1,2 +1,4 @@
+pub mod Report
+pub mod inner
 pub mod Reported
 pub mod Rows

@@ -5,8 +5,8 @@ use Prim.Native.Nat.{ℕ}
 use lib.ListN.{length}
 use lib.Seq.{sets}
 use Rattle.meaning.specs.declared.question.Question.{Question}
-use Rattle.runs.specs.declared.Report.{Report}
-use Rattle.runs.specs.Report.{Outcome, textIn, reportOf, reportIn}
+use Rattle.report.specs.declared.Report.{Report}
+use Rattle.report.specs.Report.{Outcome, textIn, reportOf, reportIn}
 
 -- a report hands back what o says, and both buffers whole: "the rest of each buffer is untouched"
 pub record HandsBack (o : Outcome) (T : List ℕ) (R : List Question) (T′ : List ℕ) (R′ : List Question) (r : Report) : Type 0 where

@@ -57,8 +57,8 @@ use Rattle.pages.specs.Text.{textMeaning}
 use Rattle.pages.specs.Shown.{orStars, placesIn, valueOf as pagesValueOf, fieldBytes}
 use Rattle.pages.specs.Page.{sayMeaning, highestOf as pagesHighestOf, topMeaning, breakMeaning, turnMeaning, lineStep}
 use Rattle.control.specs.Line.{breaking, breakingFor, newPageMeaning, tableBegun, tableEnded as executionTableEnded, branched, formMeaning, lineMeaning}
-use Rattle.runs.specs.Report.{runFrom as reportRunFrom, checkedOutcome, reportOf, Outcome, textIn, reportIn}
-use Rattle.runs.specs.declared.Report.{Report}
+use Rattle.report.specs.Report.{runFrom as reportRunFrom, checkedOutcome, reportOf, Outcome, textIn, reportIn}
+use Rattle.report.specs.declared.Report.{Report}
 
 -- what a report hands back, and its text
 pub record Sheet : Type 0 where

@@ -1,9 +1,9 @@
 // The whole: a stretch of lines, its questions on the read list, and the next.
+use crate::Report;
+use crate::reads;
+use crate::start;
+use crate::stretch;
 use meaning::question::Question;
-use runs::Report;
-use runs::reads;
-use runs::start;
-use runs::stretch;
 ghost use Rattle.report.specs.Reported.{Reported};
 
 // The report of a template on a store: the text and the questions asked, each from its buffer's start, and how it ended.

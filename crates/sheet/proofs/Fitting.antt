@@ -6,8 +6,8 @@ use native.Mathlib.Omega.{arith}
 use lib.ListN.{length}
 use lib.Seq.{sets, length-sets, length-take-le}
 use Rattle.meaning.specs.declared.question.Question.{Question}
-use Rattle.runs.specs.declared.Report.{Report}
-use Rattle.runs.specs.Report.{Outcome, textIn, reportOf, reportIn}
+use Rattle.report.specs.declared.Report.{Report}
+use Rattle.report.specs.Report.{Outcome, textIn, reportOf, reportIn}
 use Rattle.report.specs.Reported.{Reported}
 use Rattle.report.proofs.Reprint.{report-fits}
 use Rattle.sheet.specs.Sheet.{sheetOf, Sheet}

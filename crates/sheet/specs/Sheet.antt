@@ -3,8 +3,8 @@ use mathlib.Core.Path.{_≡_}
 use mathlib.Core.List.{List}
 use Prim.Native.Nat.{ℕ}
 use lib.Seq.{sets}
-use Rattle.runs.specs.declared.Report.{Report}
-use Rattle.runs.specs.Report.{Outcome, textIn, reportOf, reportIn}
+use Rattle.report.specs.declared.Report.{Report}
+use Rattle.report.specs.Report.{Outcome, textIn, reportOf, reportIn}
 
 -- "Its text buffer has 65,536 bytes, its read list 4,096 places."
 abbrev pub sheetOf : List ℕ → List ℕ → List ℕ → ℕ → Outcome

@@ -4,7 +4,7 @@ mod file; // file.rt: what is read
 mod printing; // printing.rt: the report
 
 use libc::STDOUT_FILENO;
-use runs::Report;
+use report::Report;
 
 // The closing line.
 fn close(made: Report) {

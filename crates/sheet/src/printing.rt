@@ -1,7 +1,7 @@
 // The report, with a read list of its own.
 use meaning::question::Question;
+use report::Report;
 use report::reporting;
-use runs::Report;
 ghost use mathlib.Core.Path.{_≡_};
 ghost use lib.ListN.{length};
 ghost use Rattle.sheet.specs.Sheet.{Sheet};

@@ -1,7 +1,7 @@
 // A report.
 use meaning::question::Question;
+use report::Report;
 use report::reporting;
-use runs::Report;
 ghost use mathlib.Core.Path.{_≡_};
 ghost use Rattle.report.specs.Reported.{Reported};
 ghost use Rattle.station.specs.Reports.{reportFrom};

@@ -4,8 +4,8 @@ use mathlib.Core.List.{List}
 use Prim.Native.Nat.{ℕ, _≤_}
 use lib.ListN.{length, take}
 use lib.Seq.{sets}
-use Rattle.runs.specs.declared.Report.{Report}
-use Rattle.runs.specs.Report.{textIn, reportOf, reportIn}
+use Rattle.report.specs.declared.Report.{Report}
+use Rattle.report.specs.Report.{textIn, reportOf, reportIn}
 
 -- the text fits the buffer, so that a part of it can be written out
 pub record Fits (T′ : List ℕ) (r : Report) : Type 0 where

@@ -50,35 +50,35 @@ use denote.Triple.Walked.{says, Stays, stay-slice, stay-none, stay-none-slice, w
 use denote.Exit.{yes}
 use Rattle.meaning.specs.declared.question.Question.{Question}
 use Rattle.values.specs.inner.Word.{questions}
-use Rattle.runs.specs.declared.Report.{Report}
-use Rattle.runs.specs.declared.state.Log.{Log}
-use Rattle.runs.specs.declared.state.Stretch.{Stretch}
+use Rattle.report.specs.declared.Report.{Report}
+use Rattle.report.specs.declared.state.Log.{Log}
+use Rattle.report.specs.declared.state.Stretch.{Stretch}
 use Rattle.report.specs.Reported.{Reported}
-use Rattle.runs.specs.inner.Begun.{Begun}
-use Rattle.runs.specs.inner.Stretch.{RunReady, Ran}
+use Rattle.report.specs.inner.Begun.{Begun}
+use Rattle.report.specs.inner.Stretch.{RunReady, Ran}
 use Rattle.report.proofs.Loan.{Slice, Kept, lent, back}
 use Rattle.report.proofs.Local.{arrayTy, is-repeat, lends-local, local-back}
-use Rattle.runs.proofs.Walk.{tests}
+use Rattle.report.proofs.Walk.{tests}
 use Rattle.report.proofs.Driving.{Reached, leftOf, begins, run-ready, log-fits, falls, goes-on, ended}
 use Rattle.meaning.proofs.question.Question as Q
-use Rattle.runs.proofs.state.Log as L
-use Rattle.runs.proofs.state.Log.Laws as L′
-use Rattle.runs.proofs.state.Stretch as S
-use Rattle.runs.proofs.state.Stretch.Laws as S′
-use Rattle.runs.proofs.Report as O
-use Rattle.runs.proofs.Report.Laws as O′
-use Rattle.runs.proofs.start.begin as begin
-use Rattle.runs.proofs.start.begin.Symbol as begin-def
-use Rattle.runs.proofs.start.begin.Symbol.{name as #begin}
-use Rattle.runs.proofs.start.begin.Met as begin-thm
-use Rattle.runs.proofs.stretch.run as run-fn
-use Rattle.runs.proofs.stretch.run.Symbol as run-def
-use Rattle.runs.proofs.stretch.run.Symbol.{name as #run}
-use Rattle.runs.proofs.stretch.run.Met as run-thm
-use Rattle.runs.proofs.reads.append as append
-use Rattle.runs.proofs.reads.append.Symbol as append-def
-use Rattle.runs.proofs.reads.append.Symbol.{name as #append}
-use Rattle.runs.proofs.reads.append.Met as append-thm
+use Rattle.report.proofs.state.Log as L
+use Rattle.report.proofs.state.Log.Laws as L′
+use Rattle.report.proofs.state.Stretch as S
+use Rattle.report.proofs.state.Stretch.Laws as S′
+use Rattle.report.proofs.Report as O
+use Rattle.report.proofs.Report.Laws as O′
+use Rattle.report.proofs.start.begin as begin
+use Rattle.report.proofs.start.begin.Symbol as begin-def
+use Rattle.report.proofs.start.begin.Symbol.{name as #begin}
+use Rattle.report.proofs.start.begin.Met as begin-thm
+use Rattle.report.proofs.stretch.run as run-fn
+use Rattle.report.proofs.stretch.run.Symbol as run-def
+use Rattle.report.proofs.stretch.run.Symbol.{name as #run}
+use Rattle.report.proofs.stretch.run.Met as run-thm
+use Rattle.report.proofs.reads.append as append
+use Rattle.report.proofs.reads.append.Symbol as append-def
+use Rattle.report.proofs.reads.append.Symbol.{name as #append}
+use Rattle.report.proofs.reads.append.Met as append-thm
 use Rattle.report.proofs.reporting.report.Key.{name as #report}
 use Rattle.report.proofs.reporting.report as f
 use Rattle.report.proofs.reporting.report.Statement as stated
@@ -581,6 +581,6 @@ report-spec 𝓤 H 𝓜 𝓖 𝓡 =
     entered 𝓤 H (tripleOf 𝓤 H (𝓖 .A) f.signature (f.spec 𝓤 H (𝓖 .A) (𝓜 .mem) (𝓡 .run)))
     (tables 𝓤 H 𝓜 𝓡 code.env .C) (tables 𝓤 H 𝓜 𝓡 code.env .Λ) #report code.function (code.unfolded 𝓤 H 𝓜 𝓡)
     (report-meets 𝓤 H (𝓖 .A) (givenOf 𝓤 H 𝓜 𝓖) (𝓜 .mem) (𝓡 .run) (tablesOf 𝓤 H 𝓜 (tables 𝓤 H 𝓜 𝓡 code.env))
-    (cited 𝓤 H (Begin 𝓤 H (𝓖 .A) (givenOf 𝓤 H 𝓜 𝓖) (𝓜 .mem) (𝓡 .run)) 𝓜 𝓡 code.env #begin begin-def.routine code.calls-runs·start·begin (begin-thm.met 𝓤 H 𝓜 𝓖 𝓡))
-    (cited 𝓤 H (Run 𝓤 H (𝓖 .A) (givenOf 𝓤 H 𝓜 𝓖) (𝓜 .mem) (𝓡 .run)) 𝓜 𝓡 code.env #run run-def.routine code.calls-runs·stretch·run (run-thm.met 𝓤 H 𝓜 𝓖 𝓡))
-    (cited 𝓤 H (Append 𝓤 H (𝓖 .A) (givenOf 𝓤 H 𝓜 𝓖) (𝓜 .mem) (𝓡 .run)) 𝓜 𝓡 code.env #append append-def.routine code.calls-runs·reads·append (append-thm.met 𝓤 H 𝓜 𝓖 𝓡)))
+    (cited 𝓤 H (Begin 𝓤 H (𝓖 .A) (givenOf 𝓤 H 𝓜 𝓖) (𝓜 .mem) (𝓡 .run)) 𝓜 𝓡 code.env #begin begin-def.routine code.calls-report·start·begin (begin-thm.met 𝓤 H 𝓜 𝓖 𝓡))
+    (cited 𝓤 H (Run 𝓤 H (𝓖 .A) (givenOf 𝓤 H 𝓜 𝓖) (𝓜 .mem) (𝓡 .run)) 𝓜 𝓡 code.env #run run-def.routine code.calls-report·stretch·run (run-thm.met 𝓤 H 𝓜 𝓖 𝓡))
+    (cited 𝓤 H (Append 𝓤 H (𝓖 .A) (givenOf 𝓤 H 𝓜 𝓖) (𝓜 .mem) (𝓡 .run)) 𝓜 𝓡 code.env #append append-def.routine code.calls-report·reads·append (append-thm.met 𝓤 H 𝓜 𝓖 𝓡)))

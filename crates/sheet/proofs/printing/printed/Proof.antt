@@ -42,7 +42,7 @@ use denote.Triple.Table.{entered, cited}
 use denote.Triple.Walked.{says, Stays, stay-dropped, gave-slice, walkOf, goes-dropped, goes-gave-slice, Walks, ends-at, walked, walk-meets}
 use denote.Exit.{yes}
 use Rattle.meaning.specs.declared.question.Question.{Question}
-use Rattle.runs.specs.declared.Report.{Report}
+use Rattle.report.specs.declared.Report.{Report}
 use Rattle.report.specs.Reported.{Reported}
 use Rattle.sheet.specs.inner.Printed.{Printed}
 use Rattle.report.proofs.Local.{arrayTy, is-repeat}
@@ -50,8 +50,8 @@ use Rattle.sheet.proofs.Row.{lends-row, row-back, literal}
 use Rattle.sheet.proofs.Fitting.{printed-of}
 use Rattle.meaning.proofs.question.Question as Q
 use Rattle.meaning.proofs.question.Question.Laws as Q′
-use Rattle.runs.proofs.Report as O
-use Rattle.runs.proofs.Report.Laws as O′
+use Rattle.report.proofs.Report as O
+use Rattle.report.proofs.Report.Laws as O′
 use Rattle.report.proofs.reporting.report as report
 use Rattle.report.proofs.reporting.report.Symbol as report-def
 use Rattle.report.proofs.reporting.report.Symbol.{name as #report}

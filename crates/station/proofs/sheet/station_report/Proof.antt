@@ -39,12 +39,12 @@ use denote.Triple.Table.{entered, cited}
 use denote.Triple.Walked.{says, Stays, stay-dropped, gave-slice, gave-ref, walkOf, goes-dropped, goes-gave-slice, goes-gave-ref, Walks, ends-at, walked, walk-meets}
 use denote.Exit.{yes}
 use Rattle.meaning.specs.declared.question.Question.{Question}
-use Rattle.runs.specs.declared.Report.{Report}
+use Rattle.report.specs.declared.Report.{Report}
 use Rattle.report.specs.Reported.{Reported}
 use Rattle.station.specs.Reports.{reportFrom}
 use Rattle.meaning.proofs.question.Question as Q
-use Rattle.runs.proofs.Report as O
-use Rattle.runs.proofs.Report.Laws as O′
+use Rattle.report.proofs.Report as O
+use Rattle.report.proofs.Report.Laws as O′
 use Rattle.report.proofs.reporting.report as report
 use Rattle.report.proofs.reporting.report.Symbol as report-def
 use Rattle.report.proofs.reporting.report.Symbol.{name as #report}
