@@ -1,4 +1,4 @@
-//! The second interpreter's parsed lines as the rows of crates/codes.
+//! The second interpreter's parsed lines as the rows of crates/form_codes.
 
 use crate::line::Row;
 use second::arguments::{Argument, Array, Filter, Index, Source, Variable};

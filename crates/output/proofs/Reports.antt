@@ -52,7 +52,7 @@ use Rattle.pages.specs.Heading.{noHeading}
 use Rattle.pages.specs.Page.{headLine, breakMeaning, lineStep}
 use Rattle.control.specs.State.{State, seen, withPosition, withVariables, withDatasource, withTables, withPage, noVariables}
 use Rattle.control.specs.Line.{past, jumped, setting, branched, testing, tableBegun, tableEnded, breaking, breakingFor, newPageMeaning, headed, formMeaning, lineMeaning}
-use Rattle.execution.proofs.Sounds.{each-same}
+use Rattle.executed_line.proofs.Sounds.{each-same}
 use Rattle.report.specs.Report.{runFrom, startOf, runMeaning, Outcome, refusedWith, checkedOutcome, reportOf}
 use Rattle.output.specs.Printable.{Clean, Proper}
 use Rattle.output.proofs.Bytes.{Permitted, bytes-permitted, line-clean}

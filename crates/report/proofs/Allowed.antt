@@ -26,9 +26,9 @@ use Rattle.values.proofs.Ranges.{answers-within}
 use Rattle.values.proofs.Allowed.{Allowed, AsksAllowed}
 use Rattle.control.specs.State.{State}
 use Rattle.control.specs.Line.{lineMeaning}
-use Rattle.execution.proofs.Sounds.{On, line-keeps}
-use Rattle.execution.proofs.Ranges.{InRange, line-in-range}
-use Rattle.execution.proofs.Allowed.{line-asks}
+use Rattle.executed_line.proofs.Sounds.{On, line-keeps}
+use Rattle.executed_line.proofs.Ranges.{InRange, line-in-range}
+use Rattle.executed_line.proofs.Allowed.{line-asks}
 use Rattle.report.specs.Report.{runFrom, startOf, runMeaning, Outcome, refusedWith, checkedOutcome, reportOf}
 use Rattle.report.proofs.Sounding.{start-on}
 use Rattle.report.proofs.Ranges.{start-in-range}

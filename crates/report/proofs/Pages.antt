@@ -27,8 +27,8 @@ use Rattle.values.specs.Source.{answers}
 use Rattle.control.specs.State.{State}
 use Rattle.control.specs.Line.{lineMeaning}
 use Rattle.pages.proofs.Counting.{counting, counted}
-use Rattle.execution.proofs.Sounds.{On, line-keeps}
-use Rattle.execution.proofs.Counting.{Counted, line-counts}
+use Rattle.executed_line.proofs.Sounds.{On, line-keeps}
+use Rattle.executed_line.proofs.Counting.{Counted, line-counts}
 use Rattle.report.specs.Report.{runFrom, startOf, runMeaning, Outcome, ranTo, refusedWith, checkedOutcome, reportOf}
 use Rattle.report.specs.inner.Stretch.{stretch}
 use Rattle.report.proofs.Sounding.{start-on}

@@ -24,8 +24,8 @@ use Rattle.values.proofs.Ranges.{MachineWithin, answers-within}
 use Rattle.control.specs.State.{State, seen}
 use Rattle.control.specs.Line.{lineMeaning}
 use Rattle.control.specs.inner.Sound.{Sound}
-use Rattle.execution.proofs.Sounds.{On, line-keeps}
-use Rattle.execution.proofs.Ranges.{InRange, seen-within, range-cleared, line-in-range}
+use Rattle.executed_line.proofs.Sounds.{On, line-keeps}
+use Rattle.executed_line.proofs.Ranges.{InRange, seen-within, range-cleared, line-in-range}
 use Rattle.report.specs.Report.{startOf}
 use Rattle.report.specs.inner.Stretch.{stretch}
 use Rattle.report.proofs.Sounding.{start-on}

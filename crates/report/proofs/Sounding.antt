@@ -10,8 +10,8 @@ use Rattle.template.specs.Order.{templateChecked}
 use Rattle.template.proofs.Accepted.{accepted-runs}
 use Rattle.pages.specs.Heading.{noHeading}
 use Rattle.control.specs.inner.Sound.{Fit}
-use Rattle.execution.proofs.Places.{none-open}
-use Rattle.execution.proofs.Sounds.{On, each-same, blank-heading, full-none}
+use Rattle.executed_line.proofs.Places.{none-open}
+use Rattle.executed_line.proofs.Sounds.{On, each-same, blank-heading, full-none}
 use Rattle.report.specs.Report.{startOf}
 use Rattle.report.specs.inner.Stretch.{Standing}
 

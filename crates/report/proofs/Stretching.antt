@@ -32,7 +32,7 @@ use Rattle.control.specs.declared.state.Lined.{Lined}
 use Rattle.control.specs.State.{State}
 use Rattle.control.specs.Line.{lineMeaning}
 use Rattle.control.specs.inner.Executing.{sourceOf, Kept, stateAt, LineReady, Executes}
-use Rattle.execution.proofs.Sounds.{On, sound-more, line-keeps}
+use Rattle.executed_line.proofs.Sounds.{On, sound-more, line-keeps}
 use Rattle.report.specs.declared.state.Saved.{Saved}
 use Rattle.report.specs.declared.state.Stretch.{Stretch}
 use Rattle.report.specs.Report.{runFrom}

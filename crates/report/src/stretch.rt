@@ -2,7 +2,7 @@
 use crate::ends;
 use crate::state::Saved;
 use crate::state::Stretch;
-use execution::line;
+use executed_line::line;
 use meaning::count::Counts;
 use meaning::end::Ended;
 use meaning::end::Halt;

@@ -14,7 +14,7 @@ sectionWord = ascii "$SEC "
 
 -- "`$SEC name`", "Names are compared by their first eight characters". Empty where the line isn't $SEC. Of the lines that
 -- check 3 lets through, just those that begin with `$SEC ` are sections, and nothing stands behind the name
--- (shapes/proofs/NameForm)
+-- (proofs/NameForm)
 unfoldable pub nameOf : List ℕ → List ℕ
 nameOf l = cond (begins sectionWord l) (window l 5 8) []
 
