@@ -1,6 +1,5 @@
 // One line of a run.
 //
-// line::line          the line that is due: what it asks, prints and sets, and where the run goes on
-// execute::execute    a line by its form and the values of its arguments
-pub mod execute; // execute.rt: the forms
+// line::line   the line that is due: what it asks, prints and sets, and where the run goes on
+mod execute; // execute.rt: the forms
 pub mod line; // line.rt: the line

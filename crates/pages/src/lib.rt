@@ -1,11 +1,9 @@
 // Text lines on pages: each field's value in its bytes, the line printed whole or not at all, with the break and the headings before it.
 //
-// text::text_line     a line with its fields
-// field::put_field    a value in the bytes of its field
-// page::Page          PAGENUM and LINENUM
-// page::break_page    a break
-// heading::packed     a heading as one number
-// step::step          a text line with the break and the headings before it
+// page::Page         PAGENUM and LINENUM
+// page::break_page   a break
+// heading::packed    a heading as one number
+// step::step         a text line with the break and the headings before it
 
 mod field; // field.rt: a value in the bytes of its field
 mod text; // text.rt: a line, made in one pass

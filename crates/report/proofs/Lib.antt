@@ -1,6 +1,6 @@
 pub mod Elem
 pub mod Walk
-pub mod Rows
+pub mod Appending
 pub mod Starting
 pub mod Stored
 pub mod Beginning

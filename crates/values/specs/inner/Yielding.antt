@@ -34,7 +34,7 @@ meant s W.Wrong = wrong
 meant s (W.Number q) = number q
 meant s (W.Text t) = string (textOf s t)
 
--- The same as `Hears` of crates/questions, for what an argument is worth; t may speak of answers of the store that were fetched before.
+-- The same as `Hears` of Hearing, for what an argument is worth; t may speak of answers of the store that were fetched before.
 pub record Yields (s : Strings) (index : List ℕ) (t : (Question → Answer) → Meaning Worth) (log : List ℕ) (a p : ℕ) (log′ : List ℕ) (r : Valued) : Type 0 where
   pub does : (n : ℕ) (cs : List Cell) → Ready (s .store) n index (length index) cs → (text : List ℕ) (m g : ℕ) → Does (answers (s .store) n) (t (answers (s .store) n)) (at text m (questions log) a p g) (at text m (questions log′) (r .asked) p g) (endOf (meant s (r .worth)) (r .end))
   pub few : r .asked ≤ a + 1

@@ -50,7 +50,7 @@ use denote.Exit.{yes}
 use Rattle.values.specs.inner.Word.{unpacked, questions}
 use Rattle.meaning.specs.declared.question.Question.{Question}
 use Rattle.report.specs.declared.state.Log.{Log}
-use Rattle.report.proofs.Rows.{Added, none, more, all, near, placed, fits-next, small-place, word-fits}
+use Rattle.report.proofs.Appending.{Added, none, more, all, near, placed, fits-next, small-place, word-fits}
 use Rattle.report.proofs.Elem.{elem}
 use Rattle.report.proofs.Walk.{tests}
 use Rattle.meaning.proofs.question.Question as Q
