@@ -8,7 +8,7 @@ use lib.Seq.{take-all}
 use Rattle.scan.specs.declared.run.Class.the-variants.{InLine}
 use Rattle.scan.specs.Line.{lineOf, lineAt}
 use Rattle.scan.proofs.RunLaws.{take-span}
-use Rattle.template.specs.declared.nesting.Shape.the-variants.{Table}
+use Rattle.nesting.specs.declared.Shape.the-variants.{Table}
 use Rattle.arguments.specs.declared.argument.Argument.{Argument}
 use Rattle.lines.specs.declared.command.Line.{Line}
 use Rattle.lines.specs.declared.command.Line.the-variants.{BeginTable}
@@ -38,7 +38,7 @@ use Rattle.meaning.specs.Place.{at, Does}
 use Rattle.meaning.specs.Number.{endOf}
 use Rattle.meaning.specs.declared.end.Halt.{Halt}
 use Rattle.meaning.specs.declared.end.Ended.the-variants.{Finished, Halted}
-use Rattle.values.specs.inner.Texts.{Strings, strings, Sized}
+use Rattle.strings.specs.inner.Texts.{Strings, strings, Sized}
 use Rattle.values.specs.inner.Word.{questions}
 use Rattle.values.specs.declared.working.Inputs.{Inputs}
 use Rattle.values.specs.declared.working.Operands.{Operands}

@@ -6,8 +6,8 @@ use Prim.Native.Nat.{ℕ, suc, _+_, _≤_, _<_}
 use native.Mathlib.Omega.{arith}
 use lib.ListN.{length, drop}
 use Rattle.scan.specs.Line.{lineAt}
-use Rattle.template.specs.declared.nesting.Shape.the-variants.{Section, Remark, Test, Else, EndTest, Table, EndTable, Plain}
-use Rattle.template.specs.Nest.{Mark, section, test, other, table, tables}
+use Rattle.nesting.specs.declared.Shape.the-variants.{Section, Remark, Test, Else, EndTest, Table, EndTable, Plain}
+use Rattle.nesting.specs.Nest.{Mark, section, test, other, table, tables}
 use Rattle.template.specs.declared.seek.Sought.the-variants.{Branch, TestEnd, TableEnd}
 use Rattle.template.specs.Shape.{shapeOf}
 use Rattle.template.specs.Seek.{skipped}

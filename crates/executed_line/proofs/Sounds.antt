@@ -12,8 +12,8 @@ use lib.ListN.{length, drop, replicate, length-replicate}
 use Rattle.scan.specs.declared.run.Class.the-variants.{InLine}
 use Rattle.scan.specs.Line.{lineAt}
 use Rattle.scan.proofs.RunLaws.{take-span}
-use Rattle.template.specs.declared.nesting.Shape.{Shape}
-use Rattle.template.specs.declared.nesting.Shape.the-variants.{Section, Remark, Test, Else, EndTest, Table, EndTable, Plain}
+use Rattle.nesting.specs.declared.Shape.{Shape}
+use Rattle.nesting.specs.declared.Shape.the-variants.{Section, Remark, Test, Else, EndTest, Table, EndTable, Plain}
 use Rattle.lines.specs.declared.command.Optional.{Optional}
 use Rattle.lines.specs.declared.command.Optional.the-variants.{Given, Absent}
 use Rattle.lines.specs.declared.command.Line.{Line}

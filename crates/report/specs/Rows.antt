@@ -30,7 +30,7 @@ use Rattle.lines.specs.readers.Compare.{compareAt}
 use Rattle.lines.specs.readers.Set.{stringTarget, targetOf, setAt}
 use Rattle.lines.specs.readers.Title.{nameAt, sectionAt}
 use Rattle.lines.specs.readers.Command.{commands, parseLine}
-use Rattle.template.specs.Nest.{allClosed, inSection, sectionBegun, tableEnded as nestingTableEnded, tables, testEnded, testTurned, tests, behind}
+use Rattle.nesting.specs.Nest.{allClosed, inSection, sectionBegun, tableEnded as nestingTableEnded, tables, testEnded, testTurned, tests, behind}
 use Rattle.template.specs.Name.{nameOf}
 use Rattle.cells.specs.Store.{above, rising, ordered, before as cellsBefore, cellRun as cellsRun, cells, held, isHeld}
 use Rattle.meaning.specs.Event.{breaks, joined}
@@ -44,7 +44,7 @@ use Rattle.template.specs.Walk.{orElse, walk}
 use Rattle.template.specs.Order.{acceptedRun, sectionChecked, unlessFault, namesChecked, nestingChecked, formsChecked, templateChecked}
 use Rattle.template.specs.Sections.{endAt, selects, sectionFrom, sectionEnd, runFrom as templateRunFrom, selected}
 use Rattle.template.specs.Rows.{lines}
-use Rattle.values.specs.Letters.{upper, alike}
+use Rattle.strings.specs.Letters.{upper, alike}
 use Rattle.values.specs.Machine.{numbered, setNumbered}
 use Rattle.values.specs.Worth.{ranged, absolute, filteredNumber, filteredString, filtered, kindOf as valuesKindOf}
 use Rattle.values.specs.Meanings.{operandMeaning, argumentMeaning}

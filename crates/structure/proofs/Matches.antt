@@ -9,7 +9,7 @@ use borrow.Author.Tests.{le-ltb, ltb-true, ltb-false}
 use lib.Dec.{ltb}
 use lib.ListN.{length, drop, length-drop}
 use Rattle.scan.specs.Line.{lineAt, nextLine}
-use Rattle.template.specs.Nest.{Mark, test, other}
+use Rattle.nesting.specs.Nest.{Mark, test, other}
 use Rattle.template.specs.declared.seek.Sought.{Sought}
 use Rattle.template.specs.declared.seek.Sought.the-variants.{Branch, TestEnd, TableEnd}
 use Rattle.template.specs.declared.seek.Way.{Way}

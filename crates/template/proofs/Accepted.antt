@@ -16,8 +16,8 @@ use Rattle.meaning.specs.declared.refusal.Refusal.{Refusal}
 use Rattle.meaning.specs.declared.refusal.Refusal.the-variants.{BadTemplate, BadLine, BadNesting, RepeatedSection}
 use Rattle.meaning.specs.Number.{refusalNumber}
 use Rattle.template.specs.Name.{sectionWord, nameOf}
-use Rattle.template.specs.declared.nesting.Shape.the-variants.{Section}
-use Rattle.template.specs.Nest.{Mark, tables}
+use Rattle.nesting.specs.declared.Shape.the-variants.{Section}
+use Rattle.nesting.specs.Nest.{Mark, tables}
 use Rattle.template.specs.declared.Verdict.{Verdict}
 use Rattle.template.specs.declared.Verdict.the-variants.{Fine, Fault}
 use Rattle.template.specs.declared.Run.{Run}

@@ -10,8 +10,8 @@ use borrow.Author.Tests.{leb-true, leb-false, ltb-true, le-ltb}
 use lib.Dec.{leb, ltb}
 use lib.ListN.{length, take, drop, length-drop}
 use Rattle.scan.specs.Line.{lineAt, nextLine}
-use Rattle.template.specs.declared.nesting.Shape.the-variants.{Section}
-use Rattle.template.specs.Nest.{Mark, test, other, table}
+use Rattle.nesting.specs.declared.Shape.the-variants.{Section}
+use Rattle.nesting.specs.Nest.{Mark, test, other, table}
 use Rattle.template.specs.declared.seek.Sought.{Sought}
 use Rattle.template.specs.declared.seek.Sought.the-variants.{Branch, TestEnd, TableEnd}
 use Rattle.template.specs.declared.seek.Way.{Way}

@@ -1,4 +1,3 @@
-pub mod OpenLaws
 pub mod SectionNames
 pub mod LineLaws
 pub mod SeekLaws

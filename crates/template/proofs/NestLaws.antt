@@ -8,15 +8,15 @@ use lib.ListN.{length, drop}
 use Rattle.scan.specs.Line.{lineAt}
 use Rattle.template.specs.declared.Verdict.{Verdict}
 use Rattle.template.specs.declared.Verdict.the-variants.{Fine, Fault}
-use Rattle.template.specs.declared.nesting.Shape.{Shape}
-use Rattle.template.specs.declared.nesting.Open.{Open}
-use Rattle.template.specs.declared.nesting.Step.{Step}
-use Rattle.template.specs.declared.nesting.Step.the-variants.{Went, Wrong}
+use Rattle.nesting.specs.declared.Shape.{Shape}
+use Rattle.nesting.specs.declared.Open.{Open}
+use Rattle.nesting.specs.declared.Step.{Step}
+use Rattle.nesting.specs.declared.Step.the-variants.{Went, Wrong}
 use Rattle.template.specs.Lines.{linesOf}
 use Rattle.template.specs.Walk.{walk}
 use Rattle.template.specs.Shape.{shapeOf}
-use Rattle.template.specs.Nest.{Mark, tests, tables, behind}
-use Rattle.template.specs.inner.Open.{code, HoldsOpen, Follows, Steps, Ends}
+use Rattle.nesting.specs.Nest.{Mark, tests, tables, behind}
+use Rattle.nesting.specs.inner.Open.{code, HoldsOpen, Follows, Steps, Ends}
 use Rattle.template.specs.Checks.{nestStep, nestEnd, nestCheck}
 use Rattle.template.proofs.WalkLaws.{walk-end, walk-here, walk-later}
 

@@ -12,8 +12,8 @@ use lib.ListN.{length, drop}
 use Rattle.scan.specs.Line.{allAllowed, lineAt, nextLine}
 use Rattle.lines.specs.declared.command.Line.the-variants as form
 use Rattle.lines.specs.readers.Command.{parseLine}
-use Rattle.template.specs.declared.nesting.Shape.the-variants.{Section, Remark, Test, Else, EndTest, Table, EndTable, Plain}
-use Rattle.template.specs.Nest.{Mark, section, test, other, table, tests, tables, allClosed}
+use Rattle.nesting.specs.declared.Shape.the-variants.{Section, Remark, Test, Else, EndTest, Table, EndTable, Plain}
+use Rattle.nesting.specs.Nest.{Mark, section, test, other, table, tests, tables, allClosed}
 use Rattle.template.specs.declared.Verdict.{Verdict}
 use Rattle.template.specs.declared.Verdict.the-variants.{Fine, Fault}
 use Rattle.template.specs.Lines.{linesOf}

@@ -7,7 +7,7 @@ use native.Mathlib.Omega.{arith}
 use borrow.Author.Tests.{lt-ltb, le-ltb}
 use lib.ListN.{length, drop}
 use Rattle.scan.specs.Line.{lineAt}
-use Rattle.template.specs.declared.nesting.Shape.{Shape}
+use Rattle.nesting.specs.declared.Shape.{Shape}
 use Rattle.template.specs.declared.seek.Sought.{Sought}
 use Rattle.template.specs.declared.seek.Role.{Role}
 use Rattle.template.specs.declared.seek.Role.the-variants.{Opens, Closes, Divides, Passes}

@@ -8,9 +8,9 @@ use Prim.Native.Nat.{ℕ, _<_, _≤_}
 use native.Mathlib.Omega.{arith}
 use borrow.Author.Tests.{ltb-true}
 use lib.Dec.{ltb}
-use Rattle.template.specs.declared.nesting.Shape.{Shape}
-use Rattle.template.specs.declared.nesting.Shape.the-variants.{Section, Remark, Test, Else, EndTest, Table, EndTable, Plain, NoForm}
-use Rattle.template.specs.Nest.{Mark, section, test, other, table, tests, tables, sectionBegun, testTurned, testEnded, tableEnded, inSection, behind}
+use Rattle.nesting.specs.declared.Shape.{Shape}
+use Rattle.nesting.specs.declared.Shape.the-variants.{Section, Remark, Test, Else, EndTest, Table, EndTable, Plain, NoForm}
+use Rattle.nesting.specs.Nest.{Mark, section, test, other, table, tests, tables, sectionBegun, testTurned, testEnded, tableEnded, inSection, behind}
 
 -- a line of a shape, what is open before it and what is open behind it
 pub data Turn : Shape → List Mark → List Mark → Type 0 where

@@ -16,8 +16,8 @@ use Rattle.lines.specs.declared.command.Line.the-variants as form
 use Rattle.lines.specs.readers.Command.{commands, parseLine}
 use Rattle.lines.proofs.Makes.{set-makes, datasource-makes, compare-makes, single-makes, bare-makes, optional-makes, fetch-makes, section-makes, heading-makes, remark-makes}
 use Rattle.lines.proofs.SectionLaws.{begins-says}
-use Rattle.template.specs.declared.nesting.Shape.{Shape}
-use Rattle.template.specs.declared.nesting.Shape.the-variants.{Section, Remark, Test, Else, EndTest, Table, EndTable, Plain}
+use Rattle.nesting.specs.declared.Shape.{Shape}
+use Rattle.nesting.specs.declared.Shape.the-variants.{Section, Remark, Test, Else, EndTest, Table, EndTable, Plain}
 use Rattle.template.specs.Shape.{shapeIn, shapeOf, isFormed, shapeWords, wordShape}
 use Rattle.template.specs.inner.Numbered.{numberedShape}
 use Rattle.template.proofs.NameForm.{formed}

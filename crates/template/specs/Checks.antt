@@ -14,7 +14,7 @@ use Rattle.template.specs.Lines.{linesOf}
 use Rattle.template.specs.Verdicts.{firstFault}
 use Rattle.template.specs.Walk.{walk}
 use Rattle.template.specs.Shape.{shapeOf, isFormed}
-use Rattle.template.specs.Nest.{Mark, behind, allClosed}
+use Rattle.nesting.specs.Nest.{Mark, behind, allClosed}
 
 -- 3
 unfoldable pub formCheck : List ℕ → Verdict

@@ -1,4 +1,3 @@
-pub mod Nest
 pub mod inner
 pub mod Name
 pub mod Lines

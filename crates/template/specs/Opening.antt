@@ -5,7 +5,7 @@ use mathlib.Core.Option.{some}
 use Prim.Native.Nat.{ℕ, suc, _+_, _<_}
 use lib.ListN.{length}
 use Rattle.scan.specs.Line.{lineAt}
-use Rattle.template.specs.Nest.{Mark}
+use Rattle.nesting.specs.Nest.{Mark}
 use Rattle.template.specs.declared.Verdict.the-variants.{Fine}
 use Rattle.template.specs.Verdicts.{bytesCheck}
 use Rattle.template.specs.Checks.{formCheck, nestStep, nestCheck}

@@ -25,7 +25,7 @@ use Rattle.lines.specs.readers.Fetch.{parameterAt, fetchedAt, fetchAt}
 use Rattle.lines.specs.readers.Title.{nameAt, sectionAt, headingOf, headingAt, remarkAt}
 use Rattle.lines.specs.readers.Command.{commands, parseLine}
 use Rattle.meaning.specs.declared.refusal.Refusal.the-variants.{BadTemplate, BadLine, BadNesting, RepeatedSection, NoSection}
-use Rattle.template.specs.Nest.{tests, tables, sectionBegun, testTurned, testEnded, tableEnded, inSection, behind, allClosed}
+use Rattle.nesting.specs.Nest.{tests, tables, sectionBegun, testTurned, testEnded, tableEnded, inSection, behind, allClosed}
 use Rattle.template.specs.Name.{nameOf}
 use Rattle.template.specs.declared.Checked.{Checked}
 use Rattle.template.specs.declared.Checked.the-variants.{Accepted, Refused}

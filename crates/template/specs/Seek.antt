@@ -4,8 +4,8 @@ use mathlib.Core.List.{List, [], _∷_}
 use Prim.Native.Nat.{ℕ, zero, suc, _+_}
 use lib.Dec.{ltb}
 use lib.ListN.{length}
-use Rattle.template.specs.declared.nesting.Shape.{Shape}
-use Rattle.template.specs.declared.nesting.Shape.the-variants.{Section, Remark, Test, Else, EndTest, Table, EndTable, Plain, NoForm}
+use Rattle.nesting.specs.declared.Shape.{Shape}
+use Rattle.nesting.specs.declared.Shape.the-variants.{Section, Remark, Test, Else, EndTest, Table, EndTable, Plain, NoForm}
 use Rattle.template.specs.declared.seek.Sought.{Sought}
 use Rattle.template.specs.declared.seek.Sought.the-variants.{Branch, TestEnd, TableEnd}
 use Rattle.template.specs.declared.seek.Role.{Role}

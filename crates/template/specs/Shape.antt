@@ -7,8 +7,8 @@ use Rattle.scan.specs.Words.{Spelled, _takes_, firstOf}
 use Rattle.lines.specs.declared.command.Line.{Line}
 use Rattle.lines.specs.declared.command.Line.the-variants as form
 use Rattle.lines.specs.readers.Command.{parseLine}
-use Rattle.template.specs.declared.nesting.Shape.{Shape}
-use Rattle.template.specs.declared.nesting.Shape.the-variants.{Section, Remark, Test, Else, EndTest, Table, EndTable, Plain, NoForm}
+use Rattle.nesting.specs.declared.Shape.{Shape}
+use Rattle.nesting.specs.declared.Shape.the-variants.{Section, Remark, Test, Else, EndTest, Table, EndTable, Plain, NoForm}
 
 unfoldable pub shapeIn : Line → Shape
 shapeIn form.NoForm = NoForm

@@ -1,4 +1,3 @@
-pub mod Open
 pub mod Hash
 pub mod Numbered
 pub mod Notes

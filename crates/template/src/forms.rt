@@ -1,10 +1,9 @@
 // 3: "A line has no form above, a number literal exceeds ±2,000,000,000, or fields widen a line past 132 bytes."
 // 4: nesting, from the first line to the last. One walk for both parses a line once.
 use crate::Verdict;
-use crate::nesting;
-use crate::nesting::Open;
-use crate::nesting::Step;
 use crate::shapes;
+use nesting::Open;
+use nesting::Step;
 ghost use mathlib.Core.Path.{_≡_};
 ghost use Prim.Native.Nat.{_+_, _≤_};
 ghost use lib.ListN.{length, drop};

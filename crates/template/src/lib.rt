@@ -13,7 +13,6 @@ ghost use Rattle.template.specs.Order.{sectionChecked, namesChecked, for
 
 pub mod bytes; // bytes.rt: check 2
 mod shapes; // shapes.rt: what a line is to the checks and to a search
-mod nesting; // nesting.rt: tests, tables and sections: what is open, from one line to the next
 mod forms; // forms.rt: checks 3 and 4
 mod names; // names.rt: the names of sections
 mod repeats; // repeats.rt: check 5

@@ -1,7 +1,7 @@
 // Where a failed test, an executed $ELSE and a $BT with n below 1 go on.
 use crate::LONGEST_TEMPLATE;
-use crate::nesting::Shape;
 use crate::shapes;
+use nesting::Shape;
 ghost use mathlib.Core.Path.{_≡_};
 ghost use Prim.Native.Nat.{_≤_};
 ghost use lib.ListN.{length};

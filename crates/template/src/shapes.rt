@@ -1,11 +1,11 @@
 // What a line is to the checks of a whole template.
-use crate::nesting::Shape;
 use lines::command;
 use lines::command::Line;
+use nesting::Shape;
 use scan::words::WordRead;
 ghost use mathlib.Core.Path.{_≡_};
 ghost use Rattle.scan.specs.Words.{firstOf};
-ghost use Rattle.template.specs.declared.nesting.Shape.the-variants.{Plain};
+ghost use Rattle.nesting.specs.declared.Shape.the-variants.{Plain};
 ghost use Rattle.template.specs.Shape.{shapeIn, shapeOf, hasForm, isFormed, shapeWords, wordShape};
 ghost use Rattle.template.specs.inner.Numbered.{numberedShape};
 

@@ -1,4 +1,3 @@
-pub mod Texts
 pub mod Word
 pub mod State
 pub mod Hearing

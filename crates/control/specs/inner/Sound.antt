@@ -4,7 +4,7 @@ use mathlib.Core.Bool.{true}
 use mathlib.Core.List.{List, [], _∷_}
 use Prim.Native.Nat.{ℕ, suc, _≤_, _<_}
 use lib.ListN.{length}
-use Rattle.template.specs.Nest.{Mark, section, test, other, table}
+use Rattle.nesting.specs.Nest.{Mark, section, test, other, table}
 use Rattle.texts.specs.readers.Text.{textFits}
 use Rattle.template.specs.Opening.{Opens, Checks}
 use Rattle.meaning.specs.Each.{Each}
