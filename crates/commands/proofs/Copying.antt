@@ -11,10 +11,10 @@ use Rattle.values.specs.inner.Registers.{Puts}
 use Rattle.values.specs.Machine.{setNumbered}
 use Rattle.meaning.specs.declared.refusal.Refusal.{Refusal}
 use Rattle.buffers.proofs.Laws.{copied-more}
-use Rattle.strings.specs.declared.part.Text.{Text}
-use Rattle.strings.specs.Letters.{letter}
-use Rattle.strings.specs.inner.Texts.{zeros, rowFor, chosen, Strings, strings, cased}
-use Rattle.strings.proofs.Texts.{text-is, length-cased}
+use Rattle.values.specs.declared.string.Text.{Text}
+use Rattle.values.specs.Letters.{letter}
+use Rattle.values.specs.inner.Texts.{zeros, rowFor, chosen, Strings, strings, cased}
+use Rattle.values.proofs.Texts.{text-is, length-cased}
 use Rattle.values.specs.inner.State.{texts, bank, lengthsIn}
 use Rattle.values.specs.declared.worth.Worth.{Worth}
 use Rattle.values.proofs.Keeping.{strings-kept}

@@ -12,7 +12,7 @@ use Rattle.numbers.specs.Outcome.{Outcome}
 use Rattle.lines.specs.declared.command.Operation.{Operation}
 use Rattle.lines.specs.declared.command.Target.{Target}
 use Rattle.lines.specs.declared.command.Target.the-variants.{IntegerTarget, DecimalTarget, StringTarget}
-use Rattle.strings.specs.inner.Texts.{Strings, strings}
+use Rattle.values.specs.inner.Texts.{Strings, strings}
 use Rattle.values.specs.Machine.{Variables, numbered}
 use Rattle.values.specs.inner.State.{texts, integersIn, decimalsIn, lengthsIn, held, variablesOf}
 use Rattle.values.specs.declared.worth.Worth.{Worth}

@@ -9,9 +9,9 @@ use Rattle.numbers.specs.declared.Quantity.{Quantity}
 use Rattle.numbers.specs.Order.{isZero}
 use Rattle.lines.specs.declared.command.Comparison.{Comparison}
 use Rattle.lines.specs.declared.command.Comparison.the-variants.{SameString, SameLetters, Equal, NotEqual, Less, AtMost, Greater, AtLeast}
-use Rattle.strings.specs.declared.part.Text.{Text}
-use Rattle.strings.specs.Letters.{equalStrings}
-use Rattle.strings.specs.inner.Texts.{Strings, textOf}
+use Rattle.values.specs.declared.string.Text.{Text}
+use Rattle.values.specs.Letters.{equalStrings}
+use Rattle.values.specs.inner.Texts.{Strings, textOf}
 use Rattle.values.specs.declared.worth.Worth.{Worth}
 use Rattle.values.specs.Worth as D
 use Rattle.values.specs.inner.Yielding.{meant}

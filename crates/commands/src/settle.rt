@@ -3,7 +3,7 @@ use lines::command::Optional;
 use meaning::refusal::Refusal;
 use numbers::Number;
 use numbers::Quantity;
-use strings::part::Text;
+use values::string::Text;
 use values::worth::Worth;
 ghost use mathlib.Core.Path.{_≡_};
 ghost use Rattle.numbers.specs.Outcome.{outcome};

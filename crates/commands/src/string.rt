@@ -2,14 +2,14 @@
 use crate::settle;
 use crate::settle::Phrase;
 use crate::settle::Verdict;
-use strings::part;
 use values::registers;
 use values::registers::Words;
+use values::string;
 use values::worth::Worth;
 ghost use mathlib.Core.Path.{_≡_};
 ghost use lib.ListN.{length, take};
 ghost use lib.Seq.{sets};
-ghost use Rattle.strings.specs.inner.Texts.{zeros, cased};
+ghost use Rattle.values.specs.inner.Texts.{zeros, cased};
 ghost use Rattle.commands.specs.inner.Assigning.{Rowed, PutsString, StoresString};
 
 // The first 16 bytes, in upper case where the flag is set.
@@ -22,7 +22,7 @@ fn copied(bytes: &[u8], raised: bool) -> [u8; 16]
         if bytes.len() <= j {
             return row;
         }
-        row[j] = part::letter(raised, bytes[j]);
+        row[j] = string::letter(raised, bytes[j]);
         j += 1;
     }
     row
@@ -70,8 +70,8 @@ pub fn stored<'a>(
         Phrase::NoString(e) => Verdict::Refused(e),
         Phrase::String(text) => {
             let source = text.source;
-            let row = part::row_for(strings, source);
-            let bytes = part::bytes_of(line, store, &row, text);
+            let row = string::row_for(strings, source);
+            let bytes = string::bytes_of(line, store, &row, text);
             let copy = copied(bytes, text.upper);
             put(strings, words, n, copy, count_of(bytes));
             Verdict::Passed

@@ -7,10 +7,10 @@ use lines::command::Comparison;
 use meaning::refusal::Refusal;
 use numbers::Quantity;
 use numbers::order;
-use strings::part;
+use values::string;
 use values::worth::Worth;
 ghost use mathlib.Core.Path.{_≡_};
-ghost use Rattle.strings.specs.inner.Texts.{strings as stringsOf};
+ghost use Rattle.values.specs.inner.Texts.{strings as stringsOf};
 ghost use Rattle.values.specs.inner.Yielding.{meant};
 ghost use Rattle.commands.specs.Testing as T;
 ghost use Rattle.commands.specs.inner.Kinds as K;
@@ -106,7 +106,7 @@ fn strings_judged<'a>(
             let b = settle::text_of(w);
             match b {
                 Phrase::NoString(e) => Judged::Refused(e),
-                Phrase::String(q) => Judged::Holds(part::same(
+                Phrase::String(q) => Judged::Holds(string::same(
                     line,
                     store,
                     strings,

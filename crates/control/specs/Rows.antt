@@ -33,7 +33,7 @@ use Rattle.lines.specs.declared.command.Optional.{Optional}
 use Rattle.lines.specs.declared.command.Optional.the-variants.{Given, Absent}
 use Rattle.lines.specs.declared.command.Comparison.{Comparison}
 use Rattle.lines.specs.declared.command.Comparison.the-variants.{SameString, SameLetters, Equal, Less}
-use Rattle.strings.specs.Letters.{upper, alike}
+use Rattle.values.specs.Letters.{upper, alike}
 use Rattle.values.specs.Machine.{Machine, numbered, Variables, setNumbered}
 use Rattle.values.specs.Indexes.{indexNumber, limited, indexValue}
 use Rattle.values.specs.Asking.{asks, cellMeaning}

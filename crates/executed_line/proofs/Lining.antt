@@ -38,7 +38,7 @@ use Rattle.meaning.specs.Place.{at, Does}
 use Rattle.meaning.specs.Number.{endOf}
 use Rattle.meaning.specs.declared.end.Halt.{Halt}
 use Rattle.meaning.specs.declared.end.Ended.the-variants.{Finished, Halted}
-use Rattle.strings.specs.inner.Texts.{Strings, strings, Sized}
+use Rattle.values.specs.inner.Texts.{Strings, strings, Sized}
 use Rattle.values.specs.inner.Word.{questions}
 use Rattle.values.specs.declared.working.Inputs.{Inputs}
 use Rattle.values.specs.declared.working.Operands.{Operands}

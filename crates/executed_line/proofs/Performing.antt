@@ -30,7 +30,7 @@ use Rattle.meaning.specs.Place.{at, Does}
 use Rattle.meaning.specs.Number.{endOf}
 use Rattle.meaning.specs.declared.end.Ended.the-variants.{Finished}
 use Rattle.meaning.proofs.Doing.{does-done, does-stop}
-use Rattle.strings.specs.inner.Texts.{Strings, strings}
+use Rattle.values.specs.inner.Texts.{Strings, strings}
 use Rattle.values.specs.declared.scene.Scene.{Scene}
 use Rattle.values.specs.declared.fetch.Along.{Along}
 use Rattle.values.specs.declared.fetch.Along.the-variants.{Records, Entries}

@@ -15,7 +15,7 @@ use Rattle.template.specs.declared.Verdict.the-variants.{Fine, Fault}
 use Rattle.template.specs.Lines.{linesWithin, linesOf}
 use Rattle.template.specs.Verdicts.{firstFault, lineAllowed, bytesCheck}
 use Rattle.cells.proofs.BigEndian.{and-true}
-use Rattle.strings.specs.Letters.{upper}
+use Rattle.values.specs.Letters.{upper}
 use Rattle.output.specs.Printable.{Printable, Clean}
 
 -- ---- parts

@@ -44,7 +44,7 @@ use Rattle.template.specs.Walk.{orElse, walk}
 use Rattle.template.specs.Order.{acceptedRun, sectionChecked, unlessFault, namesChecked, nestingChecked, formsChecked, templateChecked}
 use Rattle.template.specs.Sections.{endAt, selects, sectionFrom, sectionEnd, runFrom as templateRunFrom, selected}
 use Rattle.template.specs.Rows.{lines}
-use Rattle.strings.specs.Letters.{upper, alike}
+use Rattle.values.specs.Letters.{upper, alike}
 use Rattle.values.specs.Machine.{numbered, setNumbered}
 use Rattle.values.specs.Worth.{ranged, absolute, filteredNumber, filteredString, filtered, kindOf as valuesKindOf}
 use Rattle.values.specs.Meanings.{operandMeaning, argumentMeaning}

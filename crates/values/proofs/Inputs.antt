@@ -15,7 +15,7 @@ use Rattle.meaning.specs.declared.end.Ended.the-variants.{Finished, Halted}
 use Rattle.meaning.proofs.Doing.{then-does, then-over, does-done}
 use Rattle.arguments.specs.declared.argument.Argument.{Argument}
 use Rattle.arguments.specs.inner.Parameter.{parameterOf}
-use Rattle.strings.specs.inner.Texts.{Strings, strings}
+use Rattle.values.specs.inner.Texts.{Strings, strings}
 use Rattle.values.specs.declared.scene.Scene.{Scene}
 use Rattle.values.specs.inner.Word.{questions}
 use Rattle.values.specs.Source.{answers}

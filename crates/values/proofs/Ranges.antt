@@ -25,7 +25,7 @@ use Rattle.arguments.specs.declared.index.Index.the-variants.{Fixed, Variable, 
 use Rattle.arguments.specs.declared.operand.Operand.{Operand}
 use Rattle.arguments.specs.declared.operand.Operand.the-variants.{Number, Text, IntegerVariable, DecimalVariable, StringVariable, PageNumber, LineNumber, LoopCounter, RecordElement, EntryElement, Parameter, Record, Entry}
 use Rattle.arguments.proofs.Parsed.{Between, QuantityWithin, IndexWithin, OperandWithin, ArgumentWithin}
-use Rattle.strings.specs.Letters.{upper}
+use Rattle.values.specs.Letters.{upper}
 use Rattle.values.specs.declared.fetch.Along.{Along}
 use Rattle.values.specs.Machine.{Variables, Machine, numbered}
 use Rattle.values.specs.Asking.{cellMeaning}

@@ -1,3 +1,4 @@
+pub mod Texts
 pub mod Word
 pub mod State
 pub mod Hearing

@@ -6,7 +6,7 @@ use crate::value;
 use crate::worth::Worth;
 use arguments::argument::Argument;
 use meaning::end::Ended;
-ghost use Rattle.strings.specs.inner.Texts.{Sized};
+ghost use Rattle.values.specs.inner.Texts.{Sized};
 ghost use Rattle.values.specs.inner.State.{held};
 ghost use Rattle.values.specs.inner.Working.{Workable, WorksOut};
 

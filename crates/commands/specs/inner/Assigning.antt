@@ -9,7 +9,7 @@ use Rattle.meaning.specs.Answer.{Answer}
 use Rattle.meaning.specs.declared.question.Question.{Question}
 use Rattle.lines.specs.declared.command.Operation.{Operation}
 use Rattle.lines.specs.declared.command.Target.{Target}
-use Rattle.strings.specs.inner.Texts.{strings}
+use Rattle.values.specs.inner.Texts.{strings}
 use Rattle.values.specs.inner.State.{texts, bank, lengthsIn, headingsIn, tablesIn, Held, variablesOf}
 use Rattle.values.specs.declared.worth.Worth as W
 use Rattle.values.specs.inner.Yielding.{meant}

@@ -2,7 +2,7 @@
 use mathlib.Core.Path.{_≡_}
 use mathlib.Core.Bool.{Bool}
 use Rattle.lines.specs.declared.command.Comparison.{Comparison}
-use Rattle.strings.specs.inner.Texts.{Strings}
+use Rattle.values.specs.inner.Texts.{Strings}
 use Rattle.values.specs.declared.worth.Worth as W
 use Rattle.values.specs.inner.Yielding.{meant}
 use Rattle.commands.specs.declared.settle.Judged.{Judged}

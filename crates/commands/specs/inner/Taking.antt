@@ -7,7 +7,7 @@ use lib.IntN.{ℤ}
 use Rattle.numbers.specs.declared.Quantity.{Quantity}
 use Rattle.lines.specs.declared.command.Optional.{Optional}
 use Rattle.lines.specs.declared.command.Optional.the-variants.{Given, Absent}
-use Rattle.strings.specs.inner.Texts.{Strings, textOf}
+use Rattle.values.specs.inner.Texts.{Strings, textOf}
 use Rattle.values.specs.declared.worth.Worth as W
 use Rattle.values.specs.Worth as D
 use Rattle.values.specs.inner.Yielding.{meant}

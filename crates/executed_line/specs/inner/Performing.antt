@@ -2,7 +2,7 @@
 use mathlib.Core.List.{List}
 use Prim.Native.Nat.{ℕ}
 use Rattle.lines.specs.declared.command.Line.{Line}
-use Rattle.strings.specs.inner.Texts.{strings}
+use Rattle.values.specs.inner.Texts.{strings}
 use Rattle.values.specs.declared.scene.Scene.{Scene}
 use Rattle.values.specs.inner.State.{Held}
 use Rattle.values.specs.declared.worth.Worth.{Worth}

@@ -9,7 +9,7 @@ use Rattle.meaning.specs.Place.{at, Does}
 use Rattle.cells.specs.Cell.{Cell}
 use Rattle.cells.specs.inner.Index.{Ready}
 use Rattle.arguments.specs.inner.Parameter.{parameterOf}
-use Rattle.strings.specs.inner.Texts.{strings}
+use Rattle.values.specs.inner.Texts.{strings}
 use Rattle.values.specs.declared.scene.Scene.{Scene}
 use Rattle.values.specs.inner.Word.{questions}
 use Rattle.values.specs.Machine.{Machine}

@@ -15,7 +15,7 @@ use Rattle.cells.specs.Cell.{Cell}
 use Rattle.cells.specs.inner.Index.{Ready}
 use Rattle.arguments.specs.declared.argument.Argument.{Argument}
 use Rattle.arguments.specs.declared.operand.Operand.{Operand}
-use Rattle.strings.specs.inner.Texts.{Strings, strings, textOf}
+use Rattle.values.specs.inner.Texts.{Strings, strings, textOf}
 use Rattle.values.specs.declared.question.Heard.{Heard}
 use Rattle.values.specs.declared.scene.Scene.{Scene}
 use Rattle.values.specs.inner.Word.{questions}

@@ -1,8 +1,8 @@
 -- A row is copied where the variable has one.
-use Rattle.strings.proofs.Texts.{row-none, row-in, row-past}
+use Rattle.values.proofs.Texts.{row-none, row-in, row-past}
 use borrow.Author.Needs.{needs}
-use Rattle.strings.proofs.part.row_of.Statement.{statement}
-use Rattle.strings.proofs.part.row_of.Tie as tie
+use Rattle.values.proofs.string.row_of.Statement.{statement}
+use Rattle.values.proofs.string.row_of.Tie as tie
 
 returns : tie.Need-returns
 returns c = row-none _ _ (c .if1 .taken)

@@ -4,10 +4,10 @@ ghost use mathlib.Core.Path.{_≡_};
 ghost use mathlib.Core.Bool.{cond};
 ghost use Prim.Native.Nat.{_≤_};
 ghost use lib.ListN.{length, take, drop};
-ghost use Rattle.strings.specs.Letters as L;
-ghost use Rattle.strings.specs.Letters.{equalStrings};
-ghost use Rattle.strings.specs.inner.Texts.{cased, textOf, Sized};
-ghost use Rattle.strings.specs.inner.Texts as S;
+ghost use Rattle.values.specs.Letters as L;
+ghost use Rattle.values.specs.Letters.{equalStrings};
+ghost use Rattle.values.specs.inner.Texts.{cased, textOf, Sized};
+ghost use Rattle.values.specs.inner.Texts as S;
 
 // "A string argument lies in the template, in a cell or in an SV."
 pub enum Source {

@@ -1,12 +1,12 @@
 -- What `bytes_of` finds are the texts, before |UPPER.
-use Rattle.strings.proofs.Texts.{text-is}
-use Rattle.strings.specs.inner.Texts.{strings}
-use Rattle.strings.specs.Letters.{equalStrings}
+use Rattle.values.proofs.Texts.{text-is}
+use Rattle.values.specs.inner.Texts.{strings}
+use Rattle.values.specs.Letters.{equalStrings}
 use mathlib.Core.Path.{_∙_, ap₂}
 use denote.Ref.{now}
 use borrow.Author.Needs.{needs}
-use Rattle.strings.proofs.part.same.Statement.{statement}
-use Rattle.strings.proofs.part.same.Tie as tie
+use Rattle.values.proofs.string.same.Statement.{statement}
+use Rattle.values.proofs.string.same.Tie as tie
 
 row-for-requires : tie.Need-row-for-requires
 row-for-requires c κs = search needs

@@ -1,11 +1,11 @@
 -- The loop keeps: what is left is alike where the whole is.
-use Rattle.strings.proofs.Texts.{Compared, compare-start, compare-end, compare-short, compare-differs, compare-next}
-use Rattle.strings.specs.Letters.{letter}
+use Rattle.values.proofs.Texts.{Compared, compare-start, compare-end, compare-short, compare-differs, compare-next}
+use Rattle.values.specs.Letters.{letter}
 use Prim.Native.Nat.{_-_}
 use lib.ListN.{length}
 use borrow.Author.Needs.{needs}
-use Rattle.strings.proofs.part.same_bytes.Statement.{statement}
-use Rattle.strings.proofs.part.same_bytes.Tie as tie
+use Rattle.values.proofs.string.same_bytes.Statement.{statement}
+use Rattle.values.proofs.string.same_bytes.Tie as tie
 
 abbrev Inv-loop : tie.InvT-loop
 Inv-loop a a-upper b b-upper ignoring i₀ i = Compared ignoring a-upper b-upper a b i

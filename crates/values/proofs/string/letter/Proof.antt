@@ -1,7 +1,7 @@
 -- The definition makes the code's tests in the code's order.
 use borrow.Author.Needs.{needs}
-use Rattle.strings.proofs.part.letter.Statement.{statement}
-use Rattle.strings.proofs.part.letter.Tie as tie
+use Rattle.values.proofs.string.letter.Statement.{statement}
+use Rattle.values.proofs.string.letter.Tie as tie
 
 upper-requires : tie.Need-upper-requires
 upper-requires c κs = search needs

@@ -1,9 +1,9 @@
 -- The definition makes the code's tests in the code's order.
-use Rattle.strings.specs.Letters.{upper}
+use Rattle.values.specs.Letters.{upper}
 use borrow.Author.Tests.{lt-ltb, le-ltb}
 use borrow.Author.Needs.{needs}
-use Rattle.strings.proofs.part.upper.Statement.{statement}
-use Rattle.strings.proofs.part.upper.Tie as tie
+use Rattle.values.proofs.string.upper.Statement.{statement}
+use Rattle.values.proofs.string.upper.Tie as tie
 
 returns : tie.Need-returns
 unfolding upper

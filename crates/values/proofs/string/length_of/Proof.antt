@@ -2,12 +2,12 @@
 use lib.ListN.{length}
 use mathlib.Core.Path.{_≡_}
 use native.Mathlib.Omega.{arith}
-use Rattle.strings.proofs.Texts.{chosen-short, part-short, text-length}
-use Rattle.strings.specs.inner.Texts.{strings, chosen}
+use Rattle.values.proofs.Texts.{chosen-short, part-short, text-length}
+use Rattle.values.specs.inner.Texts.{strings, chosen}
 use denote.Ref.{now}
 use borrow.Author.Needs.{needs}
-use Rattle.strings.proofs.part.length_of.Statement.{statement}
-use Rattle.strings.proofs.part.length_of.Tie as tie
+use Rattle.values.proofs.string.length_of.Statement.{statement}
+use Rattle.values.proofs.string.length_of.Tie as tie
 
 row-for-requires : tie.Need-row-for-requires
 row-for-requires c κs = search needs

@@ -4,10 +4,10 @@ use mathlib.Core.List.{List, [], map}
 use Prim.Native.Nat.{ℕ, zero, suc, _≤_}
 use lib.Dec.{ltb}
 use lib.ListN.{getD, take, drop, replicate, length}
-use Rattle.strings.specs.declared.part.Source.{Source}
-use Rattle.strings.specs.declared.part.Source.the-variants.{Line, Store, Variable}
-use Rattle.strings.specs.declared.part.Text as P
-use Rattle.strings.specs.Letters.{upper}
+use Rattle.values.specs.declared.string.Source.{Source}
+use Rattle.values.specs.declared.string.Source.the-variants.{Line, Store, Variable}
+use Rattle.values.specs.declared.string.Text as P
+use Rattle.values.specs.Letters.{upper}
 
 abbrev pub zeros : List ℕ
 zeros = replicate 16 0

@@ -1,8 +1,8 @@
 -- By the cases of the definition.
-use Rattle.strings.specs.inner.Texts.{rowFor}
+use Rattle.values.specs.inner.Texts.{rowFor}
 use borrow.Author.Needs.{needs}
-use Rattle.strings.proofs.part.row_for.Statement.{statement}
-use Rattle.strings.proofs.part.row_for.Tie as tie
+use Rattle.values.proofs.string.row_for.Statement.{statement}
+use Rattle.values.proofs.string.row_for.Tie as tie
 
 enum-told : tie.Need-enum-told
 enum-told c = search needs

@@ -1,7 +1,7 @@
 -- By the cases of the definition; a row is a third slice of the same lifetime.
 use borrow.Author.Needs.{needs}
-use Rattle.strings.proofs.part.bytes_of.Statement.{statement}
-use Rattle.strings.proofs.part.bytes_of.Tie as tie
+use Rattle.values.proofs.string.bytes_of.Statement.{statement}
+use Rattle.values.proofs.string.bytes_of.Tie as tie
 
 enum-told : tie.Need-enum-told
 enum-told c = search needs

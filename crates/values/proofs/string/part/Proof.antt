@@ -1,7 +1,7 @@
 -- One of the two slices, and the part of it that `scan` gives.
 use borrow.Author.Needs.{needs}
-use Rattle.strings.proofs.part.part.Statement.{statement}
-use Rattle.strings.proofs.part.part.Tie as tie
+use Rattle.values.proofs.string.part.Statement.{statement}
+use Rattle.values.proofs.string.part.Tie as tie
 
 part-requires : tie.Need-part-requires
 part-requires c κs = search needs
