@@ -1,2 +1,3 @@
 pub mod Matching
 pub mod Sections
+pub mod Order

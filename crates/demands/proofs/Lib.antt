@@ -1,0 +1,12 @@
+pub mod Answering
+pub mod Editing
+pub mod Found
+pub mod Numbers
+pub mod Refused
+pub mod Reprint
+pub mod Halting
+pub mod Ending
+pub mod Due
+pub mod Reached
+pub mod Matching
+pub mod Shown

@@ -1,0 +1,5 @@
+pub mod Calls
+pub mod Sheet
+pub mod Due
+pub mod Matching
+pub mod Shown
