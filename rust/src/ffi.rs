@@ -25,6 +25,16 @@ pub struct Handed {
     pub count: usize,
 }
 
+impl Handed {
+    /// What stands here before a call: no answer, so that one that isn't written shows.
+    pub const BEFORE: Handed = Handed {
+        kind: u8::MAX,
+        value: i64::MAX,
+        place: usize::MAX,
+        count: usize::MAX,
+    };
+}
+
 /// What a report hands back beside its buffers.
 #[derive(Clone, Copy, Debug, PartialEq, Eq)]
 pub struct Ending {
@@ -96,7 +106,7 @@ extern "C" {
 /// The number, and the answer handed back.
 #[inline]
 pub fn ask(buffer: &[u8], length: usize, q: Asking) -> (u32, Handed) {
-    let mut h = Handed::default();
+    let mut h = Handed::BEFORE;
     let number = unsafe {
         station_ask(
             buffer.as_ptr(),

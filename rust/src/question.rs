@@ -249,11 +249,12 @@ impl From<Asking> for Question {
                 datasource,
                 parameter,
             },
-            _ => Question::HighestEntry {
+            3 => Question::HighestEntry {
                 datasource,
                 parameter,
                 record,
             },
+            kind => unreachable!("a question of kind {kind}"),
         }
     }
 }

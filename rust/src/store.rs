@@ -97,7 +97,8 @@ impl Store {
             0x49 => Answer::Value(Value::Integer(handed.value as i32)),
             0x46 => Answer::Value(Value::Decimal(Decimal::from_millionths(handed.value))),
             0x53 => Answer::Value(text(&self.buffer[handed.place..][..handed.count])),
-            _ => Answer::Highest(handed.count as u16),
+            1 => Answer::Highest(handed.count as u16),
+            kind => unreachable!("an answer of kind {kind}"),
         })
     }
 

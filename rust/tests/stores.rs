@@ -157,6 +157,65 @@ fn a_store_that_is_full_is_16() {
 }
 
 #[test]
+fn a_store_of_exactly_65_536_bytes_and_a_cell_more() {
+    let cells = (0..4_097).map(|n| format!("{} {} 0 0 F {n}.5\n", 1 + n / 1_000, 1 + n % 1_000));
+    let text: Vec<String> = cells.collect();
+    let template = b"$SEC A\n{P1,6.1}\n$SETDS 5\n{P96,6.1}{P97,4}{P98|RECCNT,2}\n";
+    let folder = folder(
+        "exactly",
+        &[
+            ("t", template),
+            ("text", text[..4_096].concat().as_bytes()),
+            ("more", text.concat().as_bytes()),
+        ],
+    );
+    let run = |words: &[&str]| station(&folder, words);
+    let full = "A put would pass the buffer or 65,536 bytes.\n";
+    let more = format!("station: more:4097: {full}");
+    assert_eq!(run(&["store", "make", "more", "s"]), said(2, "", &more));
+    assert_eq!(run(&["store", "make", "text", "s"]), said(0, "", ""));
+    let made = bytes(&folder, "s");
+    assert_eq!(made.len(), 65_536);
+    fs::write(folder.join("same"), &made).unwrap();
+    // A file that is one cell longer.
+    let cell = [0x46, 5, 0, 97, 0, 0, 0, 0, 0, 0, 0, 0, 0, 0, 0, 1];
+    fs::write(folder.join("long"), [&made[..], &cell].concat()).unwrap();
+    let long = "station: long: too long: a store has at most 65536 bytes\n";
+
+    let shown = text[..4_096].concat();
+    assert_eq!(run(&["store", "show", "s"]), said(0, &shown, ""));
+    assert_eq!(run(&["store", "show", "long"]), said(2, "", long));
+    let ask = |store| run(&["store", "ask", store, "P96 in datasource 5"]);
+    assert_eq!(ask("s"), said(0, "4095.5\n", ""));
+    assert_eq!(ask("long"), said(2, "", long));
+    let sheet = "   0.5\n4095.5???  0\n";
+    assert_eq!(run(&["print", "t", "s"]), said(0, sheet, ""));
+    assert_eq!(run(&["print", "t", "long"]), said(2, "", long));
+    let reads = "P1 in datasource 1 = 0.5\nP96 in datasource 5 = 4095.5\n\
+                 P97 in datasource 5 = missing\nP98|RECCNT in datasource 5 = 0\n";
+    assert_eq!(run(&["reads", "t", "s"]), said(0, reads, ""));
+    let same = "The sheet is the same: 4 questions on the read list, all answered as before; 20 bytes on 1 page.\n";
+    assert_eq!(run(&["reprint", "t", "", "s", "same"]), said(0, same, ""));
+
+    let put = |key: &str, kind, value| {
+        let key: Vec<&str> = key.split(' ').collect();
+        run(&[&["store", "put", "s"], &key[..], &[kind, value]].concat())
+    };
+    let refused = said(1, "", &format!("error[16]: {full}"));
+    assert_eq!(put("5 97 0 0", "F", "1.0"), refused);
+    assert_eq!(put("5 97 0 0", "I", "1"), refused);
+    assert_eq!(put("5 96 0 0", "S", "longer"), refused);
+    assert_eq!(bytes(&folder, "s"), made);
+    assert_eq!(put("5 96 0 0", "F", "1.0"), said(0, "", ""));
+    assert_eq!(bytes(&folder, "s").len(), 65_536);
+    let remove = ["store", "remove", "s", "1", "1", "0", "0"];
+    assert_eq!(run(&remove), said(0, "", ""));
+    assert_eq!(bytes(&folder, "s").len(), 65_520);
+    assert_eq!(put("5 97 0 0", "F", "1.0"), said(0, "", ""));
+    assert_eq!(bytes(&folder, "s").len(), 65_536);
+}
+
+#[test]
 fn questions_are_written_as_in_a_template() {
     let folder = folder("ask", &[("text", TEXT.as_bytes())]);
     assert_eq!(

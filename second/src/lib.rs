@@ -1,5 +1,6 @@
 //! A second interpreter for counting-station report templates, written from
-//! the paper alone and kept plain, to be compared with another one.
+//! document 01, its decided readings and the manual that it names, and kept
+//! plain, to be compared with another one.
 #![forbid(unsafe_code)]
 
 pub mod arguments;

@@ -2,6 +2,7 @@
 
 pub mod arithmetic;
 pub mod compared;
+pub mod documents;
 mod ffi;
 pub mod field;
 pub mod generated;

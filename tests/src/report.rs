@@ -57,33 +57,43 @@ pub struct Call<'a> {
 
 /// Bytes and places behind the lent ones, which no call may touch.
 const BEHIND: usize = 64;
-/// What both buffers hold at first: no byte and no question of a report.
-const BYTE: u8 = 0xee;
-const NO_QUESTION: Asked = Asked {
-    kind: 9,
-    datasource: 99,
-    parameter: 99_999,
-    record: 9_999,
-    entry: 9_999,
-};
 
-/// Buffers to lend to both interpreters. What one call leaves in them the next one finds.
+/// Buffers to lend to both interpreters, filled anew before each call.
 pub struct Pair {
     text: Vec<u8>,
     other_text: Vec<u8>,
     reads: Vec<Asked>,
     other_reads: Vec<Question>,
+    calls: u32,
 }
 
 impl Pair {
     /// Buffers of so many bytes and places at most.
     pub fn new(room: usize, places: usize) -> Self {
         Pair {
-            text: vec![BYTE; room + BEHIND],
-            other_text: vec![BYTE; room + BEHIND],
-            reads: vec![NO_QUESTION; places + BEHIND],
-            other_reads: vec![question(NO_QUESTION); places + BEHIND],
+            text: vec![0; room + BEHIND],
+            other_text: vec![0; room + BEHIND],
+            reads: vec![Asked::default(); places + BEHIND],
+            other_reads: vec![Question::default(); places + BEHIND],
+            calls: 0,
         }
+    }
+
+    /// Fills both sides alike, and otherwise than for the call before, with no byte and no question of a report.
+    fn refill(&mut self, room: usize, places: usize) {
+        self.calls += 1;
+        let byte = 0x80 + (self.calls % 0x80) as u8;
+        let none = Asked {
+            kind: 9 + self.calls % 1_000,
+            datasource: 99,
+            parameter: 99_999,
+            record: 9_999,
+            entry: 9_999,
+        };
+        self.text[..room + BEHIND].fill(byte);
+        self.other_text[..room + BEHIND].fill(byte);
+        self.reads[..places + BEHIND].fill(none);
+        self.other_reads[..places + BEHIND].fill(question(none));
     }
 
     /// One report by both, in so many bytes and places; whether they agree in every number, byte and question, and the end.
@@ -94,6 +104,7 @@ impl Pair {
             buffer,
             length,
         } = call;
+        self.refill(room, places);
         let ours = report(
             template,
             section,
@@ -110,11 +121,9 @@ impl Pair {
             &mut self.other_text[..room],
             &mut self.other_reads[..places],
         );
-        let behind = BEHIND.min(self.reads.len() - places);
         let same = ours == theirs
-            && self.text[..(room + BEHIND).min(self.text.len())]
-                == self.other_text[..(room + BEHIND).min(self.text.len())]
-            && self.reads[..places + behind]
+            && self.text[..room + BEHIND] == self.other_text[..room + BEHIND]
+            && self.reads[..places + BEHIND]
                 .iter()
                 .zip(&self.other_reads)
                 .all(|(a, b)| *a == asked(*b));

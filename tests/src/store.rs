@@ -7,14 +7,15 @@ use station::testing;
 pub use station::testing::Handed;
 pub use station::STORE_CELLS as MOST_CELLS;
 
-/// The answer in the second interpreter's terms: a string is a part of the store.
+/// The answer in the second interpreter's terms: a string is a part of the store. What an answer doesn't need is 0.
 fn answer(h: Handed, buffer: &[u8]) -> Answer {
-    match h.kind {
-        0 => Answer::Cell(Value::Missing),
-        0x49 => Answer::Cell(Value::Integer(h.value)),
-        0x46 => Answer::Cell(Value::Decimal(h.value)),
-        0x53 => Answer::Cell(Value::String(buffer[h.place..][..h.count].to_vec())),
-        _ => Answer::Number(h.count as u32),
+    match (h.kind, h.value, h.place, h.count) {
+        (0, 0, 0, 0) => Answer::Cell(Value::Missing),
+        (0x49, n, 0, 0) => Answer::Cell(Value::Integer(n)),
+        (0x46, n, 0, 0) => Answer::Cell(Value::Decimal(n)),
+        (0x53, 0, place, count) => Answer::Cell(Value::String(buffer[place..][..count].to_vec())),
+        (1, 0, 0, count) => Answer::Number(count as u32),
+        _ => panic!("no answer: {h:?}"),
     }
 }
 
@@ -42,7 +43,7 @@ pub fn look_up(buffer: &[u8], places: &[u16], known: usize, q: Question, h: &mut
 }
 
 pub fn looked_up(buffer: &[u8], places: &[u16], known: usize, q: Question) -> Answer {
-    let mut h = Handed::default();
+    let mut h = Handed::BEFORE;
     look_up(buffer, places, known, q, &mut h);
     answer(h, buffer)
 }
@@ -79,6 +80,15 @@ pub fn cell(key: [u16; 4], value: &Value) -> Vec<u8> {
         Value::Missing => {}
     }
     bytes
+}
+
+/// A store of decimals: 4,096 are exactly 65,536 bytes.
+pub fn decimals(cells: u16) -> Vec<u8> {
+    let decimal = |n: u16| {
+        let key = [1 + n / 160, 1 + n % 160, n % 7, n % 3];
+        cell(key, &Value::Decimal(i64::from(n) * 1_000_001))
+    };
+    (0..cells).flat_map(decimal).collect()
 }
 
 /// A key's seven bytes.

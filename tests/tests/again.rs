@@ -7,8 +7,6 @@
 extern crate self as second;
 pub use station_tests::compared::*;
 
-#[path = "../../second/tests/arithmetic.rs"]
-mod arithmetic;
 #[path = "../../second/tests/buffers.rs"]
 mod buffers;
 #[path = "../../second/tests/commands.rs"]

@@ -1,53 +1,9 @@
 //! What README.md and docs/ cite is there: definitions, theorems, functions, must-fail edits, crates. What definitions stand on.
 
+use station_tests::documents::{below, crates, declared, defined, read, root};
 use std::collections::BTreeSet;
 use std::fs;
 use std::path::{Path, PathBuf};
-
-fn root() -> PathBuf {
-    Path::new(env!("CARGO_MANIFEST_DIR")).join("..")
-}
-
-fn read(name: &str) -> String {
-    fs::read_to_string(root().join(name)).unwrap_or_else(|e| panic!("{name}: {e}"))
-}
-
-/// The files below a folder.
-fn below(folder: &Path) -> Vec<PathBuf> {
-    let Ok(entries) = fs::read_dir(folder) else {
-        return Vec::new();
-    };
-    let paths = entries.map(|entry| entry.unwrap().path());
-    paths
-        .flat_map(|path| {
-            if path.is_dir() {
-                below(&path)
-            } else {
-                vec![path]
-            }
-        })
-        .collect()
-}
-
-/// The crates that are listed.
-fn crates() -> BTreeSet<String> {
-    let list = read("crates.txt");
-    let lines = list.lines().filter(|line| !line.starts_with('#'));
-    lines
-        .map(|line| line.split(':').next().unwrap().to_string())
-        .collect()
-}
-
-/// The names that the lines of a file begin with, behind the words that say what kind of definition it is.
-fn defined(file: &Path) -> BTreeSet<String> {
-    let text = fs::read_to_string(file).unwrap();
-    let words = ["unfoldable", "abbrev", "pub", "record", "data"];
-    let first = |line: &str| {
-        let name = line.split_whitespace().find(|word| !words.contains(word));
-        name.map(str::to_string)
-    };
-    text.lines().filter_map(first).collect()
-}
 
 /// What stands between backticks.
 fn code(text: &str) -> Vec<&str> {
@@ -73,7 +29,7 @@ fn cited_files(citation: &str, all: &[PathBuf]) -> Vec<PathBuf> {
 #[test]
 fn cited_definitions_and_theorems_are_there() {
     let all = below(&root().join("crates"));
-    for document in ["README.md", "docs/CLAIMS.md", "docs/DECISIONS.md"] {
+    for document in ["README.md", "docs/DECISIONS.md"] {
         let text = read(document);
         for span in code(&text) {
             let Some((place, name)) = span.split_once(':') else {
@@ -112,18 +68,6 @@ fn cited_sources<'a>(
     sources.map(|(_, names)| names).collect()
 }
 
-/// The functions, types, constants and modules that a source declares.
-fn declared(file: &Path) -> BTreeSet<String> {
-    let text = fs::read_to_string(file).unwrap();
-    let kinds = ["fn", "struct", "enum", "const", "type", "mod"];
-    let words: Vec<&str> = text
-        .split(|c: char| !c.is_alphanumeric() && c != '_')
-        .filter(|word| !word.is_empty())
-        .collect();
-    let pairs = words.windows(2).filter(|pair| kinds.contains(&pair[0]));
-    pairs.map(|pair| pair[1].to_string()).collect()
-}
-
 #[test]
 fn cited_functions_are_there() {
     let files = below(&root().join("crates"));
@@ -133,7 +77,7 @@ fn cited_functions_are_there() {
     let all: Vec<_> = sources
         .map(|file| (file.clone(), declared(&file)))
         .collect();
-    for document in ["README.md", "docs/CLAIMS.md", "docs/DECISIONS.md"] {
+    for document in ["README.md", "docs/DECISIONS.md"] {
         let text = read(document);
         for span in code(&text).into_iter().filter(|span| span.contains("::")) {
             let parts: Vec<&str> = span.split("::").collect();

@@ -3,6 +3,7 @@
 
 use second::{report, Question};
 use station_tests::sheets::{sheets, small_store, Sheet, STORE, TEMPLATE};
+use station_tests::store::decimals;
 use std::fs;
 use std::io::Write;
 use std::path::{Path, PathBuf};
@@ -125,6 +126,16 @@ fn files_at_their_limits_and_past_them() {
             b"LIST",
             &cells[..length],
         );
+    }
+    // A store in form of exactly 65,536 bytes, and one cell more.
+    let last = b"$SEC A\n$SETDS 26\n{P96,12}{P97.1.1,12}\n";
+    for (cells, printed) in [
+        (4_096, &b" 4095.004095???         \n0 0 1 25 2\n"[..]),
+        (4_097, b"1 0 0 0 0\n"),
+    ] {
+        let (name, store) = (format!("decimals{cells}"), decimals(cells));
+        agrees(&name, last, b"A", &store);
+        assert_eq!(expected(last, b"A", &store), printed);
     }
     agrees("both", &[b'x'; 40_000], b"A", &cells);
     agrees("empty", b"", b"", b"");

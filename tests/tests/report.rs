@@ -6,7 +6,7 @@ use station_tests::generated::{case, store, template, Case, MOST_PLACES, MOST_RO
 use station_tests::random::Random;
 use station_tests::report::{question, report, Asked, Call, Pair};
 use station_tests::sheets::{sheets, small_store, Sheet, PAPER, STORE, TEMPLATE};
-use station_tests::store::{cell, key};
+use station_tests::store::{cell, decimals, key};
 
 /// Room and places to spare for every sheet here.
 const ROOM: usize = 65_536;
@@ -124,6 +124,32 @@ fn long_stores_to_their_limit_and_one_past_it() {
     }
 }
 
+/// "A run of cells, 0 to 65,536 bytes": 4,096 decimals are just so many.
+#[test]
+fn a_store_of_exactly_65_536_bytes_and_a_cell_more() {
+    let mut pair = Pair::new(ROOM, PLACES);
+    let store = decimals(4_097);
+    let text = b"$SEC A\n{P1,8}\n$SETDS 26\n{P96,12}{P97.1.1,4}{P97|RECCNT,2}{P96.0|ENTCNT,2}\n";
+    for (length, number) in [(65_520, 0), (65_535, 1), (65_536, 0), (65_552, 1)] {
+        for buffer in [&store[..length], &store] {
+            let handed = Call {
+                template: text,
+                section: b"A",
+                buffer,
+                length,
+            };
+            let end = pair.report(handed, ROOM, PLACES);
+            assert_eq!(
+                (end.number, end.questions),
+                (number, if number == 0 { 5 } else { 0 })
+            );
+            if length == 65_536 {
+                assert_eq!(pair.text(&end), b"0.000000\n 4095.004095???  0 0\n");
+            }
+        }
+    }
+}
+
 // ---- room and places
 
 #[test]
@@ -157,6 +183,50 @@ fn every_room_and_every_number_of_places_of_a_dozen_sheets() {
         let both = (text.len() / 2, reads.len() / 2);
         pair.report(handed, both.0, both.1);
         pair.report(handed, 0, 0);
+    }
+}
+
+/// "A refused step prints nothing and leaves the page": text lines, headings, blank lines and breaks, refused with 8, 9, 11 and 14. What
+/// the steps before printed stands, and not a byte more.
+#[test]
+fn a_refused_step_prints_nothing_and_leaves_the_page() {
+    let page = "x\n".repeat(60);
+    // Lines behind $SEC A, room and places; number and line; the text that stands, and its pages.
+    let rows: [(&str, usize, usize, u32, u32, &str, u32); 11] = [
+        ("a\n$SETE IV1 1000\nb{P1.IV1,1}", 99, 9, 8, 4, "a\n", 1),
+        ("a\nb{P1,1}{P2,1}", 99, 1, 9, 3, "a\n", 1),
+        ("a\nb{IV1|LEN,1}", 99, 9, 11, 3, "a\n", 1),
+        ("a\nbc", 4, 9, 14, 3, "a\n", 1),
+        ("$PH1 h{IV1|LEN,1}\nx", 99, 9, 11, 2, "", 1),
+        ("$PH1 h\nx", 2, 9, 14, 3, "h\n", 1),
+        ("$PH2 h\nx", 0, 9, 14, 3, "", 1),
+        ("$NP\nx", 0, 9, 14, 2, "", 1),
+        ("$NP\nx", 2, 9, 14, 3, "\x0c", 2),
+        ("a\n$PH1 {P1,1}\n$NP\nb", 99, 0, 9, 3, "a\n\x0c", 2),
+        ("$BT 61\nx\n$ET", 120, 9, 14, 3, &page, 1),
+    ];
+    let mut pair = Pair::new(120, 9);
+    for (lines, room, places, number, line, text, pages) in rows {
+        let template = format!("$SEC A\n{lines}");
+        let end = pair.report(call(template.as_bytes(), b"A", &[]), room, places);
+        assert_eq!(
+            (end.number, end.line, end.pages),
+            (number, line, pages),
+            "{lines}"
+        );
+        let mut buffer = [0xee; 120];
+        let mut reads = vec![Asked::default(); places];
+        report(
+            template.as_bytes(),
+            b"A",
+            &[],
+            0,
+            &mut buffer[..room],
+            &mut reads,
+        );
+        let (stands, rest) = buffer.split_at(text.len());
+        assert_eq!(stands, text.as_bytes(), "{lines}");
+        assert!(rest.iter().all(|&byte| byte == 0xee), "{lines}");
     }
 }
 

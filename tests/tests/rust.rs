@@ -105,7 +105,9 @@ fn questions_and_edits_are_the_second_interpreters() {
                 let asked = asked(&mut random);
                 let answer = second::ask(&theirs, length, question(asked.into()));
                 match ours_store.ask(asked) {
-                    Ok(given) => assert_eq!(given, ours(answer.answer), "{asked}"),
+                    Ok(given) => {
+                        assert_eq!((0, given), (answer.number, ours(answer.answer)), "{asked}")
+                    }
                     Err(refusal) => assert_eq!(refusal.number(), answer.number, "{asked}"),
                 }
                 answer.number

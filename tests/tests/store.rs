@@ -1,8 +1,11 @@
 //! Stores beside the second interpreter: answers, numbers, lengths and whole buffers.
 
-use second::{Question, Value};
+use second::{Answer, Edited, Question, Value};
+use station_tests::compared;
 use station_tests::random::Random;
-use station_tests::store::{ask, cell, index, index_in, key, looked_up, put, remove, MOST_CELLS};
+use station_tests::store::{
+    ask, cell, decimals, index, index_in, key, looked_up, put, remove, MOST_CELLS,
+};
 use std::collections::BTreeMap;
 
 /// The longest store.
@@ -401,5 +404,64 @@ fn lengths_at_the_limit() {
             &cell([1, 1, 0, 0], &Value::Integer(3)),
             true,
         );
+    }
+}
+
+/// "A run of cells, 0 to 65,536 bytes", just so many: every cell is found, and a put that makes it longer is 16, in a buffer that has
+/// the bytes too. One cell more is 1.
+#[test]
+fn exactly_65_536_bytes_and_a_cell_more() {
+    for spare in [0, 16, 100] {
+        let mut full = decimals(4_097);
+        assert_eq!(full.len(), LIMIT + 16);
+        full.resize(LIMIT + spare, PAST);
+        let mut places = vec![0; MOST_CELLS];
+        assert_eq!(index(&full, LIMIT, &mut places), Some(4_096));
+        for n in (0..4_097).step_by(if spare == 0 { 1 } else { 512 }) {
+            let q = Question {
+                kind: 1,
+                datasource: 1 + n / 160,
+                parameter: 1 + n % 160,
+                record: n % 7,
+                entry: n % 3,
+            };
+            let asked = compared::ask(&full, LIMIT, q);
+            let decimal = Value::Decimal(i64::from(n) * 1_000_001);
+            let there = if n < 4_096 { decimal } else { Value::Missing };
+            assert_eq!((asked.number, asked.answer), (0, Answer::Cell(there)));
+            assert_eq!(compared::ask(&full, LIMIT + 16, q).number, 1);
+        }
+        let values = [
+            (Value::Integer(7), LIMIT - 4),
+            (Value::Decimal(7), LIMIT),
+            (Value::String(b"Cs-137".to_vec()), LIMIT + 9),
+        ];
+        for k in [[1, 1, 0, 0], [13, 129, 4, 2], [26, 96, 0, 0]] {
+            for (value, length) in &values {
+                let put = |length| compared::put(&mut full.clone(), length, &cell(k, value));
+                let fits = *length <= LIMIT;
+                let number = if fits { 0 } else { 16 };
+                let length = if fits { *length } else { LIMIT };
+                assert_eq!(put(LIMIT), Edited { number, length }, "{k:?}");
+                assert_eq!(put(LIMIT + 16).number, 1);
+            }
+            let mut shorter = full.clone();
+            let removed = compared::remove(&mut shorter, LIMIT, &key(k));
+            assert_eq!((removed.number, removed.length), (0, LIMIT - 16));
+            let put = compared::put(&mut shorter, removed.length, &cell(k, &values[1].0));
+            assert_eq!((put.number, put.length), (0, LIMIT));
+            assert_eq!(
+                compared::remove(&mut full.clone(), LIMIT + 16, &key(k)).number,
+                1
+            );
+        }
+        for k in [[1, 1, 0, 1], [26, 97, 1, 1], [35, 65_535, 999, 999]] {
+            for (value, _) in &values {
+                let put = compared::put(&mut full.clone(), LIMIT, &cell(k, value));
+                assert_eq!((put.number, put.length), (16, LIMIT));
+            }
+            let removed = compared::remove(&mut full.clone(), LIMIT, &key(k));
+            assert_eq!((removed.number, removed.length), (17, LIMIT));
+        }
     }
 }

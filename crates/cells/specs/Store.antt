@@ -1,4 +1,4 @@
--- "The store: A run of cells, 0 to 65,536 bytes."
+-- The store: "A run of cells, 0 to 65,536 bytes."
 use mathlib.Core.Bool.{Bool, true, false, cond, _&&_}
 use mathlib.Core.List.{List, [], _∷_, _++_}
 use mathlib.Core.Option.{Option, none, some}

@@ -18,7 +18,7 @@ const INTEGER_LIMIT: u64 = 2_000_000_000;
 
 const DECIMAL_LIMIT: u64 = 2_000_000_000_000_000;
 
-// "datasource 1–35, parameter 1–65,535, record 0–999, entry 0–999"
+// "datasource 1–35 .., parameter 1–65,535, record 0–999, entry 0–999"
 pub fn within_limits(datasource: u64, parameter: u64, record_number: u64, entry: u64) -> bool
     ensures { λ r. ⌜ r ≡ keyAllowed (keyOf datasource parameter «record_number» entry) ⌝ }
 {

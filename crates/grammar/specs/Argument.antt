@@ -21,7 +21,7 @@ use Rattle.grammar.specs.Number.{point, Row, Numbered, LiteralSpelled, I
 abbrev pub quote : ℕ
 quote = code "\""
 
--- "Arguments: an integer; a decimal; a string in double quotes, 0–16 bytes without a quote; IVn, FVn, SVn (n 1–99); PAGENUM;
+-- "Arguments: an integer ..; a decimal ..; a string in double quotes, 0–16 bytes without a quote; IVn, FVn, SVn (n 1–99); PAGENUM;
 -- LINENUM; LOOP; Rn, Tn (n 1–10); a cell Pn, Pn.r or Pn.r.e, n 1–65,535"
 pub data OperandSpelled (at : ℕ) : Operand → List ℕ → Type 0 where
   literal : {q : Quantity} {s : List ℕ} → LiteralSpelled q s → OperandSpelled at (Number q) s

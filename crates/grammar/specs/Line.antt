@@ -63,7 +63,7 @@ pub data OptionalSpelled (at : ℕ) : Optional → List ℕ → Type 0 where
 pub data FetchSpelled : Fetch → List ℕ → Type 0 where
   fetch : (n : ℕ) (x : List ℕ) (m : ℕ) (y : List ℕ) (r : Index) (u : List ℕ) (e : Index) (v : List ℕ) (c : Index) (w : List ℕ) → Numbered 10 n x → Numbered 65535 m y → IndexSpelled r u → IndexSpelled e v → IndexSpelled c w → FetchSpelled (record { number = n; parameter = m; first = r; second = e; count = c }) (x ++ (ascii " P" ++ (y ++ (space ∷ (u ++ (space ∷ (v ++ (space ∷ w))))))))
 
--- "`$PHn` (n 1–9, `$PH` is `$PH1`)"
+-- "`$PHn text` (n 1–9, `$PH` is `$PH1`; ..)"
 pub data HeadingWord : ℕ → List ℕ → Type 0 where
   first : HeadingWord 1 (ascii "$PH")
   numbered : (n : ℕ) (s : List ℕ) → Numbered 9 n s → HeadingWord n (ascii "$PH" ++ s)

@@ -118,7 +118,7 @@ rows =
     -- * "60 lines without heading: one page; 61: two"
     ∷ shows (replicate 60 "x") (replicate 60 "x")
     ∷ prints (replicate 61 "x") 2 (lines (replicate 60 "x") ++ formFeed ++ lines ("x" ∷ []))
-    -- the sample: "prints `r=  0.67` and `0 0 1 9 0`"
+    -- the sample, which prints `r=  0.67`, and ends with `0 0 1 9 0`
     ∷ shows ("$SETE FV1 2" ∷ "$SETD FV1 3" ∷ "$IF IV1" ∷ "X" ∷ "$ELSE" ∷ "r={FV1,6.2}" ∷ "$ENDIF" ∷ []) ("r=  0.67" ∷ [])
     ∷ []
 

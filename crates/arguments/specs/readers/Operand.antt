@@ -79,6 +79,6 @@ unfoldable pub numberOr : OperandRead → LiteralRead → OperandRead
 numberOr other (LiteralTo q next) = OperandTo (Number q) next
 numberOr other NoLiteral = other
 
--- "Arguments: an integer; a decimal; a string; IVn, FVn, SVn; PAGENUM; LINENUM; LOOP; Rn, Tn; a cell"
+-- "Arguments: an integer ..; a decimal ..; a string ..; IVn, FVn, SVn ..; PAGENUM; LINENUM; LOOP; Rn, Tn ..; a cell"
 unfoldable pub operandAt : List ℕ → ℕ → OperandRead
 operandAt l at = cond (byteIs l at "\"") (stringAt l (at + 1)) (numberOr (namedAt l at) (literalAt l at))

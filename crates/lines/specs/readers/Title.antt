@@ -32,7 +32,7 @@ headingOf l at n =
     cond (leb (length l) at) (NoHeading n)
     (cond (byteIs l at " ") (cond (textFits l (at + 1)) (Heading n (at + 1)) NoForm) NoForm)
 
--- "`$PHn text` (n 1–9, `$PH` is `$PH1`)"
+-- "`$PHn text` (n 1–9, `$PH` is `$PH1`; ..)"
 unfoldable pub headingAt : List ℕ → ℕ → Line
 headingAt l at = numeralOr (headingOf l at 1) (numberAt l at 9) (λ n next. headingOf l next n)
 
