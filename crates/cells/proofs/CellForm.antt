@@ -15,7 +15,7 @@ use Rattle.meaning.specs.Answer as A
 use Rattle.numbers.specs.declared.Quantity.the-variants as Q
 use Rattle.numbers.specs.Range.{integerLimit, decimalLimit, within}
 use Rattle.cells.specs.Bytes.{pair, quad, octet, pairAt, quadAt, octetAt, inComplement, fromComplement, word, long, begins}
-use Rattle.cells.specs.Cell.{Key, between, keyAllowed, keyBytes, number, each, printable, Kind, integers, decimals, strings, kinds, rowIn, heldIn, kindOf, valueAllowed, valueBytes, integerKind, decimalKind, stringKind, Cell, cellAllowed, cellBytes, keyAt, cellBy, cellOf, passing, front}
+use Rattle.cells.specs.Cell.{Key, between, keyAllowed, keyBytes, number, each, printable, Kind, integers, decimals, strings, kinds, rowIn, kindAndBody, kindByte, valueAllowed, valueBytes, integerKind, decimalKind, stringKind, Cell, cellAllowed, cellBytes, keyAt, cellBy, cellOf, passing, front}
 use Rattle.cells.specs.inner.Tests.{sizeBy, sizeOf, zeros, stringFormed, valueFormed, sizeFound, frontSize, Sized}
 use Rattle.cells.proofs.BigEndian.{Bytes, and-true, both, begins-self, begins-says, pair-reads, quad-reads, octet-reads, signed-unsigned, unsigned-signed, quad-below, octet-below, next, pair-back, quad-back, octet-back, quad-at, octet-at}
 
@@ -121,18 +121,18 @@ strings-sound =
       reads = λ t r e. ap (take (length t)) (append-assoc t (replicate (16 - length t) 0) r) ∙ take-append-seam t (replicate (16 - length t) 0 ++ r);
     }
 
-row-sound : (v : Value) → Sound (heldIn v .kind)
+row-sound : (v : Value) → Sound (kindAndBody v .kind)
 row-sound (A.number (Q.Integer z)) = integers-sound
 row-sound (A.number (Q.Decimal z)) = decimals-sound
 row-sound (string t) = strings-sound
 
-row-found : (v : Value) → rowIn kinds (kindOf v) ≡ some (heldIn v .kind)
-unfolding kindOf
+row-found : (v : Value) → rowIn kinds (kindByte v) ≡ some (kindAndBody v .kind)
+unfolding kindByte
 row-found (A.number (Q.Integer z)) = refl
 row-found (A.number (Q.Decimal z)) = refl
 row-found (string t) = refl
 
-row-value : (v : Value) → heldIn v .kind .value (heldIn v .body) ≡ v
+row-value : (v : Value) → kindAndBody v .kind .value (kindAndBody v .body) ≡ v
 row-value (A.number (Q.Integer z)) = refl
 row-value (A.number (Q.Decimal z)) = refl
 row-value (string t) = refl
@@ -143,18 +143,18 @@ value-behind : (c : Cell) (r : List ℕ) → drop 8 (cellBytes c ++ r) ≡ value
 unfolding cellBytes keyBytes pair
 value-behind c r = refl
 
-value-reads : (v : Value) (r : List ℕ) → valueAllowed v ≡ true → heldIn v .kind .value (heldIn v .kind .read (valueBytes v ++ r)) ≡ v
+value-reads : (v : Value) (r : List ℕ) → valueAllowed v ≡ true → kindAndBody v .kind .value (kindAndBody v .kind .read (valueBytes v ++ r)) ≡ v
 unfolding valueAllowed valueBytes
-value-reads v r e = ap (heldIn v .kind .value) (row-sound v .reads (heldIn v .body) r e) ∙ row-value v
+value-reads v r e = ap (kindAndBody v .kind .value) (row-sound v .reads (kindAndBody v .body) r e) ∙ row-value v
 
-pub first-byte : (c : Cell) (r : List ℕ) → getD (cellBytes c ++ r) 0 0 ≡ kindOf (c .value)
+pub first-byte : (c : Cell) (r : List ℕ) → getD (cellBytes c ++ r) 0 0 ≡ kindByte (c .value)
 unfolding cellBytes
 first-byte c r = refl
 
 pub cell-reads : (c : Cell) (r : List ℕ) → valueAllowed (c .value) ≡ true → cellOf (cellBytes c ++ r) ≡ some c
 unfolding cellOf cellBy
 cell-reads c r e =
-    let k : Kind = heldIn (c .value) .kind in
+    let k : Kind = kindAndBody (c .value) .kind in
     let v : k .value (k .read (drop 8 (cellBytes c ++ r))) ≡ c .value = ap (λ (s : List ℕ). k .value (k .read s)) (value-behind c r) ∙ value-reads (c .value) r e in
     ap (λ (o : Option Kind). cellBy o (cellBytes c ++ r)) (ap (rowIn kinds) (first-byte c r) ∙ row-found (c .value)) ∙ (λ i. some (record { key = cell-key c r i; value = v i }))
 
@@ -189,17 +189,17 @@ pub front-some : (s : List ℕ) (c : Cell) → front s ≡ some c → Front s c
 unfolding front
 front-some s c e = let h = passing-some (λ b. begins b s) (cellOf s) c e in record { allowed = h .0; bytes = begins-says _ _ (h .1) }
 
-pub cell-size : (k : Key) (v : Value) → valueAllowed v ≡ true → length (cellBytes (record { key = k; value = v })) ≡ sizeOf (kindOf v)
+pub cell-size : (k : Key) (v : Value) → valueAllowed v ≡ true → length (cellBytes (record { key = k; value = v })) ≡ sizeOf (kindByte v)
 unfolding cellBytes keyBytes valueBytes pair sizeOf sizeBy valueAllowed
-cell-size k v e = rw (row-found v) (omega (arith, row-sound v .sized (heldIn v .body) e))
+cell-size k v e = rw (row-found v) (omega (arith, row-sound v .sized (kindAndBody v .body) e))
 
-pub known-kind : (v : Value) → 0 < sizeOf (kindOf v)
+pub known-kind : (v : Value) → 0 < sizeOf (kindByte v)
 unfolding sizeOf sizeBy
 known-kind v = rw (row-found v) (omega arith)
 
 -- a string's length stands behind the key
-pub string-short : (k : Key) (v : Value) (r : List ℕ) → valueAllowed v ≡ true → (kindOf v ≡ integerKind → ⊥) → (kindOf v ≡ decimalKind → ⊥) → getD (cellBytes (record { key = k; value = v }) ++ r) 8 0 ≤ 16
-unfolding cellBytes keyBytes valueBytes pair kindOf valueAllowed
+pub string-short : (k : Key) (v : Value) (r : List ℕ) → valueAllowed v ≡ true → (kindByte v ≡ integerKind → ⊥) → (kindByte v ≡ decimalKind → ⊥) → getD (cellBytes (record { key = k; value = v }) ++ r) 8 0 ≤ 16
+unfolding cellBytes keyBytes valueBytes pair kindByte valueAllowed
 string-short k (A.number (Q.Integer z)) r e j h = absurd (j refl)
 string-short k (A.number (Q.Decimal z)) r e j h = absurd (h refl)
 string-short k (string s) r e j h = leb-true _ _ (and-true _ _ e .0)
@@ -240,29 +240,29 @@ module _ (s : List ℕ) (bytes : Bytes s) where
       (sym (next s i (omega arith)))
 
   -- a value v whose bytes stand behind the key
-  cell-back : (v : Value) (n : ℕ) → 8 ≤ length s → kindOf v ≡ getD s 0 0 → valueBytes v ++ drop n s ≡ drop 8 s → cellBytes (record { key = keyAt s 1; value = v }) ++ drop n s ≡ s
+  cell-back : (v : Value) (n : ℕ) → 8 ≤ length s → kindByte v ≡ getD s 0 0 → valueBytes v ++ drop n s ≡ drop 8 s → cellBytes (record { key = keyAt s 1; value = v }) ++ drop n s ≡ s
   unfolding cellBytes
   cell-back v n h k e =
       rw (append-assoc (keyBytes (keyAt s 1)) (valueBytes v) (drop n s), e, k, key-back 1 (omega arith))
       (sym (next s 0 (omega arith)))
 
-  read-front : (v : Value) (n : ℕ) → 8 ≤ length s → kindOf v ≡ getD s 0 0 → valueBytes v ++ drop n s ≡ drop 8 s → keyAllowed (keyAt s 1) ≡ true → valueAllowed v ≡ true → FrontOf s
+  read-front : (v : Value) (n : ℕ) → 8 ≤ length s → kindByte v ≡ getD s 0 0 → valueBytes v ++ drop n s ≡ drop 8 s → keyAllowed (keyAt s 1) ≡ true → valueAllowed v ≡ true → FrontOf s
   unfolding cellAllowed
   read-front v n h k e a b =
       record { value = v; read = ap front (sym (cell-back v n h k e)) ∙ front-cell (record { key = keyAt s 1; value = v }) (drop n s) (both a b) }
 
   formed-integer : getD s 0 0 ≡ integerKind → 12 ≤ length s → keyAllowed (keyAt s 1) ≡ true → within integerLimit (fromComplement word (quadAt s 8)) ≡ true → FrontOf s
-  unfolding kindOf valueBytes valueAllowed
+  unfolding kindByte valueBytes valueAllowed
   formed-integer k h a e =
       read-front (integer (fromComplement word (quadAt s 8))) 12 (omega arith) (sym k) (rw (unsigned-signed word (quadAt s 8) (quad-below s bytes 8)) (quad-back s bytes 8 (omega arith))) a e
 
   formed-decimal : getD s 0 0 ≡ decimalKind → 16 ≤ length s → keyAllowed (keyAt s 1) ≡ true → within decimalLimit (fromComplement long (octetAt s 8)) ≡ true → FrontOf s
-  unfolding kindOf valueBytes valueAllowed
+  unfolding kindByte valueBytes valueAllowed
   formed-decimal k h a e =
       read-front (decimal (fromComplement long (octetAt s 8))) 16 (omega arith) (sym k) (rw (unsigned-signed long (octetAt s 8) (octet-below s bytes 8)) (octet-back s bytes 8 (omega arith))) a e
 
   formed-string : getD s 0 0 ≡ stringKind → 25 ≤ length s → keyAllowed (keyAt s 1) ≡ true → stringFormed s ≡ true → FrontOf s
-  unfolding kindOf valueBytes valueAllowed stringFormed
+  unfolding kindByte valueBytes valueAllowed stringFormed
   formed-string k h a e =
       let n = getD s 8 0 in
       let t = and-true (leb n 16) (printable (take n (drop 9 s)) && zeros (take (16 - n) (drop (9 + n) s))) e in
@@ -316,13 +316,13 @@ module _ (k : Key) (r : List ℕ) where
       ap (fromComplement long) (sym (octet-at (laid (decimal z)) 8 0) ∙ ap (λ (l : List ℕ). octetAt l 0) (value-behind (record { key = k; value = decimal z }) r)) ∙ decimals-sound .reads z r e
 
   formed-text : (s : List ℕ) → valueAllowed (string s) ≡ true → stringFormed (laid (string s)) ≡ true
-  unfolding valueAllowed cellBytes kindOf keyBytes valueBytes pair
+  unfolding valueAllowed cellBytes kindByte keyBytes valueBytes pair
   formed-text s e =
       let t = and-true (leb (length s) 16) (printable s) e in
       text-formed (laid (string s)) s r (append-assoc s (replicate (16 - length s) 0) r) refl (t .0) (t .1)
 
   formed-value : (v : Value) → valueAllowed v ≡ true → valueFormed (laid v) ≡ true
-  unfolding valueFormed kindOf valueAllowed
+  unfolding valueFormed kindByte valueAllowed
   formed-value (A.number (Q.Integer z)) e = rw (first-byte (record { key = k; value = integer z }) r, read-integer z e) e
   formed-value (A.number (Q.Decimal z)) e = rw (first-byte (record { key = k; value = decimal z }) r, read-decimal z e) e
   formed-value (string s) e = rw (first-byte (record { key = k; value = string s }) r) (formed-text s e)

@@ -12,10 +12,10 @@ use mathlib.Core.Logic.{⊎-elim}
 use Rattle.cells.specs.Cell.{number, keyAt}
 use Rattle.cells.specs.inner.Index.{keyIn, Sorted, Position, belowOf, boundOf}
 
-pub record Halved (b places : List ℕ) (count k low size : ℕ) : Type 0 where
+pub record Halved (b starts : List ℕ) (count k low size : ℕ) : Type 0 where
   pub few : low + size ≤ count
-  pub lower : Sorted b places count → (i : ℕ) → i < low → keyIn b places i < k
-  pub higher : Sorted b places count → (i : ℕ) → low + size ≤ i → i < count → k ≤ keyIn b places i
+  pub lower : Sorted b starts count → (i : ℕ) → i < low → keyIn b starts i < k
+  pub higher : Sorted b starts count → (i : ℕ) → low + size ≤ i → i < count → k ≤ keyIn b starts i
 
 -- ---- comparing without a branch
 
@@ -79,8 +79,8 @@ half-most h r l = one-cases (λ (x : ℕ). h * x ≤ h) r l (λ e. omega (arith,
 
 -- ---- a step
 
-module _ (b places : List ℕ) (count k : ℕ) where
-  pub halved-start : Halved b places count k 0 count
+module _ (b starts : List ℕ) (count k : ℕ) where
+  pub halved-start : Halved b starts count k 0 count
   halved-start =
       record {
         few = omega arith;
@@ -89,33 +89,33 @@ module _ (b places : List ℕ) (count k : ℕ) where
       }
 
   -- the keys up to m are at most that of m, and those from m on at least
-  at-most : Sorted b places count → (i m : ℕ) → i ≤ m → m < count → keyIn b places i ≤ keyIn b places m
+  at-most : Sorted b starts count → (i m : ℕ) → i ≤ m → m < count → keyIn b starts i ≤ keyIn b starts m
   at-most s i m h l =
       ⊎-elim
-      (λ (e : i ≡ m). omega (arith, ap (keyIn b places) e))
+      (λ (e : i ≡ m). omega (arith, ap (keyIn b starts) e))
       (λ (u : i < m). omega (arith, s .rises i m u l))
       (eq-or-lt-of-le h)
 
   -- x is what was read at m, and r how it compares with the bound
-  module _ (low size : ℕ) (w : Halved b places count k low size) (m at x r : ℕ) (l : low ≤ m) (h : m < low + size) (p : at ≡ getD places m 0) (f : at + 9 ≤ length b → x / 256 ≡ number (keyAt b (at + 1))) (bound : ℕ) (eb : bound ≡ boundOf k) (t : r ≤ 1) (g : x < 9223372036854775808 → bound < 9223372036854775808 → r ≡ belowOf x bound) where
-    compared : Sorted b places count → r ≡ belowOf (keyIn b places m) k
+  module _ (low size : ℕ) (w : Halved b starts count k low size) (m at x r : ℕ) (l : low ≤ m) (h : m < low + size) (p : at ≡ getD starts m 0) (f : at + 9 ≤ length b → x / 256 ≡ number (keyAt b (at + 1))) (bound : ℕ) (eb : bound ≡ boundOf k) (t : r ≤ 1) (g : x < 9223372036854775808 → bound < 9223372036854775808 → r ≡ belowOf x bound) where
+    compared : Sorted b starts count → r ≡ belowOf (keyIn b starts m) k
     compared s =
         let c : m < count = omega (arith, w .few) in
-        let q : x / 256 ≡ keyIn b places m = f (omega (arith, s .inside m c)) ∙ ap (λ (y : ℕ). number (keyAt b (y + 1))) p in
+        let q : x / 256 ≡ keyIn b starts m = f (omega (arith, s .inside m c)) ∙ ap (λ (y : ℕ). number (keyAt b (y + 1))) p in
         let u : x / 256 < 18014398509481984 = omega (arith, s .small m c) in
         g (omega arith) (omega (arith, bound-small k)) ∙ ap (belowOf x) eb ∙ bound-below x k u ∙ ap (λ (y : ℕ). belowOf y k) q
 
-    lower-here : r ≡ 1 → Sorted b places count → keyIn b places m < k
+    lower-here : r ≡ 1 → Sorted b starts count → keyIn b starts m < k
     lower-here e s =
-        below-cases (keyIn b places m < k) (keyIn b places m) k (λ u. u) (λ u. absurd (omega (arith, compared s, not-below (keyIn b places m) k u)))
+        below-cases (keyIn b starts m < k) (keyIn b starts m) k (λ u. u) (λ u. absurd (omega (arith, compared s, not-below (keyIn b starts m) k u)))
 
-    higher-here : r ≡ 0 → Sorted b places count → k ≤ keyIn b places m
+    higher-here : r ≡ 0 → Sorted b starts count → k ≤ keyIn b starts m
     higher-here e s =
-        below-cases (k ≤ keyIn b places m) (keyIn b places m) k (λ u. absurd (omega (arith, compared s, is-below (keyIn b places m) k u))) (λ u. u)
+        below-cases (k ≤ keyIn b starts m) (keyIn b starts m) k (λ u. absurd (omega (arith, compared s, is-below (keyIn b starts m) k u))) (λ u. u)
 
-    pub halved-step : (half : ℕ) → m + 1 ≡ low + half → half ≤ size → half + half ≤ size + 1 → Halved b places count k (low + half * r) (size - half)
+    pub halved-step : (half : ℕ) → m + 1 ≡ low + half → half ≤ size → half + half ≤ size + 1 → Halved b starts count k (low + half * r) (size - half)
     halved-step half e q v =
-        one-cases (λ (y : ℕ). Halved b places count k (low + half * y) (size - half)) r t
+        one-cases (λ (y : ℕ). Halved b starts count k (low + half * y) (size - half)) r t
         (λ o. rw (mul-one half) (record {
           few = omega (arith, w .few);
           lower = λ s i u. omega (arith, lower-here o s, at-most s i m (omega arith) (omega (arith, w .few)));
@@ -127,12 +127,12 @@ module _ (b places : List ℕ) (count k : ℕ) where
           higher = λ s i u z. omega (arith, higher-here o s, at-most s m i (omega arith) z);
         }))
 
-  pub halved-all : (low size : ℕ) → Halved b places count k low size → size ≤ 0 → Position b places count k low
+  pub halved-all : (low size : ℕ) → Halved b starts count k low size → size ≤ 0 → Position b starts count k low
   halved-all low size w e =
       record {
         first = λ s. record { few = omega (arith, w .few); lower = w .lower s; higher = λ i u v. w .higher s i (omega arith) v };
       }
 
   -- an index that has not the places of all cells
-  pub no-room : length places < count → Position b places count k 0
+  pub no-room : length starts < count → Position b starts count k 0
   no-room h = record { first = λ s. absurd (omega (arith, s .room)) }

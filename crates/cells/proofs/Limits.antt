@@ -18,7 +18,7 @@ use Rattle.meaning.specs.declared.question.Question.{Question}
 use Rattle.meaning.specs.declared.refusal.Refusal.the-variants.{BadRequest}
 use Rattle.cells.specs.declared.Answered.{Answered}
 use Rattle.cells.specs.Cell.{Cell, number, keyNumber, printable, valueAllowed, cellAllowed}
-use Rattle.cells.specs.Store.{allowed, held}
+use Rattle.cells.specs.Store.{allowed, cellsHeld}
 use Rattle.cells.specs.inner.Index.{Ready, Answers}
 use Rattle.cells.specs.Asking.{Query, theCell, highestRecord, highestEntry, queryOf, questionAllowed, lookup, found, highestOf, ofParameter, ofRecord, queryAnswer, answer, answeredAsk, refusedAsk, replied, askOf, meant}
 use Rattle.cells.proofs.BigEndian.{and-true}
@@ -92,13 +92,13 @@ module _ (P : Value → Type 0) (every : (v : Value) → valueAllowed v ≡ true
 
   pub ask-has : (b : List ℕ) (n : ℕ) (q : Question) → AnswerHas P (askOf b n q .answer)
   unfolding askOf replied answer
-  ask-has b n q = go (held b n) refl
+  ask-has b n q = go (cellsHeld b n) refl
     where
       by : (t : Bool) (cs : List Cell) → allowed cs ≡ true → AnswerHas P (cond t (answeredAsk (answer q cs)) (refusedAsk BadRequest) .answer)
       by true cs h = query-has (queryOf q) cs h
       by false cs h = tt
 
-      go : (o : Option (List Cell)) → held b n ≡ o → AnswerHas P (replied q o .answer)
+      go : (o : Option (List Cell)) → cellsHeld b n ≡ o → AnswerHas P (replied q o .answer)
       go none e = tt
       go (some cs) e = by (questionAllowed q) cs (held-some b n cs e .holds .valid .allowed)
 

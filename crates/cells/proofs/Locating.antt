@@ -10,8 +10,8 @@ use lib.Dec.{ltb, leb}
 use lib.ListN.{length, getD, take, drop, length-append, length-drop, take-append-drop}
 use lib.Seq.{getD-drop, drop-append-seam, getD-at, length-take-le}
 use Rattle.cells.specs.Bytes.{pairAt, quadAt, octetAt}
-use Rattle.cells.specs.Cell.{Cell, number, keyNumber, keyAt, cellAllowed, cellBytes, kindOf}
-use Rattle.cells.specs.Store.{encode, allowed, above, rising, cells, held}
+use Rattle.cells.specs.Cell.{Cell, number, keyNumber, keyAt, cellAllowed, cellBytes, kindByte}
+use Rattle.cells.specs.Store.{encode, allowed, above, rising, cells, cellsHeld}
 use Rattle.cells.specs.inner.Index.{offsets, Ready, keyIn, Sorted, First}
 use Rattle.cells.proofs.BigEndian.{and-true, key-at}
 use Rattle.cells.proofs.CellForm.{number-small, cell-key, cell-size, size-least, known-kind, key-allowed, value-allowed}
@@ -25,8 +25,8 @@ pub record HeldAs (b : List ℕ) (n : ℕ) (cs : List Cell) : Type 0 where
   pub most : n ≤ 65536
   pub holds : Holds (take n b) cs
 
-pub held-some : (b : List ℕ) (n : ℕ) (cs : List Cell) → held b n ≡ some cs → HeldAs b n cs
-unfolding held
+pub held-some : (b : List ℕ) (n : ℕ) (cs : List Cell) → cellsHeld b n ≡ some cs → HeldAs b n cs
+unfolding cellsHeld
 held-some b n cs e = go (leb n (length b) && leb n 65536) refl e
   where
     go : (t : Bool) → leb n (length b) && leb n 65536 ≡ t → cond t (cells (take n b)) none ≡ some cs → HeldAs b n cs
@@ -100,7 +100,7 @@ allowed-in cs xs c ys a e = allowed-at xs c ys (ap allowed (sym e) ∙ a)
 pub cell-least : (c : Cell) → cellAllowed c ≡ true → 12 ≤ length (cellBytes c)
 cell-least c a =
     let v = value-allowed c a in
-    omega (arith, cell-size (c .key) (c .value) v, size-least (kindOf (c .value)) (known-kind (c .value)))
+    omega (arith, cell-size (c .key) (c .value) v, size-least (kindByte (c .value)) (known-kind (c .value)))
 
 -- ---- the i-th cell in the bytes
 
@@ -127,7 +127,7 @@ module _ (b : List ℕ) (n : ℕ) (index : List ℕ) (count : ℕ) (cs : List Ce
       let y = p .right in
       let a = allowed-in cs x c y (held-some b n cs (r .holds) .holds .valid .allowed) (p .split) in
       let o : getD index i 0 ≡ length (encode x) =
-      r .places i h
+      r .starts i h
       ∙ ap (λ (l : List Cell). getD (offsets 0 l) i 0) (p .split)
       ∙ ap (λ (l : List ℕ). getD l i 0) (offsets-append x (c ∷ y) 0)
       ∙ getD-at (offsets 0 x) (0 + length (encode x)) (offsets (0 + length (encode x) + length (cellBytes c)) y) 0 i (length-offsets x 0 ∙ p .place)

@@ -13,8 +13,8 @@ use Rattle.meaning.specs.Answer as A
 use Rattle.meaning.specs.declared.question.Question.{Question}
 use Rattle.meaning.specs.declared.refusal.Refusal.the-variants.{BadRequest}
 use Rattle.cells.specs.Bytes.{pair}
-use Rattle.cells.specs.Cell.{Key, Cell, number, keyNumber, keyBytes, kindOf, valueBytes, cellBytes}
-use Rattle.cells.specs.Store.{encode, held}
+use Rattle.cells.specs.Cell.{Key, Cell, number, keyNumber, keyBytes, kindByte, valueBytes, cellBytes}
+use Rattle.cells.specs.Store.{encode, cellsHeld}
 use Rattle.cells.specs.Asking.{asked, questionAllowed, lookup, found, queryAnswer, answer, answeredAsk, refusedAsk, replied, askOf, cellStart, stringStart}
 use Rattle.cells.proofs.Questions.{by-query}
 use Rattle.cells.proofs.Locating.{held-some}
@@ -28,12 +28,12 @@ Stands b n i (highest m) = Unit {0}
 
 -- a string in its cell: behind kind, key and length
 string-in : (k : Key) (s r : List ℕ) → take (length s) (drop 9 (cellBytes (record { key = k; value = string s }) ++ r)) ≡ s
-unfolding cellBytes kindOf keyBytes valueBytes pair
+unfolding cellBytes kindByte keyBytes valueBytes pair
 string-in k s r =
     ap (take (length s)) (append-assoc s (replicate (16 - length s) 0) r) ∙ take-at s (replicate (16 - length s) 0 ++ r) (length s) refl
 
 string-long : (k : Key) (s : List ℕ) → 9 + length s ≤ length (cellBytes (record { key = k; value = string s }))
-unfolding cellBytes kindOf keyBytes valueBytes pair
+unfolding cellBytes kindByte keyBytes valueBytes pair
 string-long k s = omega (arith, length-append s (replicate (16 - length s) 0))
 
 module _ (b : List ℕ) (n : ℕ) where
@@ -70,11 +70,11 @@ module _ (b : List ℕ) (n : ℕ) where
       go false later = moved (found (lookup k cs)) (omega arith) later
 
 -- Whatever the store holds, a string that is answered stands where `stringStart` says.
-pub string-stands : (b : List ℕ) (n : ℕ) (q : Question) → Stands b n (stringStart q (held b n)) (askOf b n q .answer)
+pub string-stands : (b : List ℕ) (n : ℕ) (q : Question) → Stands b n (stringStart q (cellsHeld b n)) (askOf b n q .answer)
 unfolding askOf replied answer queryAnswer stringStart
-string-stands b n q = go (held b n) refl
+string-stands b n q = go (cellsHeld b n) refl
   where
-    go : (o : Option (List Cell)) → held b n ≡ o → Stands b n (stringStart q o) (replied q o .answer)
+    go : (o : Option (List Cell)) → cellsHeld b n ≡ o → Stands b n (stringStart q o) (replied q o .answer)
     go none e = tt
     go (some cs) e = by (questionAllowed q)
       where

@@ -18,7 +18,7 @@ use Rattle.cells.specs.declared.Answered.the-variants.{Missing, Integer,
 use Rattle.cells.specs.declared.index.Indexed.{Indexed}
 use Rattle.cells.specs.declared.index.Indexed.the-variants.{Count, BadStore}
 use Rattle.cells.specs.Cell.{Cell, cellAllowed, cellBytes}
-use Rattle.cells.specs.Store.{encode, allowed, held}
+use Rattle.cells.specs.Store.{encode, allowed, cellsHeld}
 use Rattle.cells.specs.inner.Index.{offsets, counted, Filled, Indexes, Ready, InStore, Answers}
 use Rattle.cells.specs.Asking.{questionAllowed, answer, refusedWith, replied, askOf, stringStart, handed, askedOf, meant}
 use Rattle.cells.proofs.BigEndian.{and-true}
@@ -68,12 +68,12 @@ encode-least (c ∷ cs) a =
     let t = and-true (cellAllowed c) (allowed cs) a in
     omega (arith, length-append (cellBytes c) (encode cs), cell-least c (t .0), encode-least cs (t .1))
 
-module _ (b : List ℕ) (n : ℕ) (p p′ : List ℕ) (r : Indexed) (i : Indexes p (held b n) p′ r) where
-  pub not-held : r ≡ BadStore → held b n ≡ none
-  not-held e = none-counted (held b n) (sym e ∙ i .told)
+module _ (b : List ℕ) (n : ℕ) (p p′ : List ℕ) (r : Indexed) (i : Indexes p (cellsHeld b n) p′ r) where
+  pub not-held : r ≡ BadStore → cellsHeld b n ≡ none
+  not-held e = none-counted (cellsHeld b n) (sym e ∙ i .told)
 
-  pub built : (count : ℕ) → r ≡ Count count → Found (held b n) p p′ count
-  built count e = some-counted (held b n) p p′ count (sym e ∙ i .told) (i .filled)
+  pub built : (count : ℕ) → r ≡ Count count → Found (cellsHeld b n) p p′ count
+  built count e = some-counted (cellsHeld b n) p p′ count (sym e ∙ i .told) (i .filled)
 
   -- an index with room for 5,461 places serves for every store
   pub index-ready : (count : ℕ) → r ≡ Count count → 5461 ≤ length p → (cs : List Cell) × Ready b n p′ count cs
@@ -89,7 +89,7 @@ module _ (b : List ℕ) (n : ℕ) (p p′ : List ℕ) (r : Indexed) (i : Indexes
           holds = f .held;
           tally = f .tally;
           room = omega (arith, f .tally, ap length s, length-append (offsets 0 cs) (drop (0 + length (offsets 0 cs)) p));
-          places = λ j u. ap (λ (x : List ℕ). getD x j 0) s ∙ List·getD-append (offsets 0 cs) (drop (0 + length (offsets 0 cs)) p) 0 j (omega (arith, f .tally));
+          starts = λ j u. ap (λ (x : List ℕ). getD x j 0) s ∙ List·getD-append (offsets 0 cs) (drop (0 + length (offsets 0 cs)) p) 0 j (omega (arith, f .tally));
         },
       )
 

@@ -10,7 +10,7 @@ use lib.Dec.{eqb}
 use lib.ListN.{length, drop-of-length-le}
 use Rattle.cells.specs.declared.request.Request.the-variants as R
 use Rattle.cells.specs.Bytes.{begins, equalBytes}
-use Rattle.cells.specs.Cell.{Key, Cell, number, keyAllowed, keyAt, keyBytes, cellAllowed, cellBytes, cellOf, kindOf, passing, front, wholeCell, wholeKey}
+use Rattle.cells.specs.Cell.{Key, Cell, number, keyAllowed, keyAt, keyBytes, cellAllowed, cellBytes, cellOf, kindByte, passing, front, wholeCell, wholeKey}
 use Rattle.cells.specs.inner.Tests.{sizeFound, frontSize, Sized}
 use Rattle.cells.specs.inner.Request.{requested, requestedKey, CellAsked, KeyAsked}
 use Rattle.cells.proofs.BigEndian.{Bytes, and-true, both, begins-self, begins-says}
@@ -72,7 +72,7 @@ module _ (s : List ℕ) (size : ℕ) (z : Sized s size) where
           rw (ap wholeCell e ∙ whole-cell c a)
           (record {
             told = ap R.Key (k ∙ ap (λ (x : List ℕ). number (keyAt x 1)) (e ∙ sym (append-nil (cellBytes c))) ∙ ap number (cell-key c []));
-            short = λ d q. omega (arith, ap length e, cell-size (c .key) (c .value) (value-allowed c a), size-most (kindOf (c .value)));
+            short = λ d q. omega (arith, ap length e, cell-size (c .key) (c .value) (value-allowed c a), size-most (kindByte (c .value)));
           })
 
       go : (o : Option Cell) → front s ≡ o → CellAsked s (wholeCell s) (R.Key key)

@@ -17,7 +17,7 @@ use mir.ValLaws.{toZ-ofZ}
 use Rattle.meaning.specs.Answer.{integer, decimal, string, cell}
 use Rattle.cells.specs.declared.Answered.the-variants.{Missing, Integer, Decimal, Text}
 use Rattle.cells.specs.Bytes.{quadAt, octetAt, fromComplement, word, long}
-use Rattle.cells.specs.Cell.{Kind, integers, decimals, strings, kinds, rowIn, kindOf, integerKind, decimalKind, Cell, cellAllowed, cellBytes, cellBy, cellOf}
+use Rattle.cells.specs.Cell.{Kind, integers, decimals, strings, kinds, rowIn, kindByte, integerKind, decimalKind, Cell, cellAllowed, cellBytes, cellBy, cellOf}
 use Rattle.cells.specs.inner.Tests.{sizeOf}
 use Rattle.cells.specs.Asking.{meant}
 use Rattle.cells.specs.inner.Index.{InStore, ValueAt, SizeAt}
@@ -76,7 +76,7 @@ module _ (b : List ℕ) (at : ℕ) where
 
   -- the cell that begins there
   module _ (c : Cell) (rest : List ℕ) (a : cellAllowed c ≡ true) (e : drop at b ≡ cellBytes c ++ rest) where
-    kind-is : getD b at 0 ≡ kindOf (c .value)
+    kind-is : getD b at 0 ≡ kindByte (c .value)
     kind-is =
         let z : at + 0 ≡ at = add-zero at in
         ap (λ (i : ℕ). getD b i 0) (sym z) ∙ sym (getD-drop at b 0 0) ∙ ap (λ (l : List ℕ). getD l 0 0) e ∙ first-byte c rest

@@ -15,7 +15,7 @@ use Rattle.cells.specs.declared.index.Indexed.{Indexed}
 use Rattle.cells.specs.declared.index.Indexed.the-variants.{Count, BadStore}
 use Rattle.cells.specs.Cell.{Cell, number, keyNumber, keyAt, cellAllowed, cellBytes, front}
 use Rattle.cells.specs.inner.Tests.{sizeFound, frontSize, Sized}
-use Rattle.cells.specs.Store.{encode, allowed, above, rising, cells, held}
+use Rattle.cells.specs.Store.{encode, allowed, above, rising, cells, cellsHeld}
 use Rattle.cells.specs.inner.Index.{offsets, counted, Filled, Indexes}
 use Rattle.cells.proofs.BigEndian.{and-true, both, append-same}
 use Rattle.cells.proofs.CellForm.{cell-key, front-cell, Front, front-some}
@@ -115,22 +115,22 @@ unfolding frontSize sizeFound
 size-none s n h e = h ∙ ap sizeFound e
 
 -- The bytes up to `at` are those of the cells read, whose places are in the index; the next key is `least` at least.
-pub record Walked (bs places₀ : List ℕ) (at count least : ℕ) (places : List ℕ) : Type 0 where
+pub record Walked (bs places₀ : List ℕ) (at count least : ℕ) (starts : List ℕ) : Type 0 where
   pub read : List Cell
   pub bytes : bs ≡ encode read ++ drop at bs
   pub place : at ≡ length (encode read)
   pub inside : at ≤ length bs
   pub tally : count ≡ length read
   pub few : count ≤ at
-  pub index : places ≡ sets places₀ 0 (offsets 0 read)
-  pub size : length places ≡ length places₀
+  pub index : starts ≡ sets places₀ 0 (offsets 0 read)
+  pub size : length starts ≡ length places₀
   pub valid : Valid read
   pub below : Below least read
   pub next : (c : Cell) (cs : List Cell) → rising (read ++ (c ∷ cs)) ≡ true → least ≤ keyNumber c
 
-pub walk-start : (bs places : List ℕ) → Walked bs places 0 0 0 places
+pub walk-start : (bs starts : List ℕ) → Walked bs starts 0 0 0 starts
 unfolding encode offsets allowed rising
-walk-start bs places =
+walk-start bs starts =
     record {
       read = [];
       bytes = refl;
@@ -145,9 +145,9 @@ walk-start bs places =
       next = λ c cs e. omega arith;
     }
 
-module _ (bs places₀ : List ℕ) (at count least : ℕ) (places : List ℕ) (w : Walked bs places₀ at count least places) where
+module _ (bs places₀ : List ℕ) (at count least : ℕ) (starts : List ℕ) (w : Walked bs places₀ at count least starts) where
   -- at the end
-  pub walk-end : length bs ≤ at → Indexes places₀ (cells bs) places (Count count)
+  pub walk-end : length bs ≤ at → Indexes places₀ (cells bs) starts (Count count)
   unfolding counted Filled
   walk-end h =
       let e : bs ≡ encode (w .read) = w .bytes ∙ ap (λ (l : List ℕ). encode (w .read) ++ l) (drop-of-length-le bs h) ∙ append-nil (encode (w .read)) in
@@ -163,7 +163,7 @@ module _ (bs places₀ : List ℕ) (at count least : ℕ) (places : List ℕ) (w
     left : drop (at + size) bs ≡ drop (length (cellBytes c)) (drop at bs)
     left = ap (λ (n : ℕ). drop (at + n) bs) z ∙ sym (drop-drop (length (cellBytes c)) at bs)
 
-    noted : set places count at ≡ sets places₀ 0 (offsets 0 (w .read ++ (c ∷ [])))
+    noted : set starts count at ≡ sets places₀ 0 (offsets 0 (w .read ++ (c ∷ [])))
     unfolding offsets
     noted =
         let n : count ≡ 0 + length (offsets 0 (w .read)) = omega (arith, w .tally, length-offsets (w .read) 0) in
@@ -172,7 +172,7 @@ module _ (bs places₀ : List ℕ) (at count least : ℕ) (places : List ℕ) (w
         ∙ sym (sets-append (offsets 0 (w .read)) places₀ 0 ((0 + length (encode (w .read))) ∷ []))
         ∙ ap (sets places₀ 0) (sym (offsets-append (w .read) (c ∷ []) 0))
 
-    one-more : 1 ≤ size → Walked bs places₀ (at + size) (count + 1) (key + 1) (set places count at)
+    one-more : 1 ≤ size → Walked bs places₀ (at + size) (count + 1) (key + 1) (set starts count at)
     unfolding allowed
     one-more h =
         record {
@@ -183,7 +183,7 @@ module _ (bs places₀ : List ℕ) (at count least : ℕ) (places : List ℕ) (w
           tally = omega (arith, w .tally, length-append (w .read) (c ∷ []));
           few = omega (arith, w .few);
           index = noted;
-          size = length-set places count at ∙ w .size;
+          size = length-set starts count at ∙ w .size;
           valid = record {
             allowed = allowed-append (w .read) (c ∷ []) (w .valid .allowed) (both (f .allowed) refl);
             rising = rising-snoc (w .read) c (w .valid .rising) (below-more least (keyNumber c) (w .read) (omega arith) (w .below));
@@ -223,8 +223,8 @@ module _ (bs places₀ : List ℕ) (at count least : ℕ) (places : List ℕ) (w
       s : Sized (drop at bs) size
       s = subst (λ (x : List ℕ). Sized x size) whole cut
 
-      pub walk-no-cell : size < 1 → Indexes places₀ (cells bs) places BadStore
-      walk-no-cell h = refused (none-held (λ c cs e r b. no-size c e)) places
+      pub walk-no-cell : size < 1 → Indexes places₀ (cells bs) starts BadStore
+      walk-no-cell h = refused (none-held (λ c cs e r b. no-size c e)) starts
         where
           no-size : (c : Cell) → front (drop at bs) ≡ some c → ⊥
           no-size c e = omega (arith, size-found (drop at bs) size c (s .size) e, cell-some c)
@@ -233,50 +233,50 @@ module _ (bs places₀ : List ℕ) (at count least : ℕ) (places : List ℕ) (w
         key-of : (c : Cell) (r : List ℕ) → drop at bs ≡ cellBytes c ++ r → key ≡ keyNumber c
         key-of c r b = k ∙ ap (λ (l : List ℕ). number (keyAt l 1)) (whole ∙ b) ∙ ap number (cell-key c r)
 
-        pub walk-low-key : key < least → Indexes places₀ (cells bs) places BadStore
-        walk-low-key h = refused (none-held (λ c cs e r b. omega (arith, w .next c cs r, key-of c (encode cs) b))) places
+        pub walk-low-key : key < least → Indexes places₀ (cells bs) starts BadStore
+        walk-low-key h = refused (none-held (λ c cs e r b. omega (arith, w .next c cs r, key-of c (encode cs) b))) starts
 
-        pub walk-more : 1 ≤ size → least ≤ key → (places′ : List ℕ) → places′ ≡ set places count at → Walked bs places₀ (at + size) (count + 1) (key + 1) places′
+        pub walk-more : 1 ≤ size → least ≤ key → (places′ : List ℕ) → places′ ≡ set starts count at → Walked bs places₀ (at + size) (count + 1) (key + 1) places′
         walk-more h l places′ p = go (front (drop at bs)) refl
           where
             go : (o : Option Cell) → front (drop at bs) ≡ o → Walked bs places₀ (at + size) (count + 1) (key + 1) places′
             go none e = absurd (omega (arith, size-none (drop at bs) size (s .size) e))
             go (some c) e =
                 let f = front-some (drop at bs) c e in
-                let m : Walked bs places₀ (at + size) (count + 1) (key + 1) (set places count at) =
+                let m : Walked bs places₀ (at + size) (count + 1) (key + 1) (set starts count at) =
                 one-more size key c f (size-found (drop at bs) size c (s .size) e) (key-of c (drop (length (cellBytes c)) (drop at bs)) (f .bytes)) l (s .inside) h in
                 subst (λ (x : List ℕ). Walked bs places₀ (at + size) (count + 1) (key + 1) x) (sym p) m
 
 -- ---- the store as a buffer and a length
 
 module _ (b : List ℕ) (n : ℕ) where
-  held-none : (places places′ : List ℕ) → held b n ≡ none → Indexes places (held b n) places′ BadStore
+  held-none : (starts places′ : List ℕ) → cellsHeld b n ≡ none → Indexes starts (cellsHeld b n) places′ BadStore
   unfolding counted Filled
-  held-none places places′ e = rw e (record { told = refl; filled = tt })
+  held-none starts places′ e = rw e (record { told = refl; filled = tt })
 
-  pub held-past : length b < n → held b n ≡ none
-  unfolding held
+  pub held-past : length b < n → cellsHeld b n ≡ none
+  unfolding cellsHeld
   held-past h = rw (lt-leb n (length b) h)
 
-  pub held-over : 65536 < n → held b n ≡ none
-  unfolding held
+  pub held-over : 65536 < n → cellsHeld b n ≡ none
+  unfolding cellsHeld
   held-over h = go (leb n (length b))
     where
       go : (t : Bool) → cond (t && leb n 65536) (cells (take n b)) none ≡ none
       go true = rw (lt-leb n 65536 h)
       go false = refl
 
-  pub held-cells : n ≤ length b → n ≤ 65536 → held b n ≡ cells (take n b)
-  unfolding held
+  pub held-cells : n ≤ length b → n ≤ 65536 → cellsHeld b n ≡ cells (take n b)
+  unfolding cellsHeld
   held-cells h k = rw (le-leb n (length b) h, le-leb n 65536 k)
 
-  pub build-past : (places : List ℕ) → length b < n → Indexes places (held b n) places BadStore
-  build-past places h = held-none places places (held-past h)
+  pub build-past : (starts : List ℕ) → length b < n → Indexes starts (cellsHeld b n) starts BadStore
+  build-past starts h = held-none starts starts (held-past h)
 
-  pub build-over : (places : List ℕ) → 65536 < n → Indexes places (held b n) places BadStore
-  build-over places h = held-none places places (held-over h)
+  pub build-over : (starts : List ℕ) → 65536 < n → Indexes starts (cellsHeld b n) starts BadStore
+  build-over starts h = held-none starts starts (held-over h)
 
-  pub build-walk : (places places′ : List ℕ) (r : Indexed) → n ≤ length b → n ≤ 65536 → Indexes places (cells (take (n - 0) b)) places′ r → Indexes places (held b n) places′ r
-  build-walk places places′ r h k w =
+  pub build-walk : (starts places′ : List ℕ) (r : Indexed) → n ≤ length b → n ≤ 65536 → Indexes starts (cells (take (n - 0) b)) places′ r → Indexes starts (cellsHeld b n) places′ r
+  build-walk starts places′ r h k w =
       let z : n - 0 ≡ n = omega arith in
-      subst (λ (o : Option (List Cell)). Indexes places o places′ r) (ap (λ (m : ℕ). cells (take m b)) z ∙ sym (held-cells h k)) w
+      subst (λ (o : Option (List Cell)). Indexes starts o places′ r) (ap (λ (m : ℕ). cells (take m b)) z ∙ sym (held-cells h k)) w

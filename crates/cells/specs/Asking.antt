@@ -18,7 +18,7 @@ use Rattle.cells.specs.declared.Answered.{Answered}
 use Rattle.cells.specs.declared.Answered.the-variants.{Missing, Integer, Decimal, Text, Highest}
 use Rattle.cells.specs.declared.Asked.{Asked}
 use Rattle.cells.specs.Cell.{Key, keyOf, Cell, number, keyNumber, keyAllowed, cellBytes}
-use Rattle.cells.specs.Store.{held}
+use Rattle.cells.specs.Store.{cellsHeld}
 
 -- the key that the four numbers are
 abbrev pub asked : Question → Key
@@ -113,7 +113,7 @@ replied q none = refusedAsk BadStore
 replied q (some cs) = cond (questionAllowed q) (answeredAsk (answer q cs)) (refusedAsk BadRequest)
 
 unfoldable pub askOf : List ℕ → ℕ → Question → Reply
-askOf b n q = replied q (held b n)
+askOf b n q = replied q (cellsHeld b n)
 
 -- where the cell of a key begins in the store: behind the cells before it
 unfoldable pub cellStart : ℕ → List Cell → ℕ
@@ -136,7 +136,7 @@ handed i (highest n) = Highest n
 
 -- "Ask answers one question."
 unfoldable pub askedOf : List ℕ → ℕ → Question → Asked
-askedOf b n q = record { end = askOf b n q .end; answer = handed (stringStart q (held b n)) (askOf b n q .answer) }
+askedOf b n q = record { end = askOf b n q .end; answer = handed (stringStart q (cellsHeld b n)) (askOf b n q .answer) }
 
 -- what an answer of the code means: a string is a part of the store
 unfoldable pub meant : List ℕ → Answered → Answer

@@ -113,24 +113,24 @@ rowIn [] b = none
 rowIn (k ∷ ks) b = cond (eqb b (k .byte)) (some k) (rowIn ks b)
 
 -- a value, as what its row holds
-pub record Held : Type 1 where
+pub record Kinded : Type 1 where
   pub kind : Kind
   pub body : kind .Body
 
-abbrev pub heldIn : Value → Held
-heldIn (A.number (Q.Integer z)) = record { kind = integers; body = z }
-heldIn (A.number (Q.Decimal z)) = record { kind = decimals; body = z }
-heldIn (string t) = record { kind = strings; body = t }
+abbrev pub kindAndBody : Value → Kinded
+kindAndBody (A.number (Q.Integer z)) = record { kind = integers; body = z }
+kindAndBody (A.number (Q.Decimal z)) = record { kind = decimals; body = z }
+kindAndBody (string t) = record { kind = strings; body = t }
 
 -- the columns of a value's row
-unfoldable pub kindOf : Value → ℕ
-kindOf v = heldIn v .kind .byte
+unfoldable pub kindByte : Value → ℕ
+kindByte v = kindAndBody v .kind .byte
 
 unfoldable pub valueAllowed : Value → Bool
-valueAllowed v = heldIn v .kind .allowed (heldIn v .body)
+valueAllowed v = kindAndBody v .kind .allowed (kindAndBody v .body)
 
 unfoldable pub valueBytes : Value → List ℕ
-valueBytes v = heldIn v .kind .bytes (heldIn v .body)
+valueBytes v = kindAndBody v .kind .bytes (kindAndBody v .body)
 
 abbrev pub integerKind : ℕ
 integerKind = integers .byte
@@ -155,7 +155,7 @@ unfoldable pub cellAllowed : Cell → Bool
 cellAllowed c = keyAllowed (c .key) && valueAllowed (c .value)
 
 unfoldable pub cellBytes : Cell → List ℕ
-cellBytes c = kindOf (c .value) ∷ (keyBytes (c .key) ++ valueBytes (c .value))
+cellBytes c = kindByte (c .value) ∷ (keyBytes (c .key) ++ valueBytes (c .value))
 
 -- The key at a place of the bytes, and the cell of a row: its key stands behind the byte of kind, its value behind the key.
 unfoldable pub keyAt : List ℕ → ℕ → Key

@@ -10,7 +10,7 @@ use Rattle.meaning.specs.Answer.{Value, integer, decimal, string, missing, cell
 use Rattle.meaning.specs.declared.question.Question.{Question}
 use Rattle.numbers.specs.Range.{within}
 use Rattle.cells.specs.Bytes.{pair, quad, octet, pairAt, quadAt, octetAt, inComplement, fromComplement, begins}
-use Rattle.cells.specs.Cell.{Key, Cell, between, keyAllowed, keyBytes, number, each, valueAllowed, cellAllowed, kindOf, valueBytes, cellBytes, keyAt, cellBy, cellOf, passing, front}
+use Rattle.cells.specs.Cell.{Key, Cell, between, keyAllowed, keyBytes, number, each, valueAllowed, cellAllowed, kindByte, valueBytes, cellBytes, keyAt, cellBy, cellOf, passing, front}
 use Rattle.cells.specs.Store.{encode, above, rising, before, cellRun, ordered, cells}
 use Rattle.cells.specs.Asking.{lookup, found, unused, queryOf, queryAllowed, questionAllowed, highestOf, ofParameter, ofRecord, queryAnswer, answer, cellStart, stringStart}
 
@@ -79,7 +79,7 @@ unfolding
     each
     valueAllowed
     cellAllowed
-    kindOf
+    kindByte
     valueBytes
     cellBytes
     keyAt

@@ -53,10 +53,10 @@ unfoldable pub cells : List ℕ → Option (List Cell)
 cells s = ordered (cellRun (length s) s)
 
 -- The store handed in as a buffer and a length. 1: "The store breaks its form or is longer than its buffer."
-unfoldable pub held : List ℕ → ℕ → Option (List Cell)
-held b n = cond (leb n (length b) && leb n capacity) (cells (take n b)) none
+unfoldable pub cellsHeld : List ℕ → ℕ → Option (List Cell)
+cellsHeld b n = cond (leb n (length b) && leb n capacity) (cells (take n b)) none
 
 -- whether it is in form
-unfoldable pub isHeld : Option (List Cell) → Bool
-isHeld none = false
-isHeld (some cs) = true
+unfoldable pub holdsCells : Option (List Cell) → Bool
+holdsCells none = false
+holdsCells (some cs) = true

@@ -18,11 +18,11 @@ const KEYS_ALLOWED: u64 = 18014398509481984;
 const HIGHEST_BIT: u64 = 9223372036854775808;
 
 // Where the i-th cell begins; 0 past the index.
-pub fn place_of(places: &[u16], i: usize) -> usize
-    ensures { λ r. ⌜ r ≡ getD (now (places .entry)) i 0 ⌝ }
+pub fn place_of(starts: &[u16], i: usize) -> usize
+    ensures { λ r. ⌜ r ≡ getD (now (starts .entry)) i 0 ⌝ }
 {
-    if i < places.len() {
-        return wide_place(places[i]);
+    if i < starts.len() {
+        return wide_place(starts[i]);
     }
     0
 }
@@ -81,10 +81,10 @@ fn bound_of(key: u64) -> u64
 }
 
 // The first cell whose key is not below a number, by halving; the count where there is none.
-pub fn position(store: &[u8], places: &[u16], count: usize, key: u64) -> usize
-    ensures { λ r. ⌜ Position (now (store .entry)) (now (places .entry)) count key r ⌝ }
+pub fn position(store: &[u8], starts: &[u16], count: usize, key: u64) -> usize
+    ensures { λ r. ⌜ Position (now (store .entry)) (now (starts .entry)) count key r ⌝ }
 {
-    if places.len() < count {
+    if starts.len() < count {
         return 0;
     }
     let bound = bound_of(key);
@@ -92,7 +92,7 @@ pub fn position(store: &[u8], places: &[u16], count: usize, key: u64) -> usize
     let mut size = count;
     while 0 < size {
         let half = size - size / 2;
-        let at = wide_place(places[low + half - 1]);
+        let at = wide_place(starts[low + half - 1]);
         low += half * below(key_and_byte(store, at), bound);
         size -= half;
     }

@@ -4,7 +4,7 @@ use crate::form;
 ghost use mathlib.Core.Path.{_≡_};
 ghost use Prim.Native.Nat.{_+_, _≤_, _<_};
 ghost use lib.ListN.{length, set};
-ghost use Rattle.cells.specs.Store.{cells, held};
+ghost use Rattle.cells.specs.Store.{cells, cellsHeld};
 ghost use Rattle.cells.specs.inner.Index.{Indexes};
 
 // What the walk found: so many cells, or a store out of form.
@@ -14,19 +14,19 @@ pub enum Indexed {
 }
 
 // Writes down a place, where the list has room for it.
-fn note(places: &mut [u16], count: usize, at: usize)
+fn note(starts: &mut [u16], count: usize, at: usize)
     requires { ⌜ at < 65536 ⌝ }
-    ensures { λ _. ⌜ now (places .exit) ≡ set (now (places .entry)) count at ⌝ }
+    ensures { λ _. ⌜ now (starts .exit) ≡ set (now (starts .entry)) count at ⌝ }
 {
-    if count < places.len() {
-        places[count] = at as u16;
+    if count < starts.len() {
+        starts[count] = at as u16;
         return;
     }
 }
 
-fn walk(run: &[u8], places: &mut [u16]) -> Indexed
+fn walk(run: &[u8], starts: &mut [u16]) -> Indexed
     requires { ⌜ length (now run) ≤ 65536 ⌝ }
-    ensures { λ r. ⌜ Indexes (now (places .entry)) (cells (now (run .entry))) (now (places .exit)) r ⌝ }
+    ensures { λ r. ⌜ Indexes (now (starts .entry)) (cells (now (run .entry))) (now (starts .exit)) r ⌝ }
 {
     let mut at = 0;
     let mut count = 0;
@@ -41,7 +41,7 @@ fn walk(run: &[u8], places: &mut [u16]) -> Indexed
         if key < least {
             return Indexed::BadStore;
         }
-        note(places, count, at);
+        note(starts, count, at);
         least = key + 1;
         at += size;
         count += 1;
@@ -50,8 +50,8 @@ fn walk(run: &[u8], places: &mut [u16]) -> Indexed
 }
 
 // Checks the form of a store, a buffer and a length, and writes down where each cell begins.
-pub fn build(store: &[u8], len: usize, places: &mut [u16]) -> Indexed
-    ensures { λ r. ⌜ Indexes (now (places .entry)) (held (now (store .entry)) len) (now (places .exit)) r ⌝ }
+pub fn build(store: &[u8], len: usize, starts: &mut [u16]) -> Indexed
+    ensures { λ r. ⌜ Indexes (now (starts .entry)) (cellsHeld (now (store .entry)) len) (now (starts .exit)) r ⌝ }
 {
     if store.len() < len {
         return Indexed::BadStore;
@@ -59,5 +59,5 @@ pub fn build(store: &[u8], len: usize, places: &mut [u16]) -> Indexed
     if 65536 < len {
         return Indexed::BadStore;
     }
-    walk(&store[0..len], places)
+    walk(&store[0..len], starts)
 }

@@ -39,8 +39,8 @@ pub struct Asked {
 pub fn ask(store: &[u8], len: usize, question: Question) -> Asked
     ensures { λ r. ⌜ r ≡ askedOf (now (store .entry)) len question ⌝ }
 {
-    let mut places = [0u16; 5461];
-    let Indexed::Count(count) = index::build(store, len, &mut places) else {
+    let mut starts = [0u16; 5461];
+    let Indexed::Count(count) = index::build(store, len, &mut starts) else {
         return Asked {
             end: Ended::Halted(Halt::Refused(Refusal::BadStore), 0),
             answer: Answered::Missing,
@@ -52,7 +52,7 @@ pub fn ask(store: &[u8], len: usize, question: Question) -> Asked
             answer: Answered::Missing,
         };
     }
-    let answer = question::answer(store, &places, count, question);
+    let answer = question::answer(store, &starts, count, question);
     Asked {
         end: Ended::Finished,
         answer: answer,

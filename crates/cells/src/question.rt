@@ -57,14 +57,14 @@ fn number_of(datasource: u32, parameter: u32, record_number: u32, entry: u32) ->
 }
 
 // Kind 1: the value of the cell with a key.
-fn cell_answer(store: &[u8], places: &[u16], count: usize, key: u64) -> Answered
-    ensures { λ r. ⌜ CellAnswer (now (store .entry)) (now (places .entry)) count key r ⌝ }
+fn cell_answer(store: &[u8], starts: &[u16], count: usize, key: u64) -> Answered
+    ensures { λ r. ⌜ CellAnswer (now (store .entry)) (now (starts .entry)) count key r ⌝ }
 {
-    let i = find::position(store, places, count, key);
+    let i = find::position(store, starts, count, key);
     if count <= i {
         return Answered::Missing;
     }
-    let at = find::place_of(places, i);
+    let at = find::place_of(starts, i);
     if find::has_key(store, at, key) {
         return value::value_at(store, at);
     }
@@ -92,15 +92,15 @@ fn offset_of(kind: u32) -> usize
 }
 
 // Kinds 2 and 3: the number at an offset in the last of the cells whose keys lie from `low` up to `end`, 0 if there is none.
-fn highest(store: &[u8], places: &[u16], count: usize, low: u64, end: u64, offset: usize) -> u32
+fn highest(store: &[u8], starts: &[u16], count: usize, low: u64, end: u64, offset: usize) -> u32
     requires { ⌜ (offset ≤ 6) × (low < 72057594037927936) ⌝ }
-    ensures { λ r. ⌜ Highest (now (store .entry)) (now (places .entry)) count low end offset r ⌝ }
+    ensures { λ r. ⌜ Highest (now (store .entry)) (now (starts .entry)) count low end offset r ⌝ }
 {
-    let i = find::position(store, places, count, end);
+    let i = find::position(store, starts, count, end);
     if i < 1 {
         return 0;
     }
-    let at = find::place_of(places, i - 1);
+    let at = find::place_of(starts, i - 1);
     if find::key_and_byte(store, at) < low * 256 {
         return 0;
     }
@@ -108,8 +108,8 @@ fn highest(store: &[u8], places: &[u16], count: usize, low: u64, end: u64, offse
 }
 
 // The answer to a question over the index of a store; a question out of its limits is answered missing.
-pub fn answer(store: &[u8], places: &[u16], count: usize, question: Question) -> Answered
-    ensures { λ r. ⌜ Answers (now (store .entry)) (now (places .entry)) count question r ⌝ }
+pub fn answer(store: &[u8], starts: &[u16], count: usize, question: Question) -> Answered
+    ensures { λ r. ⌜ Answers (now (store .entry)) (now (starts .entry)) count question r ⌝ }
 {
     if !allowed(question) {
         return Answered::Missing;
@@ -122,9 +122,9 @@ pub fn answer(store: &[u8], places: &[u16], count: usize, question: Question) ->
         question.entry,
     );
     if kind == 1 {
-        return cell_answer(store, places, count, key);
+        return cell_answer(store, starts, count, key);
     }
     let end = key + reach_of(kind);
     let offset = offset_of(kind);
-    Answered::Highest(highest(store, places, count, key, end, offset))
+    Answered::Highest(highest(store, starts, count, key, end, offset))
 }

@@ -21,7 +21,7 @@ use Rattle.values.proofs.Keeping.{strings-kept}
 use Rattle.commands.specs.declared.settle.Verdict.the-variants as Ve
 use Rattle.commands.specs.declared.settle.Phrase.{Phrase}
 use Rattle.commands.specs.declared.settle.Phrase.the-variants.{String, NoString}
-use Rattle.commands.specs.Setting.{stored, stringNew}
+use Rattle.commands.specs.Setting.{asVariable, stringNew}
 use Rattle.commands.specs.Settling.{settled}
 use Rattle.commands.specs.inner.Taking.{TakesText}
 use Rattle.commands.specs.inner.Assigning.{Rowed, PutsString, StoresString}
@@ -110,12 +110,12 @@ module _ (line store : List ℕ) (rows : List (List ℕ)) (words : List ℕ) (n 
   Here = strings line store rows
 
   pub string-refused : (e : Refusal) → phrase ≡ NoString e → StoresString line store rows words n w rows words (Ve.Refused e)
-  unfolding stored stringNew
+  unfolding asVariable stringNew
   string-refused e h = record { same = rw (← (d .same Here), h); held = k; above = λ i k g. refl }
 
   module _ (t : Text) (h : phrase ≡ String t) (row found : List ℕ) (r : row ≡ rowFor rows (t .source)) (f : found ≡ take (t .count) (drop (t .at) (chosen line store row (t .source)))) where
     pub string-stored : (copy : List ℕ) (count : ℕ) → copy ≡ sets zeros 0 (take 16 (cased (t .upper) found)) → count ≡ length (take 16 found) → (rows′ : List (List ℕ)) (words′ : List ℕ) → PutsString rows words n (take count copy) rows′ words′ → StoresString line store rows words n w rows′ words′ Ve.Passed
-    unfolding stored stringNew
+    unfolding asVariable stringNew
     string-stored copy count e l rows′ words′ p = record {
       same = rw (← (d .same Here), h) (ap settled (sym (p .put ∙ ap (λ (s : List ℕ). setNumbered (texts rows 0 (lengthsIn words)) n s) (copy-is found (t .upper) copy count e l ∙ ap (take 16) (text-is Here t row found r f)))));
       held = p .held;

@@ -6,7 +6,7 @@ use Rattle.numbers.specs.declared.Number.{Number}
 use Rattle.numbers.specs.declared.Number.the-variants as N
 use Rattle.numbers.specs.declared.Quantity.{Quantity}
 use Rattle.numbers.specs.declared.Quantity.the-variants.{Integer, Decimal}
-use Rattle.numbers.specs.Outcome.{Outcome, outcome}
+use Rattle.numbers.specs.Result.{Result, resultIn}
 use Rattle.numbers.specs.Arithmetic.{inMillionths}
 use Rattle.arguments.specs.declared.argument.Argument.{Argument}
 use Rattle.lines.specs.declared.command.Optional.{Optional}
@@ -20,20 +20,20 @@ use Rattle.commands.specs.Settling.{settled, against, integerFrom, quant
 use Rattle.commands.specs.inner.Taking.{takenOf, integerOr, Takes}
 
 module _ (n : Number) where
-  pub result-value : (z m : ℤ) → n ≡ N.Value z → m ≡ z → settled m ≡ resultOf (outcome n)
+  pub result-value : (z m : ℤ) → n ≡ N.Value z → m ≡ z → settled m ≡ resultOf (resultIn n)
   unfolding resultOf
   result-value z m h e = rw (h, e)
 
-  pub result-zero : n ≡ N.ZeroDivisor → against R.ZeroDivisor ≡ resultOf (outcome n)
+  pub result-zero : n ≡ N.ZeroDivisor → against R.ZeroDivisor ≡ resultOf (resultIn n)
   unfolding resultOf
   result-zero h = rw h
 
-  pub result-out : n ≡ N.OutOfRange → against R.OutOfRange ≡ resultOf (outcome n)
+  pub result-out : n ≡ N.OutOfRange → against R.OutOfRange ≡ resultOf (resultIn n)
   unfolding resultOf
   result-out h = rw h
 
 module _ (q : Quantity) where
-  pub millionths-integer : (z : ℤ) (y : Outcome) (r : Taken) → q ≡ Integer z → y ≡ inMillionths z → takenOf r ≡ resultOf y → takenOf r ≡ millionthsOf q
+  pub millionths-integer : (z : ℤ) (y : Result) (r : Taken) → q ≡ Integer z → y ≡ inMillionths z → takenOf r ≡ resultOf y → takenOf r ≡ millionthsOf q
   unfolding millionthsOf
   millionths-integer z y r h e k = rw h (k ∙ ap resultOf e)
 

@@ -24,10 +24,10 @@ loop (t ∷ ts) = t .counter
 -- the open tables, and whether the run goes on where the line leads
 pub record Looping : Type 0 where
   pub tables : List Table
-  pub jumps : Bool
+  pub elsewhere : Bool
 
 abbrev pub looping : List Table → Bool → Looping
-looping ts b = record { tables = ts; jumps = b }
+looping ts b = record { tables = ts; elsewhere = b }
 
 -- "the counter starts at 1"; "n is read once"; `start` and `next` are the line after $BT, by place and number
 abbrev pub newTable : ℕ → ℕ → ℕ → Table

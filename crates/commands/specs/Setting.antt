@@ -5,7 +5,7 @@ use lib.IntN.{ℤ, pos}
 use lib.ListN.{take}
 use Rattle.meaning.specs.Meaning.{Meaning}
 use Rattle.numbers.specs.Range.{integerLimit, decimalLimit}
-use Rattle.numbers.specs.Outcome.{Outcome, success}
+use Rattle.numbers.specs.Result.{Result, success}
 use Rattle.numbers.specs.Arithmetic.{sumOf, differenceOf, integerProduct, integerQuotient, decimalProduct, decimalQuotient}
 use Rattle.arguments.specs.declared.argument.Argument.{Argument}
 use Rattle.lines.specs.declared.command.Operation.{Operation}
@@ -17,35 +17,35 @@ use Rattle.values.specs.Worth.{Worth}
 use Rattle.commands.specs.Settling.{Settled, settled, andThen, fromOne, integerFrom, decimalFrom, stringFrom, resultOf}
 
 -- "set, add, subtract, multiply, divide"; "IV takes an integer and divides toward zero"
-unfoldable pub integerOutcome : Operation → ℤ → ℤ → Outcome
-integerOutcome Assign a b = success b
-integerOutcome Add a b = sumOf integerLimit a b
-integerOutcome Subtract a b = differenceOf integerLimit a b
-integerOutcome Multiply a b = integerProduct a b
-integerOutcome Divide a b = integerQuotient a b
+unfoldable pub integerResult : Operation → ℤ → ℤ → Result
+integerResult Assign a b = success b
+integerResult Add a b = sumOf integerLimit a b
+integerResult Subtract a b = differenceOf integerLimit a b
+integerResult Multiply a b = integerProduct a b
+integerResult Divide a b = integerQuotient a b
 
 -- "products and quotients are rounded to the nearest millionth, halves away from zero, then checked for range"
-unfoldable pub decimalOutcome : Operation → ℤ → ℤ → Outcome
-decimalOutcome Assign a b = success b
-decimalOutcome Add a b = sumOf decimalLimit a b
-decimalOutcome Subtract a b = differenceOf decimalLimit a b
-decimalOutcome Multiply a b = decimalProduct a b
-decimalOutcome Divide a b = decimalQuotient a b
+unfoldable pub decimalResult : Operation → ℤ → ℤ → Result
+decimalResult Assign a b = success b
+decimalResult Add a b = sumOf decimalLimit a b
+decimalResult Subtract a b = differenceOf decimalLimit a b
+decimalResult Multiply a b = decimalProduct a b
+decimalResult Divide a b = decimalQuotient a b
 
 -- a result as the n-th variable
-unfoldable pub stored : {A : Type 0} → List A → ℕ → Settled A → Settled (List A)
-stored vs n x = andThen x (λ z. settled (setNumbered vs n z))
+unfoldable pub asVariable : {A : Type 0} → List A → ℕ → Settled A → Settled (List A)
+asVariable vs n x = andThen x (λ z. settled (setNumbered vs n z))
 
 -- what is taken from a value, and what an operation makes of it
-unfoldable pub newFrom : (Worth → Settled ℤ) → (ℤ → Outcome) → Worth → Settled ℤ
+unfoldable pub newFrom : (Worth → Settled ℤ) → (ℤ → Result) → Worth → Settled ℤ
 newFrom from operation w = andThen (from w) (λ b. resultOf (operation b))
 
 -- what IVn and FVn become that are a now
 abbrev pub integerNew : Operation → ℤ → Worth → Settled ℤ
-integerNew o a = newFrom integerFrom (integerOutcome o a)
+integerNew o a = newFrom integerFrom (integerResult o a)
 
 abbrev pub decimalNew : Operation → ℤ → Worth → Settled ℤ
-decimalNew o a = newFrom decimalFrom (decimalOutcome o a)
+decimalNew o a = newFrom decimalFrom (decimalResult o a)
 
 -- "SV takes a string"; "SV1–SV99 hold up to 16 bytes each". No string of a run has more, so none is cut (control/proofs/Ranges:string-whole).
 unfoldable pub stringNew : Worth → Settled (List ℕ)
@@ -63,10 +63,10 @@ withStrings v l = record { integers = v .integers; decimals = v .decimals; strin
 -- a string's word is $SETE: "after another word than $SETE it is 3"
 unfoldable pub setOf : Variables → Operation → Target → Worth → Settled Variables
 setOf v o (IntegerTarget n) w =
-    andThen (stored (v .integers) n (integerNew o (numbered (pos 0) (v .integers) n) w)) (λ l. settled (withIntegers v l))
+    andThen (asVariable (v .integers) n (integerNew o (numbered (pos 0) (v .integers) n) w)) (λ l. settled (withIntegers v l))
 setOf v o (DecimalTarget n) w =
-    andThen (stored (v .decimals) n (decimalNew o (numbered (pos 0) (v .decimals) n) w)) (λ l. settled (withDecimals v l))
-setOf v o (StringTarget n) w = andThen (stored (v .strings) n (stringNew w)) (λ l. settled (withStrings v l))
+    andThen (asVariable (v .decimals) n (decimalNew o (numbered (pos 0) (v .decimals) n) w)) (λ l. settled (withDecimals v l))
+setOf v o (StringTarget n) w = andThen (asVariable (v .strings) n (stringNew w)) (λ l. settled (withStrings v l))
 
 -- the line s, whose number is `line`
 unfoldable pub setMeaning : Machine → List ℕ → ℕ → Operation → Target → Argument → Meaning Variables

@@ -10,7 +10,7 @@ use Rattle.meaning.specs.declared.refusal.Refusal.{Refusal}
 use Rattle.meaning.specs.declared.refusal.Refusal.the-variants.{MissingArgument, WrongKind, ZeroDivisor, OutOfRange}
 use Rattle.numbers.specs.declared.Quantity.{Quantity}
 use Rattle.numbers.specs.declared.Quantity.the-variants.{Integer, Decimal}
-use Rattle.numbers.specs.Outcome as N
+use Rattle.numbers.specs.Result as N
 use Rattle.numbers.specs.Arithmetic.{inMillionths}
 use Rattle.arguments.specs.declared.argument.Argument.{Argument}
 use Rattle.values.specs.Machine.{Machine}
@@ -51,7 +51,7 @@ stringFrom (number q) = against WrongKind
 stringFrom (string s) = settled s
 
 -- 12: "The divisor is zero." 13: "A result is out of range"
-unfoldable pub resultOf : N.Outcome → Settled ℤ
+unfoldable pub resultOf : N.Result → Settled ℤ
 resultOf (N.success z) = settled z
 resultOf (N.refused n) = against (cond (eqb n 12) ZeroDivisor OutOfRange)
 

@@ -13,16 +13,16 @@ use values::registers::Numbers;
 use values::registers::Words;
 use values::worth::Worth;
 ghost use mathlib.Core.Path.{_≡_};
-ghost use Rattle.numbers.specs.Outcome.{outcome};
+ghost use Rattle.numbers.specs.Result.{resultIn};
 ghost use Rattle.values.specs.inner.State.{held};
 ghost use Prim.Native.Nat.{_≤_};
-ghost use Rattle.commands.specs.Setting.{integerOutcome, decimalOutcome, integerNew, decimalNew};
+ghost use Rattle.commands.specs.Setting.{integerResult, decimalResult, integerNew, decimalNew};
 ghost use Rattle.commands.specs.inner.Taking.{Takes};
 ghost use Rattle.commands.specs.inner.Assigning.{Rowed, StoresNumber, Assigns};
 
 // "set, add, subtract, multiply, divide"
 fn integer_result(o: Operation, a: i64, b: i64) -> Number
-    ensures { λ r. ⌜ outcome r ≡ integerOutcome o a b ⌝ }
+    ensures { λ r. ⌜ resultIn r ≡ integerResult o a b ⌝ }
 {
     match o {
         Operation::Assign => Number::Value(b),
@@ -34,7 +34,7 @@ fn integer_result(o: Operation, a: i64, b: i64) -> Number
 }
 
 fn decimal_result(o: Operation, a: i64, b: i64) -> Number
-    ensures { λ r. ⌜ outcome r ≡ decimalOutcome o a b ⌝ }
+    ensures { λ r. ⌜ resultIn r ≡ decimalResult o a b ⌝ }
 {
     match o {
         Operation::Assign => Number::Value(b),

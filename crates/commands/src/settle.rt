@@ -6,7 +6,7 @@ use numbers::Quantity;
 use values::string::Text;
 use values::worth::Worth;
 ghost use mathlib.Core.Path.{_≡_};
-ghost use Rattle.numbers.specs.Outcome.{outcome};
+ghost use Rattle.numbers.specs.Result.{resultIn};
 ghost use Rattle.commands.specs.Settling.{resultOf, millionthsOf, integerFrom, decimalFrom};
 ghost use Rattle.commands.specs.inner.Taking.{takenOf, integerOr, Takes, TakesQuantity, TakesText};
 
@@ -42,7 +42,7 @@ pub enum Verdict {
 
 // 12 and 13
 pub fn result_of(number: Number) -> Taken
-    ensures { λ r. ⌜ takenOf r ≡ resultOf (outcome number) ⌝ }
+    ensures { λ r. ⌜ takenOf r ≡ resultOf (resultIn number) ⌝ }
 {
     match number {
         Number::Value(z) => Taken::Value(z),

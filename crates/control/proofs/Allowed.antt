@@ -72,12 +72,12 @@ module _ (m : Machine) (d : Between 1 35 (m .datasource)) (line : ℕ) where
   pub records-asks : (f : Fetch) → FetchWithin f → AsksAllowed (recordsMeaning m line f)
   unfolding recordsMeaning
   records-asks f b =
-      asks-then AnswerWithin Allowed (fetchMeaning m line Records (f .parameter) (f .first) (f .second) (f .count)) (λ l. done (withRecords (m .variables) (setNumbered (m .variables .records) (f .number) l))) (fetch-asks m line Records (f .parameter) (f .first) (f .second) (f .count) d (b .parameter)) (λ l. tt)
+      asks-then AnswerWithin Allowed (fetchMeaning m line Records (f .parameter) (f .«record») (f .entry) (f .count)) (λ l. done (withRecords (m .variables) (setNumbered (m .variables .records) (f .number) l))) (fetch-asks m line Records (f .parameter) (f .«record») (f .entry) (f .count) d (b .parameter)) (λ l. tt)
 
   pub entries-asks : (f : Fetch) → FetchWithin f → AsksAllowed (entriesMeaning m line f)
   unfolding entriesMeaning
   entries-asks f b =
-      asks-then AnswerWithin Allowed (fetchMeaning m line Entries (f .parameter) (f .first) (f .second) (f .count)) (λ l. done (withEntries (m .variables) (setNumbered (m .variables .entries) (f .number) l))) (fetch-asks m line Entries (f .parameter) (f .first) (f .second) (f .count) d (b .parameter)) (λ l. tt)
+      asks-then AnswerWithin Allowed (fetchMeaning m line Entries (f .parameter) (f .«record») (f .entry) (f .count)) (λ l. done (withEntries (m .variables) (setNumbered (m .variables .entries) (f .number) l))) (fetch-asks m line Entries (f .parameter) (f .«record») (f .entry) (f .count) d (b .parameter)) (λ l. tt)
 
 pub datasource-asks : (m : Machine) (line : ℕ) (i : Index) → AsksAllowed (datasourceMeaning m line i)
 unfolding datasourceMeaning

@@ -16,7 +16,7 @@ use Rattle.buffers.proofs.Laws.{map-set}
 use Rattle.template.specs.declared.seek.Sought.{Sought}
 use Rattle.template.specs.declared.seek.Skip.{Skip}
 use Rattle.template.specs.Lines.{linesWithin, linesOf}
-use Rattle.template.specs.Seek.{atMost, skipFrom, skipped}
+use Rattle.template.specs.Seek.{cutTo, skipFrom, skipped}
 use Rattle.template.proofs.Reach.{found-inside, part-skip}
 use Rattle.meaning.specs.declared.refusal.Refusal.{Refusal}
 use Rattle.meaning.specs.declared.refusal.Refusal.the-variants.{BadIndex}
@@ -44,11 +44,11 @@ use Rattle.control.specs.inner.Arms.{Jumpable, Settles, datasourceAt, Re
 
 -- ---- the flow
 
-pub scene-is : (ws : List ℕ) (f : Flow) (n : ℕ) (z : ℤ) → z ≡ pos (loop (opened ws (f .depth))) → _≡_ {A = Scene} (record { datasource = f .datasource; page = f .page .number; row = f .page .line; number = n; turn = z }) (sceneOf ws f n)
-scene-is ws f n z e = ap (λ (x : ℤ). record { datasource = f .datasource; page = f .page .number; row = f .page .line; number = n; turn = x }) e
+pub scene-is : (ws : List ℕ) (f : Flow) (n : ℕ) (z : ℤ) → z ≡ pos (loop (opened ws (f .depth))) → _≡_ {A = Scene} (record { datasource = f .datasource; page = f .page .number; row = f .page .row; number = n; turn = z }) (sceneOf ws f n)
+scene-is ws f n z e = ap (λ (x : ℤ). record { datasource = f .datasource; page = f .page .number; row = f .page .row; number = n; turn = x }) e
 
 skip-none : (q : Sought) → skipped [] q ≡ record { bytes = 0; lines = 0 }
-unfolding skipped atMost skipFrom linesOf linesWithin
+unfolding skipped cutTo skipFrom linesOf linesWithin
 skip-none q = refl
 
 -- behind the template's end nothing is passed over
@@ -121,19 +121,19 @@ module _ (t : Taken) (l : ℕ) (f : Flow) (T : List ℕ) (u a : ℕ) where
     kept = refl;
   }
 
-  module _ (n : ℤ) (e : t ≡ K.Value n) (b : Bool) (i : b ≡ ltZ (pos (61 - f .page .line)) n) where
+  module _ (n : ℤ) (e : t ≡ K.Value n) (b : Bool) (i : b ≡ ltZ (pos (61 - f .page .row)) n) where
     pub page-stays : (r : Lined) → b ≡ false → r ≡ endedIn Finished f u a → PagesLine t l f T u a T r
     page-stays r g q = record {
       refused = λ z x. absurd (let z : _≡_ {A = ℕ} 0 1 = cc in omega arith);
       stays = λ _ _ _. (q, refl);
-      breaks = λ z x y. let w : z ≡ n = cc in absurd (false≢true (sym g ∙ i ∙ ap (ltZ (pos (61 - f .page .line))) (sym w) ∙ y));
+      breaks = λ z x y. let w : z ≡ n = cc in absurd (false≢true (sym g ∙ i ∙ ap (ltZ (pos (61 - f .page .row))) (sym w) ∙ y));
       kept = refl;
     }
 
     pub page-breaks : (T′ : List ℕ) (r : Lined) → b ≡ true → BreaksLine l f T u a T′ r → PagesLine t l f T u a T′ r
     page-breaks T′ r g d = record {
       refused = λ z x. absurd (let z : _≡_ {A = ℕ} 0 1 = cc in omega arith);
-      stays = λ z x y. let w : z ≡ n = cc in absurd (false≢true (sym y ∙ ap (ltZ (pos (61 - f .page .line))) w ∙ sym i ∙ g));
+      stays = λ z x y. let w : z ≡ n = cc in absurd (false≢true (sym y ∙ ap (ltZ (pos (61 - f .page .row))) w ∙ sym i ∙ g));
       breaks = λ _ _ _. d;
       kept = d .kept;
     }

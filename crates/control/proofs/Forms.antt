@@ -24,7 +24,7 @@ use Rattle.commands.specs.Testing.{zeroJudged, compared, zeroMeaning, testMeani
 use Rattle.commands.specs.Looping.{begun, counted, beginMeaning, endMeaning}
 use Rattle.commands.specs.inner.Open.{beginFrom, endFrom}
 use Rattle.control.specs.State.{State, seen, withVariables}
-use Rattle.control.specs.Line.{branched, tableBegun, tableEnded, breakingFor, newPageMeaning, formMeaning}
+use Rattle.control.specs.Line.{branched, tableBegun, tableCounted, breakingFor, newPageMeaning, formMeaning}
 use Rattle.control.specs.inner.Forms.{optionalInput, inputsOf, settling, formWith}
 
 -- what is concluded from a value, and then from that
@@ -45,14 +45,14 @@ module _ (t : List ℕ) (start l : ℕ) (body : List ℕ) (s : State) where
   unfolding integerMeaning
   integer-then x f = bind-assoc (A x) (λ w. concluded l (integerFrom w)) (λ z. concluded l (f z)) ∙ ap (bind (A x)) (λ i w. concluded-then l (integerFrom w) f i)
 
-  end-inputs : (k : Optional) → bind (endMeaning (seen s) body l (s .tables) k) (λ x. done (tableEnded s x)) ≡ bind (inputsMeaning (seen s) body l (optionalInput k)) (λ v. settling l (endFrom (s .tables) (integerOr (pos 1) k (v .first))) (tableEnded s))
+  end-inputs : (k : Optional) → bind (endMeaning (seen s) body l (s .tables) k) (λ x. done (tableCounted s x)) ≡ bind (inputsMeaning (seen s) body l (optionalInput k)) (λ v. settling l (endFrom (s .tables) (integerOr (pos 1) k (v .first))) (tableCounted s))
   unfolding endMeaning integerOr optionalInput inputsMeaning
   end-inputs Absent = refl
-  end-inputs (Given x) = ap (λ m. bind m (λ y. done (tableEnded s y))) (integer-then x (counted (s .tables))) ∙ one x (λ w. endFrom (s .tables) (integerFrom w)) (tableEnded s)
+  end-inputs (Given x) = ap (λ m. bind m (λ y. done (tableCounted s y))) (integer-then x (counted (s .tables))) ∙ one x (λ w. endFrom (s .tables) (integerFrom w)) (tableCounted s)
 
   page-inputs : (k : Optional) → newPageMeaning l body s k ≡ bind (inputsMeaning (seen s) body l (optionalInput k)) (λ v. bind (concluded l (integerOr (pos 62) k (v .first))) (breakingFor l s))
   unfolding newPageMeaning breakingFor integerOr optionalInput inputsMeaning integerMeaning
-  page-inputs Absent = rw (lt-ltb (61 - s .page .line) 62 (omega arith))
+  page-inputs Absent = rw (lt-ltb (61 - s .page .row) 62 (omega arith))
   page-inputs (Given x) =
       bind-assoc (A x) (λ w. concluded l (integerFrom w)) (breakingFor l s) ∙ sym (bind-assoc (A x) (λ v. done (worths v missing)) (λ v. bind (concluded l (integerFrom (v .first))) (breakingFor l s)))
 
@@ -62,8 +62,8 @@ module _ (t : List ℕ) (start l : ℕ) (body : List ℕ) (s : State) where
   form-inputs form.Text = refl
   form-inputs (form.Section a e) = refl
   form-inputs (form.Set o x a) = one a (setOf (s .variables) o x) (withVariables s)
-  form-inputs (form.IfZero a) = one a (zeroJudged true) (branched t s)
-  form-inputs (form.IfNonZero a) = one a (zeroJudged false) (branched t s)
+  form-inputs (form.IfNot a) = one a (zeroJudged true) (branched t s)
+  form-inputs (form.If a) = one a (zeroJudged false) (branched t s)
   form-inputs (form.Compare c a b) =
       bind-assoc (A a) (λ v. bind (A b) (λ w. concluded l (compared c v w))) (λ y. done (branched t s y))
       ∙ ap (bind (A a)) (λ i v. (bind-assoc (A b) (λ w. concluded l (compared c v w)) (λ y. done (branched t s y)) ∙ sym (bind-assoc (A b) (λ w. done (worths v w)) (λ v. settling l (compared c (v .first) (v .second)) (branched t s)))) i)

@@ -30,7 +30,7 @@ use Rattle.values.specs.Meanings.{argumentMeaning}
 use Rattle.values.proofs.Giving.{Gives, Anything, gives-bind, argument-gives, fetch-gives}
 use Rattle.commands.specs.declared.table.Table.{Table}
 use Rattle.commands.specs.Settling.{Settled, settled, against, andThen, concluded, integerFrom, integerMeaning}
-use Rattle.commands.specs.Setting.{stored, setOf, setMeaning}
+use Rattle.commands.specs.Setting.{asVariable, setOf, setMeaning}
 use Rattle.commands.specs.Testing.{zeroJudged, compared, zeroMeaning, testMeaning}
 use Rattle.control.specs.Fetching.{withRecords, withEntries, recordsMeaning, entriesMeaning}
 use Rattle.commands.specs.Looping.{loop, Looping, looping, newTable, begun, beginMeaning, innermost, exceeds, countedTo, counting, counted, endMeaning}
@@ -91,19 +91,19 @@ numbered-length l zero x = refl
 numbered-length l (suc k) x = length-set l k x
 
 -- a result as the n-th of l
-stored-length : {A : Type 0} (l : List A) (n : ℕ) (x : Settled A) → Whenever (stored l n x) (λ l′. length l′ ≡ length l)
-unfolding stored
+stored-length : {A : Type 0} (l : List A) (n : ℕ) (x : Settled A) → Whenever (asVariable l n x) (λ l′. length l′ ≡ length l)
+unfolding asVariable
 stored-length l n (settled x) = numbered-length l n x
 stored-length l n (against e) = tt
 
 set-shapes : (v : Variables) (o : Operation) (t : Target) (w : Worth) → Whenever (setOf v o t w) (Shaped v)
 unfolding setOf
 set-shapes v o (IntegerTarget n) w =
-    whenever-then (stored (v .integers) n _) _ (λ l. length l ≡ length (v .integers)) (Shaped v) (stored-length (v .integers) n _) (λ l h. record { integers = h; decimals = refl; strings = refl; records = refl; entries = refl })
+    whenever-then (asVariable (v .integers) n _) _ (λ l. length l ≡ length (v .integers)) (Shaped v) (stored-length (v .integers) n _) (λ l h. record { integers = h; decimals = refl; strings = refl; records = refl; entries = refl })
 set-shapes v o (DecimalTarget n) w =
-    whenever-then (stored (v .decimals) n _) _ (λ l. length l ≡ length (v .decimals)) (Shaped v) (stored-length (v .decimals) n _) (λ l h. record { integers = refl; decimals = h; strings = refl; records = refl; entries = refl })
+    whenever-then (asVariable (v .decimals) n _) _ (λ l. length l ≡ length (v .decimals)) (Shaped v) (stored-length (v .decimals) n _) (λ l h. record { integers = refl; decimals = h; strings = refl; records = refl; entries = refl })
 set-shapes v o (StringTarget n) w =
-    whenever-then (stored (v .strings) n _) _ (λ l. length l ≡ length (v .strings)) (Shaped v) (stored-length (v .strings) n _) (λ l h. record { integers = refl; decimals = refl; strings = h; records = refl; entries = refl })
+    whenever-then (asVariable (v .strings) n _) _ (λ l. length l ≡ length (v .strings)) (Shaped v) (stored-length (v .strings) n _) (λ l h. record { integers = refl; decimals = refl; strings = h; records = refl; entries = refl })
 
 pub set-gives : (m : Machine) (s : List ℕ) (line : ℕ) (o : Operation) (t : Target) (a : Argument) → Gives (setMeaning m s line o t a) (Shaped (m .variables))
 unfolding setMeaning
@@ -115,12 +115,12 @@ module _ (m : Machine) (line : ℕ) (f : Fetch) where
   pub records-gives : Gives (recordsMeaning m line f) (Shaped (m .variables))
   unfolding recordsMeaning
   records-gives =
-      gives-bind (fetchMeaning m line Records (f .parameter) (f .first) (f .second) (f .count)) (λ l. done (withRecords (m .variables) (setNumbered (m .variables .records) (f .number) l))) Anything (Shaped (m .variables)) (fetch-gives m line Records (f .parameter) (f .first) (f .second) (f .count)) (λ l h. record { integers = refl; decimals = refl; strings = refl; records = numbered-length (m .variables .records) (f .number) l; entries = refl })
+      gives-bind (fetchMeaning m line Records (f .parameter) (f .«record») (f .entry) (f .count)) (λ l. done (withRecords (m .variables) (setNumbered (m .variables .records) (f .number) l))) Anything (Shaped (m .variables)) (fetch-gives m line Records (f .parameter) (f .«record») (f .entry) (f .count)) (λ l h. record { integers = refl; decimals = refl; strings = refl; records = numbered-length (m .variables .records) (f .number) l; entries = refl })
 
   pub entries-gives : Gives (entriesMeaning m line f) (Shaped (m .variables))
   unfolding entriesMeaning
   entries-gives =
-      gives-bind (fetchMeaning m line Entries (f .parameter) (f .first) (f .second) (f .count)) (λ l. done (withEntries (m .variables) (setNumbered (m .variables .entries) (f .number) l))) Anything (Shaped (m .variables)) (fetch-gives m line Entries (f .parameter) (f .first) (f .second) (f .count)) (λ l h. record { integers = refl; decimals = refl; strings = refl; records = refl; entries = numbered-length (m .variables .entries) (f .number) l })
+      gives-bind (fetchMeaning m line Entries (f .parameter) (f .«record») (f .entry) (f .count)) (λ l. done (withEntries (m .variables) (setNumbered (m .variables .entries) (f .number) l))) Anything (Shaped (m .variables)) (fetch-gives m line Entries (f .parameter) (f .«record») (f .entry) (f .count)) (λ l h. record { integers = refl; decimals = refl; strings = refl; records = refl; entries = numbered-length (m .variables .entries) (f .number) l })
 
 -- ---- tables
 

@@ -14,7 +14,7 @@ use Rattle.meaning.proofs.Yielding.{Yields, yields-bind, yields-more}
 use Rattle.numbers.specs.declared.Quantity.{Quantity}
 use Rattle.numbers.specs.declared.Quantity.the-variants.{Integer, Decimal}
 use Rattle.numbers.specs.Range.{integerLimit, decimalLimit}
-use Rattle.numbers.specs.Outcome as N
+use Rattle.numbers.specs.Result as N
 use Rattle.numbers.specs.Arithmetic.{inMillionths}
 use Rattle.numbers.proofs.Laws.{Inside, sum-bound, difference-bound, integer-product-bound, integer-quotient-bound, decimal-product-bound, decimal-quotient-bound, millionths-bound}
 use Rattle.cells.proofs.Limits.{AnswerWithin}
@@ -37,7 +37,7 @@ use Rattle.values.proofs.Ranges as R
 use Rattle.values.proofs.Ranges.{IntegerWithin, DecimalWithin, Short, WorthWithin, MachineWithin, argument-within, fetch-within, All, VariablesWithin}
 use Rattle.commands.specs.declared.table.Table.{Table}
 use Rattle.commands.specs.Settling.{Settled, settled, against, concluded, integerFrom, quantityFrom, stringFrom, resultOf, millionthsOf, decimalFrom, integerMeaning}
-use Rattle.commands.specs.Setting.{integerOutcome, decimalOutcome, stored, newFrom, integerNew, decimalNew, stringNew, setOf, setMeaning}
+use Rattle.commands.specs.Setting.{integerResult, decimalResult, asVariable, newFrom, integerNew, decimalNew, stringNew, setOf, setMeaning}
 use Rattle.control.specs.Fetching.{withRecords, withEntries, recordsMeaning, entriesMeaning}
 use Rattle.commands.specs.Looping.{begun, beginMeaning, endMeaning}
 use Rattle.control.proofs.Giving.{Whenever, whenever-then, numbered-length, Counting, end-gives, Bounded, begun-bounded, counting-bounded}
@@ -74,7 +74,7 @@ quantity-from wrong h = tt
 quantity-from (number q) h = h
 quantity-from (string s) h = tt
 
-result-within : (limit : ℕ) (o : N.Outcome) → ((v : ℤ) → o ≡ N.success v → natAbs v ≤ limit) → Whenever (resultOf o) (λ v. natAbs v ≤ limit)
+result-within : (limit : ℕ) (o : N.Result) → ((v : ℤ) → o ≡ N.success v → natAbs v ≤ limit) → Whenever (resultOf o) (λ v. natAbs v ≤ limit)
 unfolding resultOf
 result-within limit (N.success z) h = h z refl
 result-within limit (N.refused n) h = tt
@@ -91,16 +91,16 @@ decimal-from w h = whenever-then (quantityFrom w) millionthsOf QuantityWithin De
 assigned : (limit : ℕ) (b v : ℤ) → natAbs b ≤ limit → N.success b ≡ N.success v → natAbs v ≤ limit
 assigned limit b v h e = let q : b ≡ v = cc in subst (λ z. natAbs z ≤ limit) q h
 
-integer-outcome : (o : Operation) (a b v : ℤ) → IntegerWithin b → integerOutcome o a b ≡ N.success v → IntegerWithin v
-unfolding integerOutcome
+integer-outcome : (o : Operation) (a b v : ℤ) → IntegerWithin b → integerResult o a b ≡ N.success v → IntegerWithin v
+unfolding integerResult
 integer-outcome Assign a b v h e = assigned integerLimit b v h e
 integer-outcome Add a b v h e = sum-bound integerLimit a b v e
 integer-outcome Subtract a b v h e = difference-bound integerLimit a b v e
 integer-outcome Multiply a b v h e = integer-product-bound a b v e
 integer-outcome Divide a b v h e = integer-quotient-bound a b v e
 
-decimal-outcome : (o : Operation) (a b v : ℤ) → DecimalWithin b → decimalOutcome o a b ≡ N.success v → DecimalWithin v
-unfolding decimalOutcome
+decimal-outcome : (o : Operation) (a b v : ℤ) → DecimalWithin b → decimalResult o a b ≡ N.success v → DecimalWithin v
+unfolding decimalResult
 decimal-outcome Assign a b v h e = assigned decimalLimit b v h e
 decimal-outcome Add a b v h e = sum-bound decimalLimit a b v e
 decimal-outcome Subtract a b v h e = difference-bound decimalLimit a b v e
@@ -110,12 +110,12 @@ decimal-outcome Divide a b v h e = decimal-quotient-bound a b v e
 integer-new : (o : Operation) (a : ℤ) (w : Worth) → WorthWithin w → Whenever (integerNew o a w) IntegerWithin
 unfolding newFrom
 integer-new o a w h =
-    whenever-then (integerFrom w) (λ b. resultOf (integerOutcome o a b)) IntegerWithin IntegerWithin (integer-from w h) (λ b k. result-within integerLimit (integerOutcome o a b) (λ v e. integer-outcome o a b v k e))
+    whenever-then (integerFrom w) (λ b. resultOf (integerResult o a b)) IntegerWithin IntegerWithin (integer-from w h) (λ b k. result-within integerLimit (integerResult o a b) (λ v e. integer-outcome o a b v k e))
 
 decimal-new : (o : Operation) (a : ℤ) (w : Worth) → WorthWithin w → Whenever (decimalNew o a w) DecimalWithin
 unfolding newFrom
 decimal-new o a w h =
-    whenever-then (decimalFrom w) (λ b. resultOf (decimalOutcome o a b)) DecimalWithin DecimalWithin (decimal-from w h) (λ b k. result-within decimalLimit (decimalOutcome o a b) (λ v e. decimal-outcome o a b v k e))
+    whenever-then (decimalFrom w) (λ b. resultOf (decimalResult o a b)) DecimalWithin DecimalWithin (decimal-from w h) (λ b k. result-within decimalLimit (decimalResult o a b) (λ v e. decimal-outcome o a b v k e))
 
 -- "SV1–SV99 hold up to 16 bytes each": a string in range is taken whole.
 pub string-whole : (w : Worth) → WorthWithin w → stringNew w ≡ stringFrom w
@@ -175,8 +175,8 @@ numbered-each P l (suc k) x p h = set-each P l k x p h
 numbered-all : {A : Type 0} (P : A → Type 0) (c : ℕ) (l : List A) (n : ℕ) (x : A) → P x → All P c l → All P c (setNumbered l n x)
 numbered-all P c l n x p h = record { each = numbered-each P l n x p (h .each); count = numbered-length l n x ∙ h .count }
 
-stored-all : {A : Type 0} (P : A → Type 0) (c : ℕ) (l : List A) (n : ℕ) (x : Settled A) → All P c l → Whenever x P → Whenever (stored l n x) (All P c)
-unfolding stored
+stored-all : {A : Type 0} (P : A → Type 0) (c : ℕ) (l : List A) (n : ℕ) (x : Settled A) → All P c l → Whenever x P → Whenever (asVariable l n x) (All P c)
+unfolding asVariable
 stored-all P c l n (settled x) h p = numbered-all P c l n x p h
 stored-all P c l n (against r) h p = tt
 
@@ -184,11 +184,11 @@ module _ (v : Variables) (h : VariablesWithin v) where
   set-of : (o : Operation) (t : Target) (w : Worth) → WorthWithin w → Whenever (setOf v o t w) VariablesWithin
   unfolding setOf
   set-of o (IntegerTarget n) w k =
-      whenever-then (stored (v .integers) n (integerNew o (numbered (pos 0) (v .integers) n) w)) _ (All IntegerWithin 99) VariablesWithin (stored-all IntegerWithin 99 (v .integers) n _ (h .integers) (integer-new o _ w k)) (λ l a. record { integers = a; decimals = h .decimals; strings = h .strings; records = h .records; entries = h .entries })
+      whenever-then (asVariable (v .integers) n (integerNew o (numbered (pos 0) (v .integers) n) w)) _ (All IntegerWithin 99) VariablesWithin (stored-all IntegerWithin 99 (v .integers) n _ (h .integers) (integer-new o _ w k)) (λ l a. record { integers = a; decimals = h .decimals; strings = h .strings; records = h .records; entries = h .entries })
   set-of o (DecimalTarget n) w k =
-      whenever-then (stored (v .decimals) n (decimalNew o (numbered (pos 0) (v .decimals) n) w)) _ (All DecimalWithin 99) VariablesWithin (stored-all DecimalWithin 99 (v .decimals) n _ (h .decimals) (decimal-new o _ w k)) (λ l a. record { integers = h .integers; decimals = a; strings = h .strings; records = h .records; entries = h .entries })
+      whenever-then (asVariable (v .decimals) n (decimalNew o (numbered (pos 0) (v .decimals) n) w)) _ (All DecimalWithin 99) VariablesWithin (stored-all DecimalWithin 99 (v .decimals) n _ (h .decimals) (decimal-new o _ w k)) (λ l a. record { integers = h .integers; decimals = a; strings = h .strings; records = h .records; entries = h .entries })
   set-of o (StringTarget n) w k =
-      whenever-then (stored (v .strings) n (stringNew w)) _ (All Short 99) VariablesWithin (stored-all Short 99 (v .strings) n (stringNew w) (h .strings) (string-new w k)) (λ l a. record { integers = h .integers; decimals = h .decimals; strings = a; records = h .records; entries = h .entries })
+      whenever-then (asVariable (v .strings) n (stringNew w)) _ (All Short 99) VariablesWithin (stored-all Short 99 (v .strings) n (stringNew w) (h .strings) (string-new w k)) (λ l a. record { integers = h .integers; decimals = h .decimals; strings = a; records = h .records; entries = h .entries })
 
   -- What an operation is done with is in range: `operands` refuses nothing.
   pub integer-operands : (n : ℕ) (w : Worth) → WorthWithin w → Whenever (integerFrom w) (Inside integerLimit (numbered (pos 0) (v .integers) n))
@@ -225,12 +225,12 @@ module _ (m : Machine) (h : MachineWithin m) where
     pub records-within : (f : Fetch) → Yields AnswerWithin (recordsMeaning m line f) VariablesWithin
     unfolding recordsMeaning
     records-within f =
-        yields-bind AnswerWithin (fetchMeaning m line Records (f .parameter) (f .first) (f .second) (f .count)) (λ l. done (withRecords (m .variables) (setNumbered (m .variables .records) (f .number) l))) (Each AnswerWithin) VariablesWithin (fetch-within m line Records (f .parameter) (f .first) (f .second) (f .count)) (λ l k. record { integers = h .variables .integers; decimals = h .variables .decimals; strings = h .variables .strings; records = numbered-all (Each AnswerWithin) 10 (m .variables .records) (f .number) l k (h .variables .records); entries = h .variables .entries })
+        yields-bind AnswerWithin (fetchMeaning m line Records (f .parameter) (f .«record») (f .entry) (f .count)) (λ l. done (withRecords (m .variables) (setNumbered (m .variables .records) (f .number) l))) (Each AnswerWithin) VariablesWithin (fetch-within m line Records (f .parameter) (f .«record») (f .entry) (f .count)) (λ l k. record { integers = h .variables .integers; decimals = h .variables .decimals; strings = h .variables .strings; records = numbered-all (Each AnswerWithin) 10 (m .variables .records) (f .number) l k (h .variables .records); entries = h .variables .entries })
 
     pub entries-within : (f : Fetch) → Yields AnswerWithin (entriesMeaning m line f) VariablesWithin
     unfolding entriesMeaning
     entries-within f =
-        yields-bind AnswerWithin (fetchMeaning m line Entries (f .parameter) (f .first) (f .second) (f .count)) (λ l. done (withEntries (m .variables) (setNumbered (m .variables .entries) (f .number) l))) (Each AnswerWithin) VariablesWithin (fetch-within m line Entries (f .parameter) (f .first) (f .second) (f .count)) (λ l k. record { integers = h .variables .integers; decimals = h .variables .decimals; strings = h .variables .strings; records = h .variables .records; entries = numbered-all (Each AnswerWithin) 10 (m .variables .entries) (f .number) l k (h .variables .entries) })
+        yields-bind AnswerWithin (fetchMeaning m line Entries (f .parameter) (f .«record») (f .entry) (f .count)) (λ l. done (withEntries (m .variables) (setNumbered (m .variables .entries) (f .number) l))) (Each AnswerWithin) VariablesWithin (fetch-within m line Entries (f .parameter) (f .«record») (f .entry) (f .count)) (λ l k. record { integers = h .variables .integers; decimals = h .variables .decimals; strings = h .variables .strings; records = h .variables .records; entries = numbered-all (Each AnswerWithin) 10 (m .variables .entries) (f .number) l k (h .variables .entries) })
 
 -- $ET: counters stay within their limits, whatever k is.
 pub end-within : (m : Machine) (s : List ℕ) (line : ℕ) (ts : List Table) (o : Optional) → Each Bounded ts → Yields AnswerWithin (endMeaning m s line ts o) (λ x. Each Bounded (x .tables))

@@ -18,9 +18,9 @@ withEntries v l = record { integers = v .integers; decimals = v .decimals; strin
 -- "`$REC n Pm record entry count` fills Rn from records record, record+1, …"
 unfoldable pub recordsMeaning : Machine → ℕ → Fetch → Meaning Variables
 recordsMeaning m line f =
-    bind (fetchMeaning m line Records (f .parameter) (f .first) (f .second) (f .count)) (λ l. done (withRecords (m .variables) (setNumbered (m .variables .records) (f .number) l)))
+    bind (fetchMeaning m line Records (f .parameter) (f .«record») (f .entry) (f .count)) (λ l. done (withRecords (m .variables) (setNumbered (m .variables .records) (f .number) l)))
 
 -- "`$TBL` the same for Tn from entries"
 unfoldable pub entriesMeaning : Machine → ℕ → Fetch → Meaning Variables
 entriesMeaning m line f =
-    bind (fetchMeaning m line Entries (f .parameter) (f .first) (f .second) (f .count)) (λ l. done (withEntries (m .variables) (setNumbered (m .variables .entries) (f .number) l)))
+    bind (fetchMeaning m line Entries (f .parameter) (f .«record») (f .entry) (f .count)) (λ l. done (withEntries (m .variables) (setNumbered (m .variables .entries) (f .number) l)))

@@ -29,8 +29,8 @@ use Rattle.pages.specs.Page.{breakMeaning, lineStep}
 use Rattle.control.specs.State.{State, seen, withPosition, withVariables, withDatasource, withTables, withLayout, withPage, cleared}
 
 -- behind a line of n bytes
-abbrev pub past : State → ℕ → State
-past s n = withPosition s (s .position .at + n + 1) (s .position .line + 1)
+abbrev pub pastLine : State → ℕ → State
+pastLine s n = withPosition s (s .position .at + n + 1) (s .position .line + 1)
 
 -- behind the line that matches
 abbrev pub jumped : List ℕ → State → Sought → State
@@ -52,20 +52,20 @@ testing t s m = bind m (λ holds. done (branched t s holds))
 
 -- "With n below 1 the run continues after the matching $ET"
 unfoldable pub tableBegun : List ℕ → State → Looping → State
-tableBegun t s x = cond (x .jumps) (jumped t s TableEnd) (withTables s (x .tables))
+tableBegun t s x = cond (x .elsewhere) (jumped t s TableEnd) (withTables s (x .tables))
 
 -- "else goes to the line after $BT"
-unfoldable pub tableEnded : State → Looping → State
-tableEnded s x =
-    cond (x .jumps) (withPosition (withTables s (x .tables)) (innermost (x .tables) .start) (innermost (x .tables) .line)) (withTables s (x .tables))
+unfoldable pub tableCounted : State → Looping → State
+tableCounted s x =
+    cond (x .elsewhere) (withPosition (withTables s (x .tables)) (innermost (x .tables) .start) (innermost (x .tables) .line)) (withTables s (x .tables))
 
 -- "$NP breaks always"
 unfoldable pub breaking : ℕ → State → Meaning State
-breaking l s = bind (breakMeaning l (s .layout .feeds) (s .page)) (λ p. done (withPage s p))
+breaking l s = bind (breakMeaning l (s .layout .formFeeds) (s .page)) (λ p. done (withPage s p))
 
 -- "`$NP n` if 61 − LINENUM is below n"
 unfoldable pub breakingFor : ℕ → State → ℤ → Meaning State
-breakingFor l s n = cond (ltZ (pos (61 - s .page .line)) n) (breaking l s) (done s)
+breakingFor l s n = cond (ltZ (pos (61 - s .page .row)) n) (breaking l s) (done s)
 
 unfoldable pub newPageMeaning : ℕ → List ℕ → State → Optional → Meaning State
 newPageMeaning l body s Absent = breaking l s
@@ -73,24 +73,24 @@ newPageMeaning l body s (Given a) = bind (integerMeaning (seen s) body l a) (bre
 
 -- "`$PHn text`": worked out when it is printed, so the line is kept
 abbrev pub headed : State → ℕ → Heading → State
-headed s n h = withLayout s (setNumbered (s .layout .headings) n h) (s .layout .feeds)
+headed s n h = withLayout s (setNumbered (s .layout .headings) n h) (s .layout .formFeeds)
 
 -- ---- the line that starts at a place of the template
 
 unfoldable pub formMeaning : List ℕ → ℕ → ℕ → List ℕ → State → Line → Meaning State
 formMeaning t start l body s form.Text =
-    bind (lineStep (seen s) t l (s .layout .feeds) (s .layout .headings) body (s .page)) (λ p. done (withPage s p))
+    bind (lineStep (seen s) t l (s .layout .formFeeds) (s .layout .headings) body (s .page)) (λ p. done (withPage s p))
 formMeaning t start l body s (form.Section a e) = done (cleared s)
 formMeaning t start l body s (form.Set o v a) = setting s (setMeaning (seen s) body l o v a)
-formMeaning t start l body s (form.IfZero a) = testing t s (zeroMeaning (seen s) body l true a)
-formMeaning t start l body s (form.IfNonZero a) = testing t s (zeroMeaning (seen s) body l false a)
+formMeaning t start l body s (form.IfNot a) = testing t s (zeroMeaning (seen s) body l true a)
+formMeaning t start l body s (form.If a) = testing t s (zeroMeaning (seen s) body l false a)
 formMeaning t start l body s (form.Compare c a b) = testing t s (testMeaning (seen s) body l c a b)
 -- "an executed `$ELSE` continues after `$ENDIF`"
 formMeaning t start l body s form.Else = done (jumped t s TestEnd)
 formMeaning t start l body s form.EndIf = done s
 formMeaning t start l body s (form.BeginTable a) =
     bind (beginMeaning (seen s) body l (s .tables) (s .position .at) (s .position .line) a) (λ x. done (tableBegun t s x))
-formMeaning t start l body s (form.EndTable k) = bind (endMeaning (seen s) body l (s .tables) k) (λ x. done (tableEnded s x))
+formMeaning t start l body s (form.EndTable k) = bind (endMeaning (seen s) body l (s .tables) k) (λ x. done (tableCounted s x))
 formMeaning t start l body s (form.Records f) = setting s (recordsMeaning (seen s) l f)
 formMeaning t start l body s (form.Entries f) = setting s (entriesMeaning (seen s) l f)
 formMeaning t start l body s (form.Datasource i) = bind (datasourceMeaning (seen s) l i) (λ d. done (withDatasource s d))
@@ -106,7 +106,8 @@ formMeaning t start l body s form.Remark = done s
 -- no line of an accepted template: template/proofs/Opening:opens-line
 formMeaning t start l body s form.NoForm = done s
 
--- the line that is due
+-- the line that is due, by what it spells (grammar/proofs/Lines:reads-what-is-spelled); a jump goes behind the line that matches
+-- (demands/proofs/Matching:run-goes-behind-match)
 unfoldable pub lineMeaning : List ℕ → State → Meaning State
 lineMeaning t s =
-    formMeaning t (s .position .at) (s .position .line) (lineAt t (s .position .at)) (past s (length (lineAt t (s .position .at)))) (parseLine (lineAt t (s .position .at)))
+    formMeaning t (s .position .at) (s .position .line) (lineAt t (s .position .at)) (pastLine s (length (lineAt t (s .position .at)))) (parseLine (lineAt t (s .position .at)))

@@ -37,12 +37,12 @@ use Rattle.values.specs.Letters.{upper, alike}
 use Rattle.values.specs.Machine.{Machine, numbered, Variables, setNumbered}
 use Rattle.values.specs.Indexes.{indexNumber, limited, indexValue}
 use Rattle.values.specs.Asking.{asks, cellMeaning}
-use Rattle.values.specs.Fetching.{firstOf, elementQuestion, elementQuestions, countValue, asksElements, fetchMeaning}
-use Rattle.values.specs.Worth.{answered, ranged, absolute, filteredNumber, filteredString, filtered, kindOf}
+use Rattle.values.specs.Fetching.{firstAlong, elementQuestion, elementQuestions, countValue, asksElements, fetchMeaning}
+use Rattle.values.specs.Worth.{answered, ranged, absolute, filteredNumber, filteredString, filtered, questionKind}
 use Rattle.values.specs.Meanings.{worthOf, operandMeaning, argumentMeaning}
 use Rattle.commands.specs.declared.table.Table.{Table}
 use Rattle.commands.specs.Settling.{settled, integerFrom, quantityFrom, stringFrom, resultOf, millionthsOf, decimalFrom, integerMeaning}
-use Rattle.commands.specs.Setting.{integerOutcome, decimalOutcome, stored, newFrom, stringNew, setOf, setMeaning}
+use Rattle.commands.specs.Setting.{integerResult, decimalResult, asVariable, newFrom, stringNew, setOf, setMeaning}
 use Rattle.commands.specs.Testing.{zeroTest, zeroJudged, ofNumbers, ofStrings, isMissing, compared, zeroMeaning, testMeaning, judged}
 use Rattle.control.specs.Fetching.{recordsMeaning}
 use Rattle.commands.specs.Looping.{loop, Looping, looping, newTable, begun, beginMeaning, exceeds, countedTo, counting, counted, endMeaning}
@@ -128,7 +128,7 @@ ends k = run source 5 0 (endMeaning sample (ascii "") 7 (table 5 3 ∷ []) k) .e
 
 -- the run of `$REC 1 P9 record 0 count`, with two places on the read list
 abbrev fetches : Index → Index → Run Question Refusal ℕ Variables
-fetches r n = run source 2 0 (recordsMeaning sample 7 (record { number = 1; parameter = 9; first = r; second = Fixed 0; count = n }))
+fetches r n = run source 2 0 (recordsMeaning sample 7 (record { number = 1; parameter = 9; «record» = r; entry = Fixed 0; count = n }))
 
 -- how $SETDS ends
 abbrev selects : Index → End Refusal ℕ ℕ
@@ -196,6 +196,6 @@ Rows =
     × (selects Loop ≡ halted (refused BadIndex) 7)
 
 pub rows : Rows
-unfolding run opposed within rounded checked operands dividedBy sumOf differenceOf integerProduct integerQuotient decimalProduct decimalQuotient inMillionths upper alike numbered answered ranged absolute filteredNumber filteredString filtered kindOf indexNumber limited indexValue asks cellMeaning worthOf operandMeaning argumentMeaning firstOf elementQuestion elementQuestions asksEach countValue asksElements fetchMeaning integerFrom quantityFrom stringFrom resultOf millionthsOf decimalFrom integerMeaning integerOutcome decimalOutcome setNumbered stored newFrom stringNew setOf setMeaning zeroTest zeroJudged ofNumbers ofStrings isMissing compared zeroMeaning testMeaning recordsMeaning loop begun beginMeaning exceeds counting counted endMeaning datasourceFrom datasourceMeaning judged
+unfolding run opposed within rounded checked operands dividedBy sumOf differenceOf integerProduct integerQuotient decimalProduct decimalQuotient inMillionths upper alike numbered answered ranged absolute filteredNumber filteredString filtered questionKind indexNumber limited indexValue asks cellMeaning worthOf operandMeaning argumentMeaning firstAlong elementQuestion elementQuestions asksEach countValue asksElements fetchMeaning integerFrom quantityFrom stringFrom resultOf millionthsOf decimalFrom integerMeaning integerResult decimalResult setNumbered asVariable newFrom stringNew setOf setMeaning zeroTest zeroJudged ofNumbers ofStrings isMissing compared zeroMeaning testMeaning recordsMeaning loop begun beginMeaning exceeds counting counted endMeaning datasourceFrom datasourceMeaning judged
 rows =
     (refl, refl, refl, refl, refl, refl, refl, refl, refl, refl, refl, refl, refl, refl, refl, refl, refl, refl, refl, refl, refl, refl, refl, refl, refl, refl, refl, refl, refl, refl, refl, refl, refl, refl, refl, refl, refl, refl, refl, refl, refl, refl, refl, refl, refl, refl, refl)

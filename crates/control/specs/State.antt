@@ -21,7 +21,7 @@ pub record Layout : Type 0 where
   -- $PH1 to $PH9
   pub headings : List Heading
   -- whether a break writes a form feed: not under $NOFF
-  pub feeds : Bool
+  pub formFeeds : Bool
 
 pub record State : Type 0 where
   pub position : Position
@@ -43,7 +43,7 @@ seen s =
       counter = pos (loop (s .tables));
       datasource = s .datasource;
       page = s .page .number;
-      row = s .page .line;
+      row = s .page .row;
     }
 
 -- ---- a state with one part of it anew
@@ -61,7 +61,7 @@ abbrev pub withTables : State → List Table → State
 withTables s ts = record { position = s .position; variables = s .variables; datasource = s .datasource; tables = ts; layout = s .layout; page = s .page }
 
 abbrev pub withLayout : State → List Heading → Bool → State
-withLayout s hs f = record { position = s .position; variables = s .variables; datasource = s .datasource; tables = s .tables; layout = record { headings = hs; feeds = f }; page = s .page }
+withLayout s hs f = record { position = s .position; variables = s .variables; datasource = s .datasource; tables = s .tables; layout = record { headings = hs; formFeeds = f }; page = s .page }
 
 abbrev pub withPage : State → Page → State
 withPage s p = record { position = s .position; variables = s .variables; datasource = s .datasource; tables = s .tables; layout = s .layout; page = p }
@@ -81,7 +81,7 @@ noVariables =
 
 -- no headings, not under $NOFF
 abbrev pub noLayout : Layout
-noLayout = record { headings = replicate 9 noHeading; feeds = true }
+noLayout = record { headings = replicate 9 noHeading; formFeeds = true }
 
 -- "Each executed $SEC sets IV and FV to 0, SV to empty, clears R, T and headings, ends $NOFF. Page and datasource go on."
 abbrev pub cleared : State → State

@@ -108,7 +108,7 @@ pub fn branched(
 }
 
 // "an executed `$ELSE` continues after `$ENDIF`"
-pub fn turned_away(template: &[u8], flow: Flow, printed: usize, asked: usize) -> Lined
+pub fn else_line(template: &[u8], flow: Flow, printed: usize, asked: usize) -> Lined
     requires { ⌜ Jumpable (now template) flow ⌝ }
     ensures { λ r. ⌜ r ≡ endedIn Finished (jumpedIn (now (template .entry)) flow TestEnd) printed asked ⌝ }
 {
@@ -313,7 +313,7 @@ pub fn page_for(
         }
         Taken::Value(n) => {
             let page = flow.page;
-            if breaks_for(page.line, n) {
+            if breaks_for(page.row, n) {
                 return break_line(number, text, printed, flow, asked);
             }
             return went(flow, printed, asked);

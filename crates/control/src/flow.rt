@@ -20,7 +20,7 @@ pub fn scene_of(words: &Words, flow: Flow, number: u32) -> Scene
     Scene {
         datasource: flow.datasource,
         page: page.number,
-        row: page.line,
+        row: page.row,
         number,
         turn: table::turn_of(words, flow.depth),
     }

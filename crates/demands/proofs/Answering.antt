@@ -6,7 +6,7 @@ use Rattle.numbers.specs.declared.Quantity.the-variants as Q
 use Rattle.meaning.specs.Answer as A
 use Rattle.meaning.specs.Answer.{string, Answer, missing, cell, highest}
 use Rattle.meaning.specs.declared.question.Question.{Question}
-use Rattle.cells.specs.Store.{held}
+use Rattle.cells.specs.Store.{cellsHeld}
 use Rattle.cells.specs.Asking.{askOf, stringStart, handed, askedOf, meant}
 use Rattle.cells.proofs.Places.{Stands, string-stands}
 
@@ -21,4 +21,4 @@ handed-means b n i (highest k) h = refl
 -- for every store of any bytes and every question
 pub answer-meant : (b : List ℕ) (n : ℕ) (q : Question) → meant b (askedOf b n q .answer) ≡ askOf b n q .answer
 unfolding askedOf
-answer-meant b n q = handed-means b n (stringStart q (held b n)) (askOf b n q .answer) (string-stands b n q)
+answer-meant b n q = handed-means b n (stringStart q (cellsHeld b n)) (askOf b n q .answer) (string-stands b n q)

@@ -8,8 +8,8 @@ use Rattle.meaning.specs.declared.end.Ended.the-variants.{Finished, Halted}
 use Rattle.cells.specs.Cell.{Key}
 use Rattle.store.specs.declared.Edited.{Edited}
 use Rattle.store.specs.Edit.{Edit, edit}
-use Rattle.history.specs.State.{State}
-use Rattle.history.specs.Change.{Change, put, remove, handedBack, next, endOf, succeeded, keyNamed, isKey, touches}
+use Rattle.history.specs.LentStore.{LentStore}
+use Rattle.history.specs.Change.{Change, put, remove, handedBack, next, editEnd, succeeded, keyNamed, isKey, touches}
 use Rattle.history.specs.History.{after, untouched}
 use Rattle.demands.specs.Calls.{EditCall, Promised, storeAfter, InTurn, lastHanded, OtherKeys}
 
@@ -19,18 +19,18 @@ changes [] = []
 changes (x ∷ xs) = x .change ∷ changes xs
 
 -- a call hands back what history says of its edit
-pub handed-back : (m : State) (e : Change) (r : Edited) (b : List ℕ) → Promised m e r b → handedBack e m ≡ edit r b
+pub handed-back : (m : LentStore) (e : Change) (r : Edited) (b : List ℕ) → Promised m e r b → handedBack e m ≡ edit r b
 unfolding handedBack
 handed-back m (put s) r b h = sym h
 handed-back m (remove s) r b h = sym h
 
-pub left-is : (m : State) (x : EditCall) → Promised m (x .change) (x .returned) (x .buffer) → next (x .change) m ≡ storeAfter x
+pub left-is : (m : LentStore) (x : EditCall) → Promised m (x .change) (x .returned) (x .buffer) → next (x .change) m ≡ storeAfter x
 left-is m x h = ap (λ (r : Edit). record { buffer = r .buffer; length = r .length }) (handed-back m (x .change) (x .returned) (x .buffer) h)
 
-pub end-is : (m : State) (x : EditCall) → Promised m (x .change) (x .returned) (x .buffer) → endOf (x .change) m ≡ x .returned .end
+pub end-is : (m : LentStore) (x : EditCall) → Promised m (x .change) (x .returned) (x .buffer) → editEnd (x .change) m ≡ x .returned .end
 end-is m x h = ap (λ (r : Edit). r .end) (handed-back m (x .change) (x .returned) (x .buffer) h)
 
-pub after-calls : (m : State) (xs : List EditCall) → InTurn m xs → after (changes xs) m ≡ lastHanded m xs
+pub after-calls : (m : LentStore) (xs : List EditCall) → InTurn m xs → after (changes xs) m ≡ lastHanded m xs
 unfolding after
 after-calls m [] h = refl
 after-calls m (x ∷ xs) h = ap (after (changes xs)) (left-is m x (h .0)) ∙ after-calls (storeAfter x) xs (h .1)
@@ -40,7 +40,7 @@ unfolding succeeded
 not-touched Finished b h = ap not (h refl)
 not-touched (Halted c l) b h = refl
 
-pub untouched-calls : (k : Key) (m : State) (xs : List EditCall) → InTurn m xs → OtherKeys k xs → untouched k (changes xs) m ≡ true
+pub untouched-calls : (k : Key) (m : LentStore) (xs : List EditCall) → InTurn m xs → OtherKeys k xs → untouched k (changes xs) m ≡ true
 unfolding untouched touches
 untouched-calls k m [] h o = refl
 untouched-calls k m (x ∷ xs) h o =

@@ -48,11 +48,14 @@ use Rattle.control.specs.Fetching.{recordsMeaning, entriesMeaning}
 use Rattle.control.specs.Selecting.{datasourceMeaning}
 use Rattle.control.proofs.Giving.{Shaped, set-gives, records-gives, entries-gives, integer-gives, zero-gives, test-gives, Begun, Counting, begin-gives, end-gives, Selectable, datasource-gives}
 use Rattle.control.specs.State.{State, seen, withVariables, withDatasource, withPage}
-use Rattle.control.specs.Line.{past, branched, tableBegun, tableEnded, breaking, breakingFor, newPageMeaning, formMeaning, lineMeaning}
+use Rattle.control.specs.Line.{pastLine, branched, tableBegun, tableCounted, breaking, breakingFor, newPageMeaning, formMeaning, lineMeaning}
 use Rattle.report.specs.Report.{runFrom, startOf, runMeaning, ranTo}
 use Rattle.report.specs.inner.Stretch.{stretch}
 use Rattle.report.proofs.Pages.{pages-are-pagenum, pagenum-counts}
-use Rattle.demands.proofs.Halting.{placesBehind, roomBehind, HaltedIn, first, second, finished-then, halted-in, gives-nothing, linesOnly, no-breaks}
+use Rattle.demands.specs.Due.{bytesDue}
+use Rattle.demands.specs.Shown.{firstPage}
+use Rattle.demands.specs.Ending.{LastPage, finally, before, within}
+use Rattle.demands.proofs.Halting.{placesBehind, roomBehind, HaltedIn, first, second, finished-then, halted-first, halted-in, gives-nothing, linesOnly, no-breaks}
 
 abbrev Ran : Type 0 → Type 0
 Ran A = Did Question Refusal ℕ A
@@ -93,26 +96,7 @@ unfinished {A} a c l e = subst IsFinished e tt
     IsFinished (finished a) = Unit {0}
     IsFinished (halted c l) = ⊥
 
--- a heading, the blank line behind them or the text line itself was being worked out, with this much left: PAGENUM is its page's
-pub record Inside (source : Question → Answer) (m : Machine) (n : ℕ) (c : Cause Refusal) (l : ℕ) : Type 0 where
-  pub due : Due
-  pub page : Page
-  pub places : ℕ
-  pub room : ℕ
-  pub there : run source places room (sayMeaning m (due .bytes) (due .from) (due .number) page) .end ≡ halted c l
-  pub number : page .number ≡ n
-
 module _ (source : Question → Answer) (c : Cause Refusal) (l : ℕ) where
-  says-halted : (m : Machine) (ds : List Due) (p : Page) (n r : ℕ) → run source n r (saysOn m ds p) .end ≡ halted c l → Inside source m (p .number) c l
-  unfolding run
-  says-halted m [] p n r h = absurd (unfinished p c l h)
-  says-halted m (d ∷ ds) p n r h = go (halted-in source (sayMeaning m (d .bytes) (d .from) (d .number) p) (λ _. saysOn m ds (advancedOf p)) n r c l h) (λ n′ r′ e. says-halted m ds (advancedOf p) n′ r′ e)
-    where
-      go : HaltedIn source (sayMeaning m (d .bytes) (d .from) (d .number) p) (λ _. saysOn m ds (advancedOf p)) n r c l
-          → ((n′ r′ : ℕ) → run source n′ r′ (saysOn m ds (advancedOf p)) .end ≡ halted c l → Inside source m (p .number) c l) → Inside source m (p .number) c l
-      go (first e v) later = record { due = d; page = p; places = n; room = r; there = e; number = refl }
-      go (second a f e v) later = later _ _ e
-
   abbrev feed : Bool → List ℕ
   feed feeds = cond feeds (12 ∷ []) []
 
@@ -136,13 +120,13 @@ module _ (source : Question → Answer) (c : Cause Refusal) (l : ℕ) where
       go false e =
           absurd (unfinished q (cut Output) due (sym h ∙ ap endIn (run-print-full source n r (break (feed feeds)) due (done (brokenOf p)) (leb-false (length (feed feeds)) r e))))
 
-  -- how a text line with what comes before it was halted, after these events: before it printed anything, or inside
-  pub data Halts (m : Machine) (n : ℕ) (vs : List Event) : Type 0 where
-    nothing : vs ≡ [] → Halts m n vs
-    inside : Inside source m (n + breaks vs) c l → Halts m n vs
+  -- how a line was halted that is due on page p, after these events: before it printed anything, or as a text line, behind its break
+  pub data Halts (f : Line) (p : Page) (vs : List Event) : Type 0 where
+    nothing : vs ≡ [] → Halts f p vs
+    inside : f ≡ form.Text → firstPage p .number ≡ p .number + breaks vs → Halts f p vs
 
   step-halted : (m : Machine) (t : List ℕ) (due : ℕ) (feeds : Bool) (hs : List Heading) (x : List ℕ) (p : Page) (n r : ℕ)
-      → run source n r (lineStep m t due feeds hs x p) .end ≡ halted c l → Halts m (p .number) (run source n r (lineStep m t due feeds hs x p) .events)
+      → run source n r (lineStep m t due feeds hs x p) .end ≡ halted c l → Halts form.Text p (run source n r (lineStep m t due feeds hs x p) .events)
   unfolding run breaks turnMeaning
   step-halted m t due feeds hs x p n r h = rw (step-says m t due x feeds hs p) (go (halted-in source (turnMeaning due feeds p) says n r c l (subst (λ (y : Meaning Page). run source n r y .end ≡ halted c l) (step-says m t due x feeds hs p) h)))
     where
@@ -163,82 +147,91 @@ module _ (source : Question → Answer) (c : Cause Refusal) (l : ℕ) where
       turn-finished true q e = omega (arith, break-finished due feeds p q n r e)
       turn-finished false q e = omega arith
 
-      go : HaltedIn source (turnMeaning due feeds p) says n r c l → Halts m (p .number) (run source n r (bind (turnMeaning due feeds p) says) .events)
-      go (first e v) = nothing (v ∙ turn-halted (ltb 60 (p .line)) e)
+      go : HaltedIn source (turnMeaning due feeds p) says n r c l → Halts form.Text p (run source n r (bind (turnMeaning due feeds p) says) .events)
+      go (first e v) = nothing (v ∙ turn-halted (ltb 60 (p .row)) e)
       go (second q f e v) =
-          let i = says-halted m (linesDue t due hs x (turned p)) (turned p) n′ r′ e in
           let u = no-breaks (run source n′ r′ (saysOn m (linesDue t due hs x (turned p)) (turned p)) .events) (keeps-run linesOnly source n′ r′ (saysOn m (linesDue t due hs x (turned p)) (turned p)) tt Whatever (says-unbroken m (linesDue t due hs x (turned p)) (turned p))) in
-          let k = turn-finished (ltb 60 (p .line)) q f in
+          let k = turn-finished (ltb 60 (p .row)) q f in
           let a = breaks-append (run source n r (turnMeaning due feeds p) .events) (run source n′ r′ (saysOn m (linesDue t due hs x (turned p)) (turned p)) .events) in
-          inside (record { due = i .due; page = i .page; places = i .places; room = i .room; there = i .there; number = omega (arith, i .number, ap breaks v, a, u, k) })
+          inside refl (omega (arith, ap breaks v, a, u, k))
 
   -- ---- a line
 
   module _ (t : List ℕ) (start at : ℕ) (body : List ℕ) (s : State) where
     -- a command that only asks
-    asks-halted : {A : Type 0} (m : Meaning A) (Φ : A → Type 0) → Gives m Φ → (f : A → State) (n r : ℕ) → Halts (seen s) (s .page .number) (run source n r (bind m (λ a. done (f a))) .events)
-    asks-halted m Φ g f n r =
-        nothing (gives-nothing source n r (bind m (λ a. done (f a))) Anything (gives-bind m (λ a. done (f a)) Φ Anything g (λ a _. tt)))
+    asks-halted : {A : Type 0} (f : Line) (m : Meaning A) (Φ : A → Type 0) → Gives m Φ → (k : A → State) (n r : ℕ) → Halts f (s .page) (run source n r (bind m (λ a. done (k a))) .events)
+    asks-halted f m Φ g k n r =
+        nothing (gives-nothing source n r (bind m (λ a. done (k a))) Anything (gives-bind m (λ a. done (k a)) Φ Anything g (λ a _. tt)))
 
     -- a page that a break or a text line leaves
-    paged-halted : (m : Meaning Page) (n r : ℕ) → run source n r (bind m (λ p. done (withPage s p))) .end ≡ halted c l
-        → (run source n r m .end ≡ halted c l → Halts (seen s) (s .page .number) (run source n r m .events)) → Halts (seen s) (s .page .number) (run source n r (bind m (λ p. done (withPage s p))) .events)
+    paged-halted : (f : Line) (m : Meaning Page) (n r : ℕ) → run source n r (bind m (λ p. done (withPage s p))) .end ≡ halted c l
+        → (run source n r m .end ≡ halted c l → Halts f (s .page) (run source n r m .events)) → Halts f (s .page) (run source n r (bind m (λ p. done (withPage s p))) .events)
     unfolding run
-    paged-halted m n r h k = go (halted-in source m (λ p. done (withPage s p)) n r c l h)
+    paged-halted f m n r h k = go (halted-in source m (λ p. done (withPage s p)) n r c l h)
       where
-        go : HaltedIn source m (λ p. done (withPage s p)) n r c l → Halts (seen s) (s .page .number) (run source n r (bind m (λ p. done (withPage s p))) .events)
-        go (first e v) = subst (Halts (seen s) (s .page .number)) (sym v) (k e)
-        go (second p f e v) = absurd (unfinished (withPage s p) c l e)
+        go : HaltedIn source m (λ p. done (withPage s p)) n r c l → Halts f (s .page) (run source n r (bind m (λ p. done (withPage s p))) .events)
+        go (first e v) = subst (Halts f (s .page)) (sym v) (k e)
+        go (second p _ e v) = absurd (unfinished (withPage s p) c l e)
 
-    breaking-halted : (n r : ℕ) → run source n r (breaking at s) .end ≡ halted c l → Halts (seen s) (s .page .number) (run source n r (breaking at s) .events)
+    breaking-halted : (f : Line) (n r : ℕ) → run source n r (breaking at s) .end ≡ halted c l → Halts f (s .page) (run source n r (breaking at s) .events)
     unfolding breaking
-    breaking-halted n r h = paged-halted (breakMeaning at (s .layout .feeds) (s .page)) n r h (λ e. nothing (break-halted at (s .layout .feeds) (s .page) n r e))
+    breaking-halted f n r h = paged-halted f (breakMeaning at (s .layout .formFeeds) (s .page)) n r h (λ e. nothing (break-halted at (s .layout .formFeeds) (s .page) n r e))
 
-    np-halted : (o : Optional) (n r : ℕ) → run source n r (newPageMeaning at body s o) .end ≡ halted c l → Halts (seen s) (s .page .number) (run source n r (newPageMeaning at body s o) .events)
+    np-halted : (f : Line) (o : Optional) (n r : ℕ) → run source n r (newPageMeaning at body s o) .end ≡ halted c l → Halts f (s .page) (run source n r (newPageMeaning at body s o) .events)
     unfolding newPageMeaning breakingFor run
-    np-halted Absent n r h = breaking-halted n r h
-    np-halted (Given a) n r h = go (halted-in source (integerMeaning (seen s) body at a) (breakingFor at s) n r c l h)
+    np-halted f Absent n r h = breaking-halted f n r h
+    np-halted f (Given a) n r h = go (halted-in source (integerMeaning (seen s) body at a) (breakingFor at s) n r c l h)
       where
         quiet : run source n r (integerMeaning (seen s) body at a) .events ≡ []
         quiet = gives-nothing source n r (integerMeaning (seen s) body at a) Anything (integer-gives (seen s) body at a)
 
-        by : (b : Bool) (n′ r′ : ℕ) → run source n′ r′ (cond b (breaking at s) (done s)) .end ≡ halted c l → Halts (seen s) (s .page .number) (run source n′ r′ (cond b (breaking at s) (done s)) .events)
-        by true n′ r′ e = breaking-halted n′ r′ e
+        by : (b : Bool) (n′ r′ : ℕ) → run source n′ r′ (cond b (breaking at s) (done s)) .end ≡ halted c l → Halts f (s .page) (run source n′ r′ (cond b (breaking at s) (done s)) .events)
+        by true n′ r′ e = breaking-halted f n′ r′ e
         by false n′ r′ e = absurd (unfinished s c l e)
 
-        go : HaltedIn source (integerMeaning (seen s) body at a) (breakingFor at s) n r c l → Halts (seen s) (s .page .number) (run source n r (bind (integerMeaning (seen s) body at a) (breakingFor at s)) .events)
+        go : HaltedIn source (integerMeaning (seen s) body at a) (breakingFor at s) n r c l → Halts f (s .page) (run source n r (bind (integerMeaning (seen s) body at a) (breakingFor at s)) .events)
         go (first e v) = nothing (v ∙ quiet)
-        go (second z f e v) =
-            subst (Halts (seen s) (s .page .number)) (sym (v ∙ ap (λ (vs : List Event). vs ++ run source (placesBehind source n r (integerMeaning (seen s) body at a)) (roomBehind source n r (integerMeaning (seen s) body at a)) (breakingFor at s z) .events) quiet))
-            (by (ltZ (pos (61 - s .page .line)) z) (placesBehind source n r (integerMeaning (seen s) body at a)) (roomBehind source n r (integerMeaning (seen s) body at a)) e)
+        go (second z _ e v) =
+            subst (Halts f (s .page)) (sym (v ∙ ap (λ (vs : List Event). vs ++ run source (placesBehind source n r (integerMeaning (seen s) body at a)) (roomBehind source n r (integerMeaning (seen s) body at a)) (breakingFor at s z) .events) quiet))
+            (by (ltZ (pos (61 - s .page .row)) z) (placesBehind source n r (integerMeaning (seen s) body at a)) (roomBehind source n r (integerMeaning (seen s) body at a)) e)
 
-    form-halted : (f : Line) (n r : ℕ) → run source n r (formMeaning t start at body s f) .end ≡ halted c l → Halts (seen s) (s .page .number) (run source n r (formMeaning t start at body s f) .events)
+    form-halted : (f : Line) (n r : ℕ) → run source n r (formMeaning t start at body s f) .end ≡ halted c l → Halts f (s .page) (run source n r (formMeaning t start at body s f) .events)
     unfolding formMeaning run
     form-halted form.NoForm n r h = nothing refl
-    form-halted form.Text n r h = paged-halted (lineStep (seen s) t at (s .layout .feeds) (s .layout .headings) body (s .page)) n r h (step-halted (seen s) t at (s .layout .feeds) (s .layout .headings) body (s .page) n r)
+    form-halted form.Text n r h = paged-halted form.Text (lineStep (seen s) t at (s .layout .formFeeds) (s .layout .headings) body (s .page)) n r h (step-halted (seen s) t at (s .layout .formFeeds) (s .layout .headings) body (s .page) n r)
     form-halted (form.Section a b) n r h = nothing refl
-    form-halted (form.Set o v a) n r h = asks-halted (setMeaning (seen s) body at o v a) (Shaped (s .variables)) (set-gives (seen s) body at o v a) (withVariables s) n r
-    form-halted (form.IfZero a) n r h = asks-halted (zeroMeaning (seen s) body at true a) Anything (zero-gives (seen s) body at true a) (branched t s) n r
-    form-halted (form.IfNonZero a) n r h = asks-halted (zeroMeaning (seen s) body at false a) Anything (zero-gives (seen s) body at false a) (branched t s) n r
-    form-halted (form.Compare k a b) n r h = asks-halted (testMeaning (seen s) body at k a b) Anything (test-gives (seen s) body at k a b) (branched t s) n r
+    form-halted (form.Set o v a) n r h = asks-halted _ (setMeaning (seen s) body at o v a) (Shaped (s .variables)) (set-gives (seen s) body at o v a) (withVariables s) n r
+    form-halted (form.IfNot a) n r h = asks-halted _ (zeroMeaning (seen s) body at true a) Anything (zero-gives (seen s) body at true a) (branched t s) n r
+    form-halted (form.If a) n r h = asks-halted _ (zeroMeaning (seen s) body at false a) Anything (zero-gives (seen s) body at false a) (branched t s) n r
+    form-halted (form.Compare k a b) n r h = asks-halted _ (testMeaning (seen s) body at k a b) Anything (test-gives (seen s) body at k a b) (branched t s) n r
     form-halted form.Else n r h = nothing refl
     form-halted form.EndIf n r h = nothing refl
-    form-halted (form.BeginTable a) n r h = asks-halted (beginMeaning (seen s) body at (s .tables) (s .position .at) (s .position .line) a) (Begun (s .tables) (s .position .at) (s .position .line)) (begin-gives (seen s) body at (s .tables) (s .position .at) (s .position .line) a) (tableBegun t s) n r
-    form-halted (form.EndTable k) n r h = asks-halted (endMeaning (seen s) body at (s .tables) k) (Counting (s .tables)) (end-gives (seen s) body at (s .tables) k) (tableEnded s) n r
-    form-halted (form.Records f) n r h = asks-halted (recordsMeaning (seen s) at f) (Shaped (s .variables)) (records-gives (seen s) at f) (withVariables s) n r
-    form-halted (form.Entries f) n r h = asks-halted (entriesMeaning (seen s) at f) (Shaped (s .variables)) (entries-gives (seen s) at f) (withVariables s) n r
-    form-halted (form.Datasource x) n r h = asks-halted (datasourceMeaning (seen s) at x) Selectable (datasource-gives (seen s) at x) (withDatasource s) n r
+    form-halted (form.BeginTable a) n r h = asks-halted _ (beginMeaning (seen s) body at (s .tables) (s .position .at) (s .position .line) a) (Begun (s .tables) (s .position .at) (s .position .line)) (begin-gives (seen s) body at (s .tables) (s .position .at) (s .position .line) a) (tableBegun t s) n r
+    form-halted (form.EndTable k) n r h = asks-halted _ (endMeaning (seen s) body at (s .tables) k) (Counting (s .tables)) (end-gives (seen s) body at (s .tables) k) (tableCounted s) n r
+    form-halted (form.Records f) n r h = asks-halted _ (recordsMeaning (seen s) at f) (Shaped (s .variables)) (records-gives (seen s) at f) (withVariables s) n r
+    form-halted (form.Entries f) n r h = asks-halted _ (entriesMeaning (seen s) at f) (Shaped (s .variables)) (entries-gives (seen s) at f) (withVariables s) n r
+    form-halted (form.Datasource x) n r h = asks-halted _ (datasourceMeaning (seen s) at x) Selectable (datasource-gives (seen s) at x) (withDatasource s) n r
     form-halted form.NoFormFeed n r h = nothing refl
-    form-halted (form.NewPage o) n r h = np-halted o n r h
+    form-halted (form.NewPage o) n r h = np-halted (form.NewPage o) o n r h
     form-halted (form.Heading k from) n r h = nothing refl
     form-halted (form.NoHeading k) n r h = nothing refl
     form-halted form.Remark n r h = nothing refl
 
-  line-halted : (t : List ℕ) (s : State) (n r : ℕ) → run source n r (lineMeaning t s) .end ≡ halted c l → Halts (seen s) (s .page .number) (run source n r (lineMeaning t s) .events)
+  line-halted : (t : List ℕ) (s : State) (n r : ℕ) → run source n r (lineMeaning t s) .end ≡ halted c l → Halts (parseLine (bytesDue t s)) (s .page) (run source n r (lineMeaning t s) .events)
   unfolding lineMeaning
-  line-halted t s n r h = form-halted t (s .position .at) (s .position .line) (lineAt t (s .position .at)) (past s (length (lineAt t (s .position .at)))) (parseLine (lineAt t (s .position .at))) n r h
+  line-halted t s n r h = form-halted t (s .position .at) (s .position .line) (lineAt t (s .position .at)) (pastLine s (length (lineAt t (s .position .at)))) (parseLine (lineAt t (s .position .at))) n r h
 
   -- ---- a run
+
+  -- a text line is due in the state, and it was refused or cut off behind its break
+  pub record InText (t : List ℕ) (end : ℕ) (s : State) (n r lines : ℕ) (state : State) (own : List Event) : Type 0 where
+    pub text : parseLine (bytesDue t state) ≡ form.Text
+    pub number : firstPage (state .page) .number ≡ state .page .number + breaks own
+    pub halts : run source n r (stretch (suc lines) t end s) .end ≡ halted c l
+
+  pub data Last (t : List ℕ) (end : ℕ) (s : State) (n r lines : ℕ) (state : State) (own : List Event) : Type 0 where
+    nothing-yet : own ≡ [] → Last t end s n r lines state own
+    in-text : InText t end s n r lines state own → Last t end s n r lines state own
 
   -- so many lines were executed whole, and the next one, or one too many, ended the run
   pub record HaltsAfter (t : List ℕ) (end : ℕ) (s : State) (m : Meaning State) (n r : ℕ) : Type 0 where
@@ -247,20 +240,25 @@ module _ (source : Question → Answer) (c : Cause Refusal) (l : ℕ) where
     pub reached : run source n r (stretch lines t end s) .end ≡ finished state
     pub own : List Event
     pub events : run source n r m .events ≡ run source n r (stretch lines t end s) .events ++ own
-    pub last : Halts (seen state) (state .page .number) own
+    pub last : Last t end s n r lines state own
 
   run-halted : (k : ℕ) (t : List ℕ) (end : ℕ) (s : State) (n r : ℕ) → run source n r (runFrom k t end s) .end ≡ halted c l → HaltsAfter t end s (runFrom k t end s) n r
   unfolding runFrom stretch run
   run-halted zero t end s n r h = by (ltb (s .position .at) end) h
     where
       by : (b : Bool) → run source n r (cond {A = Meaning State} b (stop TooManyLines (s .position .line)) (done s)) .end ≡ halted c l → HaltsAfter t end s (cond {A = Meaning State} b (stop TooManyLines (s .position .line)) (done s)) n r
-      by true h = record { lines = 0; state = s; reached = refl; own = []; events = refl; last = nothing refl }
+      by true h = record { lines = 0; state = s; reached = refl; own = []; events = refl; last = nothing-yet refl }
       by false h = absurd (unfinished s c l h)
   run-halted (suc k) t end s n r h = by (ltb (s .position .at) end) refl h (λ s′ n′ r′ h′. run-halted k t end s′ n′ r′ h′)
     where
+      at-once : ltb (s .position .at) end ≡ true → run source n r (lineMeaning t s) .end ≡ halted c l → Halts (parseLine (bytesDue t s)) (s .page) (run source n r (lineMeaning t s) .events)
+          → Last t end s n r 0 s (run source n r (lineMeaning t s) .events)
+      at-once e f (nothing q) = nothing-yet q
+      at-once e f (inside q k) = in-text (record { text = q; number = k; halts = rw e (halted-first source (lineMeaning t s) (stretch 0 t end) n r c l f) })
+
       due : ltb (s .position .at) end ≡ true → ((s′ : State) (n′ r′ : ℕ) → run source n′ r′ (runFrom k t end s′) .end ≡ halted c l → HaltsAfter t end s′ (runFrom k t end s′) n′ r′)
           → HaltedIn source (lineMeaning t s) (runFrom k t end) n r c l → HaltsAfter t end s (bind (lineMeaning t s) (runFrom k t end)) n r
-      due e next (first f v) = record { lines = 0; state = s; reached = refl; own = run source n r (lineMeaning t s) .events; events = v; last = line-halted t s n r f }
+      due e next (first f v) = record { lines = 0; state = s; reached = refl; own = run source n r (lineMeaning t s) .events; events = v; last = at-once e f (line-halted t s n r f) }
       due e next (second s′ f g v) = later (next s′ _ _ g)
         where
           n′ : ℕ
@@ -272,6 +270,10 @@ module _ (source : Question → Answer) (c : Cause Refusal) (l : ℕ) where
           one-more : (j : ℕ) → run source n r (stretch (suc j) t end s) ≡ behind (run source n r (lineMeaning t s) .asked) (run source n r (lineMeaning t s) .events) (run source n′ r′ (stretch j t end s′))
           one-more j = rw e (finished-then source (lineMeaning t s) (stretch j t end) n r s′ f)
 
+          again : (j : ℕ) (u : State) (own : List Event) → Last t end s′ n′ r′ j u own → Last t end s n r (suc j) u own
+          again j u own (nothing-yet q) = nothing-yet q
+          again j u own (in-text x) = in-text (record { text = x .text; number = x .number; halts = ap endIn (one-more (suc j)) ∙ x .halts })
+
           later : HaltsAfter t end s′ (runFrom k t end s′) n′ r′ → HaltsAfter t end s (bind (lineMeaning t s) (runFrom k t end)) n r
           later x = record {
             lines = suc (x .lines);
@@ -279,7 +281,7 @@ module _ (source : Question → Answer) (c : Cause Refusal) (l : ℕ) where
             reached = ap endIn (one-more (x .lines)) ∙ x .reached;
             own = x .own;
             events = v ∙ ap (λ (vs : List Event). run source n r (lineMeaning t s) .events ++ vs) (x .events) ∙ sym (append-assoc (run source n r (lineMeaning t s) .events) (run source n′ r′ (stretch (x .lines) t end s′) .events) (x .own)) ∙ ap (λ (vs : List Event). vs ++ x .own) (sym (ap eventsIn (one-more (x .lines))));
-            last = x .last;
+            last = again (x .lines) (x .state) (x .own) (x .last);
           }
 
       by : (b : Bool) → ltb (s .position .at) end ≡ b → run source n r (cond {A = Meaning State} b (bind (lineMeaning t s) (runFrom k t end)) (done s)) .end ≡ halted c l
@@ -289,15 +291,6 @@ module _ (source : Question → Answer) (c : Cause Refusal) (l : ℕ) where
       by false e h next = absurd (unfinished s c l h)
 
 -- ---- the end
-
--- PAGENUM when a run ended: that of the state it finished in; of the state before its last line, where that printed nothing; of the
--- page on which a heading or a text line was being worked out
-pub data LastPage (source : Question → Answer) (t : List ℕ) (r : Run) (places room pages : ℕ) (e : End Refusal ℕ State) : Type 0 where
-  finally : (s : State) → e ≡ finished s → pages ≡ s .page .number → LastPage source t r places room pages e
-  before : (c : Cause Refusal) (l k : ℕ) (s : State) → e ≡ halted c l → run source places room (stretch k t (r .end) (startOf r)) .end ≡ finished s
-      → run source places room (runMeaning t r) .events ≡ run source places room (stretch k t (r .end) (startOf r)) .events → pages ≡ s .page .number → LastPage source t r places room pages e
-  within : (c : Cause Refusal) (l k : ℕ) (s : State) → e ≡ halted c l → run source places room (stretch k t (r .end) (startOf r)) .end ≡ finished s
-      → Inside source (seen s) pages c l → LastPage source t r places room pages e
 
 -- "pages (PAGENUM at the end)", for every template, run, source of answers, read list and output
 pub pages-at-the-end : (source : Question → Answer) (t : List ℕ) (r : Run) (places room : ℕ) → LastPage source t r places room (ranTo (run source places room (runMeaning t r)) .pages) (run source places room (runMeaning t r) .end)
@@ -313,9 +306,9 @@ pages-at-the-end source t r places room = by (run source places room (runMeaning
         number : 1 + breaks (x .events) ≡ h .state .page .number + breaks (h .own)
         number = omega (arith, pagenum-counts source places room t r (h .lines) (h .state) (h .reached), ap breaks (h .events), breaks-append (run source places room (stretch (h .lines) t (r .end) (startOf r)) .events) (h .own))
 
-        go : Halts source c l (seen (h .state)) (h .state .page .number) (h .own) → LastPage source t r places room (1 + breaks (x .events)) (x .end)
-        go (nothing q) = before c l (h .lines) (h .state) e (h .reached) (h .events ∙ ap (λ (vs : List Event). run source places room (stretch (h .lines) t (r .end) (startOf r)) .events ++ vs) q ∙ append-nil _) (number ∙ omega (arith, ap breaks q))
-        go (inside i) = within c l (h .lines) (h .state) e (h .reached) (subst (λ (n : ℕ). Inside source (seen (h .state)) n c l) (sym number) i)
+        go : Last source c l t (r .end) (startOf r) places room (h .lines) (h .state) (h .own) → LastPage source t r places room (1 + breaks (x .events)) (x .end)
+        go (nothing-yet q) = before c l (h .lines) (h .state) e (h .reached) (h .events ∙ ap (λ (vs : List Event). run source places room (stretch (h .lines) t (r .end) (startOf r)) .events ++ vs) q ∙ append-nil _) (number ∙ omega (arith, ap breaks q))
+        go (in-text i) = within c l (h .lines) (h .state) e (h .reached) (i .halts) (i .text) (h .own) (h .events) (i .number) (number ∙ sym (i .number))
 
     by : (e : End Refusal ℕ State) → x .end ≡ e → LastPage source t r places room (1 + breaks (x .events)) (x .end)
     by (finished s) e = finally s e (pages-are-pagenum source places room t r s e)

@@ -1,4 +1,4 @@
--- Demand 2's cell, of the calls: "A cell put is found until a later accepted edit replaces or removes it."
+-- Demand 2's cell, of the calls: a cell put is found until a later accepted edit replaces or removes it.
 use mathlib.Core.Path.{_≡_, ap, _∙_, subst}
 use mathlib.Core.Bool.{true}
 use mathlib.Core.List.{List, _∷_}
@@ -11,27 +11,22 @@ use Rattle.cells.specs.declared.Asked.{Asked}
 use Rattle.cells.specs.Cell.{Key, Cell, wholeCell, wholeKey}
 use Rattle.cells.specs.Asking.{Reply, answeredAsk, askedOf, meant}
 use Rattle.store.specs.declared.Edited.{Edited}
-use Rattle.history.specs.State.{State, askIn, cellQuestion}
+use Rattle.history.specs.LentStore.{LentStore, askIn, cellQuestion}
 use Rattle.history.specs.Change.{put, remove, next, succeeded, accepted}
 use Rattle.history.specs.History.{after, untouched}
 use Rattle.history.proofs.Found.{found-after, missing-after}
-use Rattle.demands.specs.Calls.{EditCall, storeAfter, InTurn, lastHanded, OtherKeys, AskCall}
+use Rattle.demands.specs.Calls.{EditCall, storeAfter, InTurn, lastHanded, OtherKeys, AskCall, Answered}
 use Rattle.demands.proofs.Answering.{answer-meant}
 use Rattle.demands.proofs.Editing.{changes, left-is, end-is, after-calls, untouched-calls}
 
--- the call of ask ended with 0, and this is the answer that it hands back
-pub record Answers (m : State) (q : Question) (a : Answer) (x : AskCall m q) : Type 0 where
-  pub ended : x .returned .end ≡ Finished
-  pub answer : meant (m .buffer) (x .returned .answer) ≡ a
-
-answers : (m : State) (q : Question) (a : Answer) (x : AskCall m q) → askIn m q ≡ answeredAsk a → Answers m q a x
+answers : (m : LentStore) (q : Question) (a : Answer) (x : AskCall m q) → askIn m q ≡ answeredAsk a → Answered m q a x
 unfolding askedOf
 answers m q a x e = record {
   ended = ap (λ (y : Asked). y .end) (x .contract) ∙ ap (λ (y : Reply). y .end) e;
   answer = ap (λ (y : Asked). meant (m .buffer) (y .answer)) (x .contract) ∙ answer-meant (m .buffer) (m .length) q ∙ ap (λ (y : Reply). y .answer) e;
 }
 
-module _ (m : State) (x : EditCall) (xs : List EditCall) (h : InTurn m (x ∷ xs)) where
+module _ (m : LentStore) (x : EditCall) (xs : List EditCall) (h : InTurn m (x ∷ xs)) where
   was-accepted : x .returned .end ≡ Finished → accepted (x .change) m ≡ true
   unfolding succeeded
   was-accepted e = ap succeeded (end-is m x (h .0) ∙ e)
@@ -39,14 +34,14 @@ module _ (m : State) (x : EditCall) (xs : List EditCall) (h : InTurn m (x ∷ xs
   kept : (k : Key) → OtherKeys k xs → untouched k (changes xs) (next (x .change) m) ≡ true
   kept k o = rw (left-is m x (h .0)) (untouched-calls k (storeAfter x) xs (h .1) o)
 
-  asked-last : (q : Question) (a : Answer) → askIn (after (x .change ∷ changes xs) m) q ≡ answeredAsk a → (y : AskCall (lastHanded m (x ∷ xs)) q) → Answers (lastHanded m (x ∷ xs)) q a y
-  asked-last q a e y = answers (lastHanded m (x ∷ xs)) q a y (subst (λ (n : State). askIn n q ≡ answeredAsk a) (after-calls m (x ∷ xs) h) e)
+  asked-last : (q : Question) (a : Answer) → askIn (after (x .change ∷ changes xs) m) q ≡ answeredAsk a → (y : AskCall (lastHanded m (x ∷ xs)) q) → Answered (lastHanded m (x ∷ xs)) q a y
+  asked-last q a e y = answers (lastHanded m (x ∷ xs)) q a y (subst (λ (n : LentStore). askIn n q ≡ answeredAsk a) (after-calls m (x ∷ xs) h) e)
 
 -- A put that ended with 0, then any calls of put and remove, none of them an accepted edit of its key: ask hands back its cell.
-pub put-is-found : (m : State) (s : List ℕ) (c : Cell) (r : Edited) (b : List ℕ) (xs : List EditCall)
+pub put-is-found : (m : LentStore) (s : List ℕ) (c : Cell) (r : Edited) (b : List ℕ) (xs : List EditCall)
     → InTurn m (record { change = put s; returned = r; buffer = b } ∷ xs) → wholeCell s ≡ some c → r .end ≡ Finished → OtherKeys (c .key) xs
     → (y : AskCall (lastHanded m (record { change = put s; returned = r; buffer = b } ∷ xs)) (cellQuestion (c .key)))
-    → Answers (lastHanded m (record { change = put s; returned = r; buffer = b } ∷ xs)) (cellQuestion (c .key)) (cell (c .value)) y
+    → Answered (lastHanded m (record { change = put s; returned = r; buffer = b } ∷ xs)) (cellQuestion (c .key)) (cell (c .value)) y
 put-is-found m s c r b xs h w e o =
     asked-last m x xs h (cellQuestion (c .key)) (cell (c .value)) (found-after s c (changes xs) m w (was-accepted m x xs h e) (kept m x xs h (c .key) o))
   where
@@ -54,10 +49,10 @@ put-is-found m s c r b xs h w e o =
     x = record { change = put s; returned = r; buffer = b }
 
 -- The same of a remove: missing.
-pub removed-is-missing : (m : State) (s : List ℕ) (k : Key) (r : Edited) (b : List ℕ) (xs : List EditCall)
+pub removed-is-missing : (m : LentStore) (s : List ℕ) (k : Key) (r : Edited) (b : List ℕ) (xs : List EditCall)
     → InTurn m (record { change = remove s; returned = r; buffer = b } ∷ xs) → wholeKey s ≡ some k → r .end ≡ Finished → OtherKeys k xs
     → (y : AskCall (lastHanded m (record { change = remove s; returned = r; buffer = b } ∷ xs)) (cellQuestion k))
-    → Answers (lastHanded m (record { change = remove s; returned = r; buffer = b } ∷ xs)) (cellQuestion k) missing y
+    → Answered (lastHanded m (record { change = remove s; returned = r; buffer = b } ∷ xs)) (cellQuestion k) missing y
 removed-is-missing m s k r b xs h w e o =
     asked-last m x xs h (cellQuestion k) missing (missing-after s k (changes xs) m w (was-accepted m x xs h e) (kept m x xs h k o))
   where

@@ -36,6 +36,9 @@ module _ (source : Question → Answer) where
     pub finished-then : (a : A) → run source p r m .end ≡ finished a → run source p r (bind m f) ≡ behind (run source p r m .asked) (run source p r m .events) (run source (placesBehind p r m) (roomBehind p r m) (f a))
     finished-then a h = by-first (finished a) h
 
+    pub halted-first : (c : Cause Refusal) (l : ℕ) → run source p r m .end ≡ halted c l → run source p r (bind m f) .end ≡ halted c l
+    halted-first c l h = ap (λ (x : Run Question Refusal ℕ B). x .end) (by-first (halted c l) h)
+
     pub halted-in : (c : Cause Refusal) (l : ℕ) → run source p r (bind m f) .end ≡ halted c l → HaltedIn m f p r c l
     halted-in c l h = go (run source p r m .end) refl
       where

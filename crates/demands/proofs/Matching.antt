@@ -42,7 +42,7 @@ use Rattle.structure.specs.Matching.{MatchedBy}
 use Rattle.structure.proofs.Matches.{skipped-is-match, matched-one}
 use Rattle.report.specs.Report.{startOf}
 use Rattle.report.specs.inner.Stretch.{stretch}
-use Rattle.demands.specs.Due.{lineDue, onNext, onAt, inTable}
+use Rattle.demands.specs.Due.{bytesDue, onNext, onAt, inTable}
 use Rattle.demands.specs.Matching.{OpenAround, of-test, of-else, of-table, BehindMatch, TestGoesOn, ElseGoesOn, TableGoesOn, GoesOn}
 use Rattle.demands.proofs.Due.{byForm, line-means}
 use Rattle.demands.proofs.Reached.{reached-sound}
@@ -74,7 +74,7 @@ behind-one {t} {q} {from} a b =
 -- ---- a line that is due where what check 4 has open is known
 
 module _ {t : List ℕ} (c : Checks t) (s : State) (h : s .position .at < length t) (n : Nested t (s .position .at) (s .position .line) (s .tables)) where
-  shaped : (f : Line) → parseLine (lineDue t s) ≡ f → shapeOf (lineDue t s) ≡ shapeIn f
+  shaped : (f : Line) → parseLine (bytesDue t s) ≡ f → shapeOf (bytesDue t s) ≡ shapeIn f
   unfolding shapeOf
   shaped f e = ap shapeIn e
 
@@ -103,7 +103,7 @@ module _ {t : List ℕ} (c : Checks t) (s : State) (h : s .position .at < length
       }
 
   -- a test
-  test-goes-on : (f : Line) (m : Meaning Bool) → parseLine (lineDue t s) ≡ f → shapeIn f ≡ Test → byForm t s f ≡ testing t (onNext t s) m → TestGoesOn t s m
+  test-goes-on : (f : Line) (m : Meaning Bool) → parseLine (bytesDue t s) ≡ f → shapeIn f ≡ Test → byForm t s f ≡ testing t (onNext t s) m → TestGoesOn t s m
   unfolding branched
   test-goes-on f m e k w =
       record {
@@ -116,7 +116,7 @@ module _ {t : List ℕ} (c : Checks t) (s : State) (h : s .position .at < length
       by true = refl
       by false = refl
 
-  else-goes-on : parseLine (lineDue t s) ≡ form.Else → ElseGoesOn t s
+  else-goes-on : parseLine (bytesDue t s) ≡ form.Else → ElseGoesOn t s
   unfolding formMeaning shapeIn
   else-goes-on e =
       let o = behind-else c (n .opens) h (shaped form.Else e) in
@@ -126,7 +126,7 @@ module _ {t : List ℕ} (c : Checks t) (s : State) (h : s .position .at < length
         means = line-means t s form.Else e;
       }
 
-  table-goes-on : (a : Argument) → parseLine (lineDue t s) ≡ form.BeginTable a → TableGoesOn t s a
+  table-goes-on : (a : Argument) → parseLine (bytesDue t s) ≡ form.BeginTable a → TableGoesOn t s a
   unfolding formMeaning shapeIn beginMeaning tableBegun begun
   table-goes-on a e =
       record {
@@ -136,7 +136,7 @@ module _ {t : List ℕ} (c : Checks t) (s : State) (h : s .position .at < length
       }
     where
       m : Meaning ℤ
-      m = integerMeaning (seen s) (lineDue t s) (s .position .line) a
+      m = integerMeaning (seen s) (bytesDue t s) (s .position .line) a
 
       next : ℤ → Meaning Looping
       next z = done (begun (s .tables) (nextLine t (s .position .at)) (s .position .line + 1) z)
@@ -149,9 +149,9 @@ module _ {t : List ℕ} (c : Checks t) (s : State) (h : s .position .at < length
   unfolding formMeaning shapeIn
   goes-on =
       record {
-        if-not = λ a e. test-goes-on (form.IfZero a) (zeroMeaning (seen s) (lineDue t s) (s .position .line) true a) e refl refl;
-        if = λ a e. test-goes-on (form.IfNonZero a) (zeroMeaning (seen s) (lineDue t s) (s .position .line) false a) e refl refl;
-        compared = λ k a b e. test-goes-on (form.Compare k a b) (testMeaning (seen s) (lineDue t s) (s .position .line) k a b) e refl refl;
+        if-not = λ a e. test-goes-on (form.IfNot a) (zeroMeaning (seen s) (bytesDue t s) (s .position .line) true a) e refl refl;
+        if = λ a e. test-goes-on (form.If a) (zeroMeaning (seen s) (bytesDue t s) (s .position .line) false a) e refl refl;
+        compared = λ k a b e. test-goes-on (form.Compare k a b) (testMeaning (seen s) (bytesDue t s) (s .position .line) k a b) e refl refl;
         otherwise = else-goes-on;
         begun = table-goes-on;
       }

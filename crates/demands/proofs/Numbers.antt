@@ -10,7 +10,7 @@ use lib.ListN.{length, take}
 use Rattle.scan.specs.Line.{lineAt}
 use Rattle.numbers.specs.declared.Quantity.{Quantity}
 use Rattle.numbers.specs.declared.Quantity.the-variants.{Integer, Decimal}
-use Rattle.numbers.specs.Outcome as N
+use Rattle.numbers.specs.Result as N
 use Rattle.numbers.specs.Arithmetic.{inMillionths}
 use Rattle.arguments.specs.declared.argument.Argument.{Argument}
 use Rattle.arguments.specs.declared.index.Index.{Index}
@@ -44,12 +44,12 @@ use Rattle.values.specs.Machine.{Machine, Variables, numbered}
 use Rattle.values.specs.Indexes.{indexNumber, limited, indexValue}
 use Rattle.values.specs.Asking as values
 use Rattle.values.specs.Asking.{cellMeaning}
-use Rattle.values.specs.Fetching.{firstOf, countValue, asksElements, elementQuestion, elementQuestions, fetchMeaning}
-use Rattle.values.specs.Worth.{Worth, missing, wrong, number, string, answered, kindOf}
+use Rattle.values.specs.Fetching.{firstAlong, countValue, asksElements, elementQuestion, elementQuestions, fetchMeaning}
+use Rattle.values.specs.Worth.{Worth, missing, wrong, number, string, answered, questionKind}
 use Rattle.values.specs.Meanings.{worthOf, operandMeaning, argumentMeaning}
 use Rattle.commands.specs.declared.table.Table.{Table}
 use Rattle.commands.specs.Settling.{Settled, settled, against, andThen, concluded, integerFrom, quantityFrom, stringFrom, resultOf, millionthsOf, decimalFrom, integerMeaning}
-use Rattle.commands.specs.Setting.{integerOutcome, decimalOutcome, stored, newFrom, integerNew, decimalNew, stringNew, withIntegers, withDecimals, withStrings, setOf, setMeaning}
+use Rattle.commands.specs.Setting.{integerResult, decimalResult, asVariable, newFrom, integerNew, decimalNew, stringNew, withIntegers, withDecimals, withStrings, setOf, setMeaning}
 use Rattle.commands.specs.Testing.{zeroJudged, zeroMeaning, ofNumbers, ofStrings, judged, isMissing, compared, testMeaning}
 use Rattle.commands.specs.Looping.{counting, innermost, counted, beginMeaning, endMeaning}
 use Rattle.control.specs.Fetching.{recordsMeaning, entriesMeaning}
@@ -57,9 +57,9 @@ use Rattle.control.specs.Selecting.{datasourceFrom, datasourceMeaning}
 use Rattle.pages.specs.Text.{fieldValues, anyWrong, textMeaning}
 use Rattle.pages.specs.declared.page.Page.{Page}
 use Rattle.pages.specs.declared.heading.Heading.{Heading}
-use Rattle.pages.specs.Page.{on, sayMeaning, headMeaning, headsMeaning, breakMeaning, turnMeaning, topMeaning, highestOf, lineStep}
+use Rattle.pages.specs.Page.{on, sayMeaning, headMeaning, headsMeaning, breakMeaning, turnMeaning, topMeaning, highestDefined, lineStep}
 use Rattle.control.specs.State.{State, seen}
-use Rattle.control.specs.Line.{past, breaking, breakingFor, newPageMeaning, formMeaning, lineMeaning}
+use Rattle.control.specs.Line.{pastLine, breaking, breakingFor, newPageMeaning, formMeaning, lineMeaning}
 use Rattle.report.specs.Report.{runFrom}
 
 abbrev Late : Refusal → Type 0
@@ -128,7 +128,7 @@ string-fair wrong = omega arith
 string-fair (number q) = omega arith
 string-fair (string s) = tt
 
-result-fair : (x : N.Outcome) → Fair (resultOf x)
+result-fair : (x : N.Result) → Fair (resultOf x)
 unfolding resultOf
 result-fair (N.success z) = tt
 result-fair (N.refused n) = by (eqb n 12)
@@ -146,16 +146,16 @@ decimal-fair : (w : Worth) → Fair (decimalFrom w)
 unfolding decimalFrom
 decimal-fair w = fair-then (quantityFrom w) millionthsOf (quantity-fair w) millionths-fair
 
-new-fair : (from : Worth → Settled ℤ) (operation : ℤ → N.Outcome) (w : Worth) → Fair (from w) → Fair (newFrom from operation w)
+new-fair : (from : Worth → Settled ℤ) (operation : ℤ → N.Result) (w : Worth) → Fair (from w) → Fair (newFrom from operation w)
 unfolding newFrom
 new-fair from operation w h = fair-then (from w) (λ b. resultOf (operation b)) h (λ b. result-fair (operation b))
 
-stored-fair : {A : Type 0} (vs : List A) (n : ℕ) (x : Settled A) → Fair x → Fair (stored vs n x)
-unfolding stored
+stored-fair : {A : Type 0} (vs : List A) (n : ℕ) (x : Settled A) → Fair x → Fair (asVariable vs n x)
+unfolding asVariable
 stored-fair vs n x h = fair-then x _ h (λ z. tt)
 
-kept-fair : {A : Type 0} (vs : List A) (n : ℕ) (x : Settled A) (f : List A → Variables) → Fair x → Fair (andThen (stored vs n x) (λ l. settled (f l)))
-kept-fair vs n x f h = fair-then (stored vs n x) (λ l. settled (f l)) (stored-fair vs n x h) (λ l. tt)
+kept-fair : {A : Type 0} (vs : List A) (n : ℕ) (x : Settled A) (f : List A → Variables) → Fair x → Fair (andThen (asVariable vs n x) (λ l. settled (f l)))
+kept-fair vs n x f h = fair-then (asVariable vs n x) (λ l. settled (f l)) (stored-fair vs n x h) (λ l. tt)
 
 text-fair : (w : Worth) → Fair (stringNew w)
 unfolding stringNew
@@ -164,9 +164,9 @@ text-fair w = fair-then (stringFrom w) (λ s. settled (take 16 s)) (string-fair 
 set-fair : (v : Variables) (o : Operation) (t : Target) (w : Worth) → Fair (setOf v o t w)
 unfolding setOf
 set-fair v o (IntegerTarget n) w =
-    kept-fair (v .integers) n (integerNew o (numbered (pos 0) (v .integers) n) w) (withIntegers v) (new-fair integerFrom (integerOutcome o (numbered (pos 0) (v .integers) n)) w (integer-fair w))
+    kept-fair (v .integers) n (integerNew o (numbered (pos 0) (v .integers) n) w) (withIntegers v) (new-fair integerFrom (integerResult o (numbered (pos 0) (v .integers) n)) w (integer-fair w))
 set-fair v o (DecimalTarget n) w =
-    kept-fair (v .decimals) n (decimalNew o (numbered (pos 0) (v .decimals) n) w) (withDecimals v) (new-fair decimalFrom (decimalOutcome o (numbered (pos 0) (v .decimals) n)) w (decimal-fair w))
+    kept-fair (v .decimals) n (decimalNew o (numbered (pos 0) (v .decimals) n) w) (withDecimals v) (new-fair decimalFrom (decimalResult o (numbered (pos 0) (v .decimals) n)) w (decimal-fair w))
 set-fair v o (StringTarget n) w = kept-fair (v .strings) n (stringNew w) (withStrings v) (text-fair w)
 
 zero-fair : (wanted : Bool) (w : Worth) → Fair (zeroJudged wanted w)
@@ -254,7 +254,7 @@ module _ (m : Machine) (line : ℕ) where
 
   argument-late : (s : List ℕ) (a : Argument) → LateEnds (argumentMeaning m s line a)
   unfolding argumentMeaning
-  argument-late s a = late-bind (operandMeaning m s line (kindOf (a .filter)) (a .operand)) _ (operand-late s (kindOf (a .filter)) (a .operand)) (λ w. tt)
+  argument-late s a = late-bind (operandMeaning m s line (questionKind (a .filter)) (a .operand)) _ (operand-late s (questionKind (a .filter)) (a .operand)) (λ w. tt)
 
   each-late : (qs : List Question) → LateEnds (asksEach line qs)
   unfolding asksEach
@@ -272,7 +272,7 @@ module _ (m : Machine) (line : ℕ) where
       late-bind (indexValue m line i) _ (index-late i) (λ r.
       late-bind (indexValue m line j) _ (index-late j) (λ e.
       late-bind (countValue line (indexNumber (m .variables .integers) (m .counter) c)) _ (count-late (indexNumber (m .variables .integers) (m .counter) c)) (λ n.
-      late-if (leb (firstOf along r e + n) 1000) (asksEach line (elementQuestions (elementQuestion (m .datasource) along p r e) 0 n)) (stop BadIndex line) (each-late _) (omega arith))))
+      late-if (leb (firstAlong along r e + n) 1000) (asksEach line (elementQuestions (elementQuestion (m .datasource) along p r e) 0 n)) (stop BadIndex line) (each-late _) (omega arith))))
 
   -- ---- a command
 
@@ -314,9 +314,9 @@ module _ (m : Machine) (t : List ℕ) (due : ℕ) where
   step-late : (feeds : Bool) (hs : List Heading) (l : List ℕ) (p : Page) → LateEnds (lineStep m t due feeds hs l p)
   unfolding lineStep turnMeaning topMeaning breakMeaning
   step-late feeds hs l p =
-      late-bind (turnMeaning due feeds p) _ (late-if (ltb 60 (p .line)) (breakMeaning due feeds p) (done p) tt tt) (λ q.
+      late-bind (turnMeaning due feeds p) _ (late-if (ltb 60 (p .row)) (breakMeaning due feeds p) (done p) tt tt) (λ q.
       late-bind (topMeaning m t due hs q) (λ q′. sayMeaning m l 0 due q′)
-      (late-if (eqb (q .line) 1) _ (done q) (late-if (eqb (highestOf hs 9) 0) (done q) _ tt (heads-late (take (highestOf hs 9) hs) q)) tt)
+      (late-if (eqb (q .row) 1) _ (done q) (late-if (eqb (highestDefined hs 9) 0) (done q) _ tt (heads-late (take (highestDefined hs 9) hs) q)) tt)
       (λ q′. say-late m l 0 due q′))
 
 -- ---- a line, and a run
@@ -329,16 +329,16 @@ module _ (t : List ℕ) (start l : ℕ) (body : List ℕ) (s : State) where
   np-late : (n : Optional) → LateEnds (newPageMeaning l body s n)
   unfolding newPageMeaning breakingFor
   np-late Absent = breaking-late
-  np-late (Given a) = late-bind (integerMeaning (seen s) body l a) (breakingFor l s) (integer-late (seen s) l body a) (λ z. late-if (ltZ (pos (61 - s .page .line)) z) (breaking l s) (done s) breaking-late tt)
+  np-late (Given a) = late-bind (integerMeaning (seen s) body l a) (breakingFor l s) (integer-late (seen s) l body a) (λ z. late-if (ltZ (pos (61 - s .page .row)) z) (breaking l s) (done s) breaking-late tt)
 
   form-late : (f : Line) → LateEnds (formMeaning t start l body s f)
   unfolding formMeaning setMeaning zeroMeaning testMeaning beginMeaning recordsMeaning entriesMeaning datasourceMeaning
   form-late form.NoForm = tt
-  form-late form.Text = late-bind (lineStep (seen s) t l (s .layout .feeds) (s .layout .headings) body (s .page)) _ (step-late (seen s) t l (s .layout .feeds) (s .layout .headings) body (s .page)) (λ p. tt)
+  form-late form.Text = late-bind (lineStep (seen s) t l (s .layout .formFeeds) (s .layout .headings) body (s .page)) _ (step-late (seen s) t l (s .layout .formFeeds) (s .layout .headings) body (s .page)) (λ p. tt)
   form-late (form.Section a b) = tt
   form-late (form.Set o v a) = late-bind (setMeaning (seen s) body l o v a) _ (followed (seen s) l body a (setOf (s .variables) o v) (set-fair (s .variables) o v)) (λ x. tt)
-  form-late (form.IfZero a) = late-bind (zeroMeaning (seen s) body l true a) _ (followed (seen s) l body a (zeroJudged true) (zero-fair true)) (λ b. tt)
-  form-late (form.IfNonZero a) = late-bind (zeroMeaning (seen s) body l false a) _ (followed (seen s) l body a (zeroJudged false) (zero-fair false)) (λ b. tt)
+  form-late (form.IfNot a) = late-bind (zeroMeaning (seen s) body l true a) _ (followed (seen s) l body a (zeroJudged true) (zero-fair true)) (λ b. tt)
+  form-late (form.If a) = late-bind (zeroMeaning (seen s) body l false a) _ (followed (seen s) l body a (zeroJudged false) (zero-fair false)) (λ b. tt)
   form-late (form.Compare k a b) =
       late-bind (testMeaning (seen s) body l k a b) _ (late-bind (argumentMeaning (seen s) body l a) _ (argument-late (seen s) l body a) (λ v. followed (seen s) l body b (compared k v) (compared-fair k v))) (λ b. tt)
   form-late form.Else = tt
@@ -346,8 +346,8 @@ module _ (t : List ℕ) (start l : ℕ) (body : List ℕ) (s : State) where
   form-late (form.BeginTable a) =
       late-bind (beginMeaning (seen s) body l (s .tables) (s .position .at) (s .position .line) a) _ (late-bind (integerMeaning (seen s) body l a) _ (integer-late (seen s) l body a) (λ n. tt)) (λ x. tt)
   form-late (form.EndTable k) = late-bind (endMeaning (seen s) body l (s .tables) k) _ (end-late (seen s) l body (s .tables) k) (λ x. tt)
-  form-late (form.Records f) = late-bind (recordsMeaning (seen s) l f) _ (late-bind (fetchMeaning (seen s) l Records (f .parameter) (f .first) (f .second) (f .count)) _ (fetch-late (seen s) l Records (f .parameter) (f .first) (f .second) (f .count)) (λ x. tt)) (λ x. tt)
-  form-late (form.Entries f) = late-bind (entriesMeaning (seen s) l f) _ (late-bind (fetchMeaning (seen s) l Entries (f .parameter) (f .first) (f .second) (f .count)) _ (fetch-late (seen s) l Entries (f .parameter) (f .first) (f .second) (f .count)) (λ x. tt)) (λ x. tt)
+  form-late (form.Records f) = late-bind (recordsMeaning (seen s) l f) _ (late-bind (fetchMeaning (seen s) l Records (f .parameter) (f .«record») (f .entry) (f .count)) _ (fetch-late (seen s) l Records (f .parameter) (f .«record») (f .entry) (f .count)) (λ x. tt)) (λ x. tt)
+  form-late (form.Entries f) = late-bind (entriesMeaning (seen s) l f) _ (late-bind (fetchMeaning (seen s) l Entries (f .parameter) (f .«record») (f .entry) (f .count)) _ (fetch-late (seen s) l Entries (f .parameter) (f .«record») (f .entry) (f .count)) (λ x. tt)) (λ x. tt)
   form-late (form.Datasource i) =
       late-bind (datasourceMeaning (seen s) l i) _ (late-concluded l (datasourceFrom (indexNumber (s .variables .integers) (seen s .counter) i)) (datasource-fair (indexNumber (s .variables .integers) (seen s .counter) i))) (λ d. tt)
   form-late form.NoFormFeed = tt
@@ -358,7 +358,7 @@ module _ (t : List ℕ) (start l : ℕ) (body : List ℕ) (s : State) where
 
 line-late : (t : List ℕ) (s : State) → LateEnds (lineMeaning t s)
 unfolding lineMeaning
-line-late t s = form-late t (s .position .at) (s .position .line) (lineAt t (s .position .at)) (past s (length (lineAt t (s .position .at)))) (parseLine (lineAt t (s .position .at)))
+line-late t s = form-late t (s .position .at) (s .position .line) (lineAt t (s .position .at)) (pastLine s (length (lineAt t (s .position .at)))) (parseLine (lineAt t (s .position .at)))
 
 run-late : (n : ℕ) (t : List ℕ) (end : ℕ) (s : State) → LateEnds (runFrom n t end s)
 unfolding runFrom

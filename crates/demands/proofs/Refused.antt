@@ -10,16 +10,16 @@ use lib.Seq.{sets}
 use Rattle.template.specs.declared.Checked.{Checked}
 use Rattle.template.specs.declared.Checked.the-variants.{Accepted, Refused}
 use Rattle.template.specs.Order.{templateChecked}
-use Rattle.cells.specs.Store.{held, isHeld}
+use Rattle.cells.specs.Store.{cellsHeld, holdsCells}
 use Rattle.meaning.specs.Event.{Event, joined}
 use Rattle.meaning.specs.declared.question.Question.{Question}
 use Rattle.meaning.specs.declared.refusal.Refusal.the-variants.{BadStore}
 use Rattle.values.specs.Source.{answers}
-use Rattle.history.specs.State.{State}
+use Rattle.history.specs.LentStore.{LentStore}
 use Rattle.report.specs.declared.Report.{Report}
-use Rattle.report.specs.Report.{startOf, Outcome, refusedWith, checkedOutcome, reportOf}
+use Rattle.report.specs.Report.{startOf, Outcome, refusedReport, checkedOutcome, reportOf}
 use Rattle.demands.specs.Calls.{ReportCall}
-use Rattle.demands.specs.Sheet.{Untouched}
+use Rattle.demands.specs.Sheet.{TouchesNothing}
 use Rattle.demands.proofs.Numbers.{late}
 
 -- nothing was printed and nothing asked
@@ -33,18 +33,18 @@ Early o = 1 ≤ o .number → o .number ≤ 6 → Nothing o
 
 pub early-is-nothing : (t name b : List ℕ) (n places room : ℕ) → Early (reportOf t name b n places room)
 unfolding reportOf checkedOutcome
-early-is-nothing t name b n places room = by (isHeld (held b n))
+early-is-nothing t name b n places room = by (holdsCells (cellsHeld b n))
   where
     checked : (k : Checked) → Early (checkedOutcome t (answers b n) places room k)
     checked (Accepted r) least most = absurd (omega (arith, most, late (answers b n) places room 50000 t (r .end) (startOf r) least))
     checked (Refused e l) least most = record { pages = refl; events = refl; questions = refl }
 
-    by : (f : Bool) → Early (cond f (checkedOutcome t (answers b n) places room (templateChecked t name)) (refusedWith BadStore 0))
+    by : (f : Bool) → Early (cond f (checkedOutcome t (answers b n) places room (templateChecked t name)) (refusedReport BadStore 0))
     by true least most = checked (templateChecked t name) least most
     by false least most = record { pages = refl; events = refl; questions = refl }
 
 -- of every call
-pub refused-touches-nothing : (t name : List ℕ) (m : State) (x : ReportCall t name m) → 1 ≤ x .returned .number → x .returned .number ≤ 6 → Untouched t name m x
+pub refused-touches-nothing : (t name : List ℕ) (m : LentStore) (x : ReportCall t name m) → 1 ≤ x .returned .number → x .returned .number ≤ 6 → TouchesNothing t name m x
 unfolding joined
 refused-touches-nothing t name m x least most = record {
   pages = ap (λ (r : Report). r .pages) (x .contract .result) ∙ none .pages;

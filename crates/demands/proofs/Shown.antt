@@ -28,7 +28,7 @@ use Rattle.values.specs.Worth.{Worth}
 use Rattle.values.specs.Meanings.{argumentMeaning}
 use Rattle.values.proofs.Ranges.{WorthWithin, MachineWithin, argument-within, answers-within}
 use Rattle.pages.specs.declared.page.Page.{Page}
-use Rattle.pages.specs.Shown.{placesIn, valueOf, fieldBytes}
+use Rattle.pages.specs.Shown.{placesIn, shownValue, fieldBytes}
 use Rattle.pages.specs.Text.{fieldValues, rendered, isWrong, anyWrong}
 use Rattle.pages.specs.Page.{advancedOf, lineStep}
 use Rattle.pages.specs.inner.Listing.{Due}
@@ -40,7 +40,7 @@ use Rattle.report.specs.Report.{startOf}
 use Rattle.report.specs.inner.Stretch.{stretch}
 use Rattle.report.proofs.Moments.{Moments}
 use Rattle.report.proofs.Ranges.{store-in-range}
-use Rattle.demands.specs.Due.{lineDue, onNext}
+use Rattle.demands.specs.Due.{bytesDue, onNext}
 use Rattle.demands.specs.Shown.{bytesIn, both, defined, Shown, AllShown, firstPage, dueIn, TextShown}
 use Rattle.demands.proofs.Due.{line-means}
 
@@ -57,7 +57,7 @@ module _ (l : List ℕ) (f : Field) (ps : List Piece) where
   unfolding defined bytesIn
   field-defined w ws h k d = by (isWrong w) refl
     where
-      by : (b : Bool) → isWrong w ≡ b → (b || anyWrong ws) ≡ false → both (cond b none (fieldOf (f .width) (placesIn (f .places)) (valueOf w))) (defined ps ws) ≡ some (fieldBytes (f .width) (f .places) w ++ rendered ps ws)
+      by : (b : Bool) → isWrong w ≡ b → (b || anyWrong ws) ≡ false → both (cond b none (fieldOf (f .width) (placesIn (f .places)) (shownValue w))) (defined ps ws) ≡ some (fieldBytes (f .width) (f .places) w ++ rendered ps ws)
       by true e z = absurd (true≢false z)
       by false e z = both-some (fieldBytes (f .width) (f .places) w) (rendered ps ws) (field-shown l f w h k) (d z)
 
@@ -78,15 +78,15 @@ lines-shown : (source : Question → Answer) → ((q : Question) → AnswerWithi
 lines-shown source every m [] p h = tt
 lines-shown source every m (d ∷ ds) p h = (line-shown source every _ d (h .0 .machine), lines-shown source every m ds (advancedOf p) (h .1))
 
-text-means : (t : List ℕ) (s : State) → parseLine (lineDue t s) ≡ form.Text → lineMeaning t s ≡ bind (lineStep (seen s) t (s .position .line) (s .layout .feeds) (s .layout .headings) (lineDue t s) (s .page)) (λ p. done (withPage (onNext t s) p))
+text-means : (t : List ℕ) (s : State) → parseLine (bytesDue t s) ≡ form.Text → lineMeaning t s ≡ bind (lineStep (seen s) t (s .position .line) (s .layout .formFeeds) (s .layout .headings) (bytesDue t s) (s .page)) (λ p. done (withPage (onNext t s) p))
 unfolding formMeaning
 text-means t s e = line-means t s form.Text e
 
 -- A text line that is due after any number of lines of an accepted template's run, on any store.
-pub run-fields-shown : (t name : List ℕ) (r : Run) → templateChecked t name ≡ Accepted r → (b : List ℕ) (n places room k : ℕ) → k ≤ 50000 → (s : State) → run (answers b n) places room (stretch k t (r .end) (startOf r)) .end ≡ finished s → parseLine (lineDue t s) ≡ form.Text → TextShown (answers b n) t s
+pub run-fields-shown : (t name : List ℕ) (r : Run) → templateChecked t name ≡ Accepted r → (b : List ℕ) (n places room k : ℕ) → k ≤ 50000 → (s : State) → run (answers b n) places room (stretch k t (r .end) (startOf r)) .end ≡ finished s → parseLine (bytesDue t s) ≡ form.Text → TextShown (answers b n) t s
 run-fields-shown t name r e b n places room k h s f i =
     let w = store-in-range t name r e b n places room k h s f in
     record {
-      means = text-means t s i ∙ ap (λ (x : Meaning Page). bind x (λ p. done (withPage (onNext t s) p))) (step-says (seen s) t (s .position .line) (lineDue t s) (s .layout .feeds) (s .layout .headings) (s .page));
-      shown = lines-shown (answers b n) (answers-within b n) (seen s) (dueIn t s) (firstPage (s .page)) (w .moments t (s .position .line) (lineDue t s));
+      means = text-means t s i ∙ ap (λ (x : Meaning Page). bind x (λ p. done (withPage (onNext t s) p))) (step-says (seen s) t (s .position .line) (bytesDue t s) (s .layout .formFeeds) (s .layout .headings) (s .page));
+      shown = lines-shown (answers b n) (answers-within b n) (seen s) (dueIn t s) (firstPage (s .page)) (w .moments t (s .position .line) (bytesDue t s));
     }

@@ -3,3 +3,4 @@ pub mod Sheet
 pub mod Due
 pub mod Matching
 pub mod Shown
+pub mod Ending

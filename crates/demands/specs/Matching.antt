@@ -9,7 +9,7 @@ use lib.ListN.{length, drop}
 use Rattle.scan.specs.Line.{nextLine}
 use Rattle.arguments.specs.declared.argument.Argument.{Argument}
 use Rattle.lines.specs.declared.command.Comparison.{Comparison}
-use Rattle.lines.specs.declared.command.Line.the-variants.{IfZero, IfNonZero, Compare, Else, BeginTable}
+use Rattle.lines.specs.declared.command.Line.the-variants.{IfNot, If, Compare, Else, BeginTable}
 use Rattle.lines.specs.readers.Command.{parseLine}
 use Rattle.nesting.specs.Nest.{Mark, test}
 use Rattle.template.specs.declared.seek.Sought.{Sought}
@@ -23,7 +23,7 @@ use Rattle.commands.specs.Testing.{zeroMeaning, testMeaning}
 use Rattle.control.specs.State.{Position, State, seen}
 use Rattle.control.specs.Line.{lineMeaning}
 use Rattle.structure.specs.Matching.{MatchedBy}
-use Rattle.demands.specs.Due.{lineDue, onNext, onAt, inTable}
+use Rattle.demands.specs.Due.{bytesDue, onNext, onAt, inTable}
 
 -- what is open before a line, and what is open around its test or table: a $ELSE stands in its test
 pub data OpenAround : Sought → List Mark → List Mark → Type 0 where
@@ -68,12 +68,12 @@ pub record ElseGoesOn (t : List ℕ) (s : State) : Type 0 where
 pub record TableGoesOn (t : List ℕ) (s : State) (a : Argument) : Type 0 where
   pub to : Position
   pub match : BehindMatch t TableEnd (s .position) to
-  pub means : lineMeaning t s ≡ bind (integerMeaning (seen s) (lineDue t s) (s .position .line) a) (λ n. done (cond (ltZ n (pos 1)) (onAt s to) (inTable t s n)))
+  pub means : lineMeaning t s ≡ bind (integerMeaning (seen s) (bytesDue t s) (s .position .line) a) (λ n. done (cond (ltZ n (pos 1)) (onAt s to) (inTable t s n)))
 
 -- each of these lines
 pub record GoesOn (t : List ℕ) (s : State) : Type 0 where
-  pub if-not : (a : Argument) → parseLine (lineDue t s) ≡ IfZero a → TestGoesOn t s (zeroMeaning (seen s) (lineDue t s) (s .position .line) true a)
-  pub if : (a : Argument) → parseLine (lineDue t s) ≡ IfNonZero a → TestGoesOn t s (zeroMeaning (seen s) (lineDue t s) (s .position .line) false a)
-  pub compared : (c : Comparison) (a b : Argument) → parseLine (lineDue t s) ≡ Compare c a b → TestGoesOn t s (testMeaning (seen s) (lineDue t s) (s .position .line) c a b)
-  pub otherwise : parseLine (lineDue t s) ≡ Else → ElseGoesOn t s
-  pub begun : (a : Argument) → parseLine (lineDue t s) ≡ BeginTable a → TableGoesOn t s a
+  pub if-not : (a : Argument) → parseLine (bytesDue t s) ≡ IfNot a → TestGoesOn t s (zeroMeaning (seen s) (bytesDue t s) (s .position .line) true a)
+  pub if : (a : Argument) → parseLine (bytesDue t s) ≡ If a → TestGoesOn t s (zeroMeaning (seen s) (bytesDue t s) (s .position .line) false a)
+  pub compared : (c : Comparison) (a b : Argument) → parseLine (bytesDue t s) ≡ Compare c a b → TestGoesOn t s (testMeaning (seen s) (bytesDue t s) (s .position .line) c a b)
+  pub otherwise : parseLine (bytesDue t s) ≡ Else → ElseGoesOn t s
+  pub begun : (a : Argument) → parseLine (bytesDue t s) ≡ BeginTable a → TableGoesOn t s a

@@ -16,17 +16,17 @@ use Rattle.fields.specs.Field.{fieldOf}
 use Rattle.values.specs.Machine.{Machine}
 use Rattle.values.specs.Worth.{Worth}
 use Rattle.pages.specs.declared.page.Page.{Page}
-use Rattle.pages.specs.Shown.{placesIn, valueOf}
+use Rattle.pages.specs.Shown.{placesIn, shownValue}
 use Rattle.pages.specs.Text.{fieldValues, rendered, isWrong, anyWrong}
 use Rattle.pages.specs.Page.{brokenOf, advancedOf, on, turnMeaning}
 use Rattle.pages.specs.inner.Listing.{Due, saysOn, linesDue}
 use Rattle.control.specs.State.{State, seen, withPage}
 use Rattle.control.specs.Line.{lineMeaning}
-use Rattle.demands.specs.Due.{lineDue, onNext}
+use Rattle.demands.specs.Due.{bytesDue, onNext}
 
 -- a field's bytes: none where w, d or a number is out of its limits, none for a wrong kind
 unfoldable pub bytesIn : Field → Worth → Option (List ℕ)
-bytesIn f w = cond (isWrong w) none (fieldOf (f .width) (placesIn (f .places)) (valueOf w))
+bytesIn f w = cond (isWrong w) none (fieldOf (f .width) (placesIn (f .places)) (shownValue w))
 
 unfoldable pub both : Option (List ℕ) → Option (List ℕ) → Option (List ℕ)
 both (some a) (some b) = some (a ++ b)
@@ -51,13 +51,13 @@ AllShown source m (d ∷ ds) p = Shown source (on m p) d × AllShown source m ds
 
 -- "Before a text line, LINENUM 61 causes a break": the page of the first of them
 abbrev pub firstPage : Page → Page
-firstPage p = cond (ltb 60 (p .line)) (brokenOf p) p
+firstPage p = cond (ltb 60 (p .row)) (brokenOf p) p
 
 -- the headings, the blank line behind them and the text line that is due in a state, or the text line alone
 abbrev pub dueIn : List ℕ → State → List Due
-dueIn t s = linesDue t (s .position .line) (s .layout .headings) (lineDue t s) (firstPage (s .page))
+dueIn t s = linesDue t (s .position .line) (s .layout .headings) (bytesDue t s) (firstPage (s .page))
 
 -- a text line that is due: what it means is the break and these lines, and their fields are shown as they are defined
 pub record TextShown (source : Question → Answer) (t : List ℕ) (s : State) : Type 0 where
-  pub means : lineMeaning t s ≡ bind (bind (turnMeaning (s .position .line) (s .layout .feeds) (s .page)) (λ _. saysOn (seen s) (dueIn t s) (firstPage (s .page)))) (λ p. done (withPage (onNext t s) p))
+  pub means : lineMeaning t s ≡ bind (bind (turnMeaning (s .position .line) (s .layout .formFeeds) (s .page)) (λ _. saysOn (seen s) (dueIn t s) (firstPage (s .page)))) (λ p. done (withPage (onNext t s) p))
   pub shown : AllShown source (seen s) (dueIn t s) (firstPage (s .page))

@@ -28,7 +28,7 @@ use Rattle.pages.specs.declared.page.Page.{Page}
 use Rattle.pages.specs.Page.{breakMeaning, lineStep}
 use Rattle.pages.proofs.Counting.{counting, OnPage, break-counts, step-counts}
 use Rattle.control.specs.State.{State, seen, withPosition, withVariables, withDatasource, withTables, withPage}
-use Rattle.control.specs.Line.{past, jumped, branched, tableBegun, tableEnded, breaking, breakingFor, newPageMeaning, formMeaning, lineMeaning}
+use Rattle.control.specs.Line.{pastLine, jumped, branched, tableBegun, tableCounted, breaking, breakingFor, newPageMeaning, formMeaning, lineMeaning}
 use Rattle.template.specs.declared.seek.Sought.the-variants.{TableEnd}
 
 -- the page of a state
@@ -54,21 +54,21 @@ module _ (t : List ℕ) (start l : ℕ) (body : List ℕ) (s : State) (c : ℕ) 
 
   begun-page : (x : Looping) → tableBegun t s x .page ≡ s .page
   unfolding tableBegun
-  begun-page x = same-page (x .jumps) (jumped t s TableEnd) (withTables s (x .tables)) refl refl
+  begun-page x = same-page (x .elsewhere) (jumped t s TableEnd) (withTables s (x .tables)) refl refl
 
-  ended-page : (x : Looping) → tableEnded s x .page ≡ s .page
-  unfolding tableEnded
-  ended-page x = same-page (x .jumps) (withPosition (withTables s (x .tables)) (innermost (x .tables) .start) (innermost (x .tables) .line)) (withTables s (x .tables)) refl refl
+  ended-page : (x : Looping) → tableCounted s x .page ≡ s .page
+  unfolding tableCounted
+  ended-page x = same-page (x .elsewhere) (withPosition (withTables s (x .tables)) (innermost (x .tables) .start) (innermost (x .tables) .line)) (withTables s (x .tables)) refl refl
 
   breaks-count : Keeps counting (breaking l s) c Counted
   unfolding breaking
-  breaks-count = paged (breakMeaning l (s .layout .feeds) (s .page)) (break-counts l (s .layout .feeds) (s .page) c h)
+  breaks-count = paged (breakMeaning l (s .layout .formFeeds) (s .page)) (break-counts l (s .layout .formFeeds) (s .page) c h)
 
   np-counts : (n : Optional) → Keeps counting (newPageMeaning l body s n) c Counted
   unfolding newPageMeaning breakingFor
   np-counts Absent = breaks-count
   np-counts (Given a) =
-      keeps-bind counting (integerMeaning (seen s) body l a) (breakingFor l s) c (λ z c′. Anything z × (c′ ≡ c)) Counted (gives-keeps counting (integerMeaning (seen s) body l a) c Anything (integer-gives (seen s) body l a)) (λ z c′ q. rw (q .1) (by (ltZ (pos (61 - s .page .line)) z)))
+      keeps-bind counting (integerMeaning (seen s) body l a) (breakingFor l s) c (λ z c′. Anything z × (c′ ≡ c)) Counted (gives-keeps counting (integerMeaning (seen s) body l a) c Anything (integer-gives (seen s) body l a)) (λ z c′ q. rw (q .1) (by (ltZ (pos (61 - s .page .row)) z)))
     where
       by : (b : Bool) → Keeps counting (cond b (breaking l s) (done s)) c Counted
       by true = breaks-count
@@ -77,16 +77,16 @@ module _ (t : List ℕ) (start l : ℕ) (body : List ℕ) (s : State) (c : ℕ) 
   form-counts : (f : Line) → Keeps counting (formMeaning t start l body s f) c Counted
   unfolding formMeaning
   form-counts form.NoForm = h
-  form-counts form.Text = paged (lineStep (seen s) t l (s .layout .feeds) (s .layout .headings) body (s .page)) (step-counts (seen s) t l (s .layout .feeds) (s .layout .headings) body (s .page) c h)
+  form-counts form.Text = paged (lineStep (seen s) t l (s .layout .formFeeds) (s .layout .headings) body (s .page)) (step-counts (seen s) t l (s .layout .formFeeds) (s .layout .headings) body (s .page) c h)
   form-counts (form.Section a b) = h
   form-counts (form.Set o v a) = asks-count (setMeaning (seen s) body l o v a) (Shaped (s .variables)) (set-gives (seen s) body l o v a) (withVariables s) (λ _. refl)
-  form-counts (form.IfZero a) = asks-count (zeroMeaning (seen s) body l true a) Anything (zero-gives (seen s) body l true a) (branched t s) branch-page
-  form-counts (form.IfNonZero a) = asks-count (zeroMeaning (seen s) body l false a) Anything (zero-gives (seen s) body l false a) (branched t s) branch-page
+  form-counts (form.IfNot a) = asks-count (zeroMeaning (seen s) body l true a) Anything (zero-gives (seen s) body l true a) (branched t s) branch-page
+  form-counts (form.If a) = asks-count (zeroMeaning (seen s) body l false a) Anything (zero-gives (seen s) body l false a) (branched t s) branch-page
   form-counts (form.Compare k a b) = asks-count (testMeaning (seen s) body l k a b) Anything (test-gives (seen s) body l k a b) (branched t s) branch-page
   form-counts form.Else = h
   form-counts form.EndIf = h
   form-counts (form.BeginTable a) = asks-count (beginMeaning (seen s) body l (s .tables) (s .position .at) (s .position .line) a) (Begun (s .tables) (s .position .at) (s .position .line)) (begin-gives (seen s) body l (s .tables) (s .position .at) (s .position .line) a) (tableBegun t s) begun-page
-  form-counts (form.EndTable k) = asks-count (endMeaning (seen s) body l (s .tables) k) (Counting (s .tables)) (end-gives (seen s) body l (s .tables) k) (tableEnded s) ended-page
+  form-counts (form.EndTable k) = asks-count (endMeaning (seen s) body l (s .tables) k) (Counting (s .tables)) (end-gives (seen s) body l (s .tables) k) (tableCounted s) ended-page
   form-counts (form.Records f) = asks-count (recordsMeaning (seen s) l f) (Shaped (s .variables)) (records-gives (seen s) l f) (withVariables s) (λ _. refl)
   form-counts (form.Entries f) = asks-count (entriesMeaning (seen s) l f) (Shaped (s .variables)) (entries-gives (seen s) l f) (withVariables s) (λ _. refl)
   form-counts (form.Datasource x) = asks-count (datasourceMeaning (seen s) l x) Selectable (datasource-gives (seen s) l x) (withDatasource s) (λ _. refl)
@@ -99,4 +99,4 @@ module _ (t : List ℕ) (start l : ℕ) (body : List ℕ) (s : State) (c : ℕ) 
 -- One line.
 pub line-counts : (t : List ℕ) (s : State) (c : ℕ) → Counted s c → Keeps counting (lineMeaning t s) c Counted
 unfolding lineMeaning
-line-counts t s c h = form-counts t (s .position .at) (s .position .line) (lineAt t (s .position .at)) (past s (length (lineAt t (s .position .at)))) c h (parseLine (lineAt t (s .position .at)))
+line-counts t s c h = form-counts t (s .position .at) (s .position .line) (lineAt t (s .position .at)) (pastLine s (length (lineAt t (s .position .at)))) c h (parseLine (lineAt t (s .position .at)))

@@ -65,7 +65,7 @@ use Rattle.pages.specs.declared.heading.Heading.{Heading}
 use Rattle.pages.specs.declared.step.Paged.{Paged}
 use Rattle.pages.specs.Heading.{noHeading}
 use Rattle.pages.specs.inner.Packed.{headingIn, headingsOf, Small}
-use Rattle.pages.specs.Page.{headLine, headFrom, highestOf, breakMeaning, lineStep}
+use Rattle.pages.specs.Page.{headLine, headFrom, highestDefined, breakMeaning, lineStep}
 use Rattle.pages.specs.declared.page.Page.{Page}
 use Rattle.pages.specs.inner.Listing.{headsDue}
 use Rattle.pages.specs.inner.Paging.{AllFit, fieldsIn, pageOf, TurnReady, StepReady, Steps}
@@ -74,7 +74,7 @@ use Rattle.pages.proofs.Highest.{highest-most}
 use Rattle.control.specs.declared.state.Flow.{Flow}
 use Rattle.control.specs.declared.state.Lined.{Lined}
 use Rattle.control.specs.State.{State, seen, withVariables, withDatasource, withTables, withPage, cleared}
-use Rattle.control.specs.Line.{jumped, branched, tableBegun, tableEnded, breaking, breakingFor, headed, formMeaning}
+use Rattle.control.specs.Line.{jumped, branched, tableBegun, tableCounted, breaking, breakingFor, headed, formMeaning}
 use Rattle.control.specs.inner.Sound.{Fit}
 use Rattle.control.specs.inner.Going.{endedIn, datasourceIn, depthIn, feedsIn, pageIn, jumpedIn, againIn}
 use Rattle.control.specs.inner.Executing.{sourceOf, stateAt, machineIn, Executes, FormReady}
@@ -176,9 +176,9 @@ module _ {body b index t : List ℕ} {h : Held} {scene : Scene} {start : ℕ} {f
 
   pub step-ready : (p : ℕ) → line ≡ form.Text → StepReady (lent b index (h .numbers) (h .rows) (h .words)) scene t hs due T (record { printed = u; asked = a; places = p })
   step-ready p e = record {
-    heads = all-fit t (scene .number) hs (highestOf hs 9) (k .heads);
+    heads = all-fit t (scene .number) hs (highestDefined hs 9) (k .heads);
     fits = rw (k .within) (sound form.Text e);
-    logged = rw (k .within) (omega (arith, k .places, few-fields t (scene .number) hs (highestOf hs 9) (k .heads), highest-most hs 9, fields-few body 0 (k .short)));
+    logged = rw (k .within) (omega (arith, k .places, few-fields t (scene .number) hs (highestDefined hs 9) (k .heads), highest-most hs 9, fields-few body 0 (k .short)));
     first = refl;
     short-template = omega (arith, k .template);
     short-store = k .stored;
@@ -206,7 +206,7 @@ module _ {body b index t : List ℕ} {h : Held} {scene : Scene} {start : ℕ} {f
       let m : recordsIn ws ≡ recordsIn (h .words) = d .others 99 10 (omega arith) in
       let o : entriesIn ws ≡ entriesIn (h .words) = d .others 109 10 (omega arith) in
       let q : headingsIn ws ≡ headingsIn (h .words) = d .others 119 9 (omega arith) in
-      λ z. record { position = record { at = g .at; line = g .line }; variables = record { integers = integersIn (h .numbers); decimals = decimalsIn (h .numbers); strings = texts (h .rows) 0 (l z); records = map (fetched (sourceOf b) Records) (m z); entries = map (fetched (sourceOf b) Entries) (o z) }; datasource = g .datasource; tables = openOf ws (g .depth); layout = record { headings = headingsOf (q z); feeds = g .feeds }; page = g .page }
+      λ z. record { position = record { at = g .at; line = g .line }; variables = record { integers = integersIn (h .numbers); decimals = decimalsIn (h .numbers); strings = texts (h .rows) 0 (l z); records = map (fetched (sourceOf b) Records) (m z); entries = map (fetched (sourceOf b) Entries) (o z) }; datasource = g .datasource; tables = openOf ws (g .depth); layout = record { headings = headingsOf (q z); formFeeds = g .feeds }; page = g .page }
 
   begun-same : (ws : List ℕ) → Stays (h .words) ws → openOf ws (f .depth) ≡ openOf (h .words) (f .depth) → (holds : Bool) → stateAt b (held (h .numbers) (h .rows) ws) (begunIn t f holds) ≡ tableBegun t s (beginning ws (f .depth) holds)
   unfolding tableBegun
@@ -217,8 +217,8 @@ module _ {body b index t : List ℕ} {h : Held} {scene : Scene} {start : ℕ} {f
   begun-page true = refl
   begun-page false = refl
 
-  ended-same : (ws : List ℕ) → Stays (h .words) ws → (holds : Bool) → stateAt b (held (h .numbers) (h .rows) ws) (overIn (tablesIn ws) f holds) ≡ tableEnded s (passing ws (f .depth) holds)
-  unfolding tableEnded
+  ended-same : (ws : List ℕ) → Stays (h .words) ws → (holds : Bool) → stateAt b (held (h .numbers) (h .rows) ws) (overIn (tablesIn ws) f holds) ≡ tableCounted s (passing ws (f .depth) holds)
+  unfolding tableCounted
   ended-same ws d true = tables-same ws (againIn (tablesIn ws) f) d
   ended-same ws d false = tables-same ws (depthIn f (f .depth - 1)) d
 
@@ -232,11 +232,11 @@ module _ {body b index t : List ℕ} {h : Held} {scene : Scene} {start : ℕ} {f
       let l : lengthsIn ws ≡ lengthsIn (h .words) = d .others 0 99 (omega arith) in
       let m : recordsIn ws ≡ recordsIn (h .words) = d .others 99 10 (omega arith) in
       let o : entriesIn ws ≡ entriesIn (h .words) = d .others 109 10 (omega arith) in
-      λ z. record { position = record { at = f .at; line = f .line }; variables = record { integers = integersIn (h .numbers); decimals = decimalsIn (h .numbers); strings = texts (h .rows) 0 (l z); records = map (fetched (sourceOf b) Records) (m z); entries = map (fetched (sourceOf b) Entries) (o z) }; datasource = f .datasource; tables = opened (y z) (f .depth); layout = record { headings = d .set z; feeds = f .feeds }; page = f .page }
+      λ z. record { position = record { at = f .at; line = f .line }; variables = record { integers = integersIn (h .numbers); decimals = decimalsIn (h .numbers); strings = texts (h .rows) 0 (l z); records = map (fetched (sourceOf b) Records) (m z); entries = map (fetched (sourceOf b) Entries) (o z) }; datasource = f .datasource; tables = opened (y z) (f .depth); layout = record { headings = d .set z; formFeeds = f .feeds }; page = f .page }
 
   -- R, T and the variables as a command left them, with the headings and tables as they were
   variables-same : (h′ : Held) → headingsIn (h′ .words) ≡ headingsIn (h .words) → tablesIn (h′ .words) ≡ tablesIn (h .words) → stateAt b h′ f ≡ withVariables s (variablesOf (sourceOf b) h′)
-  variables-same h′ e y = λ z. record { position = record { at = f .at; line = f .line }; variables = variablesOf (sourceOf b) h′; datasource = f .datasource; tables = opened (y z) (f .depth); layout = record { headings = headingsOf (e z); feeds = f .feeds }; page = f .page }
+  variables-same h′ e y = λ z. record { position = record { at = f .at; line = f .line }; variables = variablesOf (sourceOf b) h′; datasource = f .datasource; tables = opened (y z) (f .depth); layout = record { headings = headingsOf (e z); formFeeds = f .feeds }; page = f .page }
 
   module _ (log : List ℕ) (p : ℕ) (v : Worths) where
     abbrev With : List ℕ → List ℕ → Held → Lined → Type 0
@@ -265,7 +265,7 @@ module _ {body b index t : List ℕ} {h : Held} {scene : Scene} {start : ℕ} {f
 
     pub text-line : (T′ log′ : List ℕ) (r : Lined) (x : Paged) → line ≡ form.Text → Steps (lent b index (h .numbers) (h .rows) (h .words)) scene t hs (f .feeds) due T log (record { printed = u; asked = a; places = p }) T′ log′ x → r ≡ endedIn (x .end) (pageIn f (x .page)) (x .counts .printed) (x .counts .asked) → With T′ log′ h r
     unfolding formWith formMeaning
-    text-line T′ log′ r x e d i = rw (e, ← seen-same, i) (then-executes (lineStep (machineIn b h scene) t (scene .number) (f .feeds) hs body (f .page)) (x .page) (withPage s) (x .end) did (omega (arith, rw (k .within) at (d .few), few-fields t (scene .number) hs (highestOf hs 9) (k .heads), highest-most hs 9, fields-few body 0 (k .short))) (refl, refl) (λ _. refl))
+    text-line T′ log′ r x e d i = rw (e, ← seen-same, i) (then-executes (lineStep (machineIn b h scene) t (scene .number) (f .feeds) hs body (f .page)) (x .page) (withPage s) (x .end) did (omega (arith, rw (k .within) at (d .few), few-fields t (scene .number) hs (highestDefined hs 9) (k .heads), highest-most hs 9, fields-few body 0 (k .short))) (refl, refl) (λ _. refl))
       where
         Stepped : Page → ℕ → Type 0
         Stepped y q = Does (sourceOf b) (lineStep (machineIn b h scene) t (scene .number) (f .feeds) hs body y) (at T u (questions log) a p (y .number)) (at T′ (x .counts .printed) (questions log′) (x .counts .asked) q (x .page .number)) (endOf (x .page) (x .end))
@@ -285,16 +285,16 @@ module _ {body b index t : List ℕ} {h : Held} {scene : Scene} {start : ℕ} {f
     no-heading-line ws r n e x = rw e (went-executes b h (held (h .numbers) (h .rows) ws) f f T u log a p r (headed s n noHeading) (x .went) refl (heads-same ws n _ r x) (refl, ap length (x .tables)))
 
     -- what was fetched, then the variables with it
-    fetched-line : (along : Along) (from : ℕ) (put : List Answer → Variables) (ws log′ : List ℕ) (r : Lined) (x : Fetched) (y : Fetch) → FetchValue (h .numbers) scene along y log a p log′ x → Refills from (y .number) x (h .words) f u ws r → from + 10 ≤ 119 → (Puts (h .words) from 10 (y .number) (x .fetched) ws → variablesOf (sourceOf b) (held (h .numbers) (h .rows) ws) ≡ put (fetched (sourceOf b) along (x .fetched))) → Executes 330 (bind (bind (fetchMeaning (machineIn b h scene) (scene .number) along (y .parameter) (y .first) (y .second) (y .count)) (λ l. done (put l))) (λ v. done (withVariables s v))) b h f T u log a p (held (h .numbers) (h .rows) ws) T log′ r
+    fetched-line : (along : Along) (from : ℕ) (put : List Answer → Variables) (ws log′ : List ℕ) (r : Lined) (x : Fetched) (y : Fetch) → FetchValue (h .numbers) scene along y log a p log′ x → Refills from (y .number) x (h .words) f u ws r → from + 10 ≤ 119 → (Puts (h .words) from 10 (y .number) (x .fetched) ws → variablesOf (sourceOf b) (held (h .numbers) (h .rows) ws) ≡ put (fetched (sourceOf b) along (x .fetched))) → Executes 330 (bind (bind (fetchMeaning (machineIn b h scene) (scene .number) along (y .parameter) (y .«record») (y .entry) (y .count)) (λ l. done (put l))) (λ v. done (withVariables s v))) b h f T u log a p (held (h .numbers) (h .rows) ws) T log′ r
     fetched-line along from put ws log′ r x y d i o e =
-        let m = fetchMeaning (machineIn b h scene) (scene .number) along (y .parameter) (y .first) (y .second) (y .count) in
+        let m = fetchMeaning (machineIn b h scene) (scene .number) along (y .parameter) (y .«record») (y .entry) (y .count) in
         let g = d .fetches (h .rows) (h .words) in
         rw (i .went, bind-assoc m (λ l. done (put l)) (λ z. done (withVariables s z))) (then-executes m (fetched (sourceOf b) along (x .fetched)) (λ l. withVariables s (put l)) (x .end) (g .does (sourceOf b) T u (f .page .number)) (omega (arith, g .few)) (refl, ap length (i .tables)) (λ q. let j = i .puts q in variables-same (held (h .numbers) (h .rows) ws) (j .above 119 9 (omega arith)) (i .tables) ∙ ap (withVariables s) (e j)))
 
     abbrev putRecords : Fetch → List Answer → Variables
     putRecords y l = withRecords (variablesOf (sourceOf b) h) (setNumbered (map (fetched (sourceOf b) Records) (recordsIn (h .words))) (y .number) l)
 
-    records-is : (y : Fetch) → recordsMeaning (machineIn b h scene) (scene .number) y ≡ bind (fetchMeaning (machineIn b h scene) (scene .number) Records (y .parameter) (y .first) (y .second) (y .count)) (λ l. done (putRecords y l))
+    records-is : (y : Fetch) → recordsMeaning (machineIn b h scene) (scene .number) y ≡ bind (fetchMeaning (machineIn b h scene) (scene .number) Records (y .parameter) (y .«record») (y .entry) (y .count)) (λ l. done (putRecords y l))
     unfolding recordsMeaning
     records-is y = refl
 
@@ -307,7 +307,7 @@ module _ {body b index t : List ℕ} {h : Held} {scene : Scene} {start : ℕ} {f
     abbrev putEntries : Fetch → List Answer → Variables
     putEntries y l = withEntries (variablesOf (sourceOf b) h) (setNumbered (map (fetched (sourceOf b) Entries) (entriesIn (h .words))) (y .number) l)
 
-    entries-is : (y : Fetch) → entriesMeaning (machineIn b h scene) (scene .number) y ≡ bind (fetchMeaning (machineIn b h scene) (scene .number) Entries (y .parameter) (y .first) (y .second) (y .count)) (λ l. done (putEntries y l))
+    entries-is : (y : Fetch) → entriesMeaning (machineIn b h scene) (scene .number) y ≡ bind (fetchMeaning (machineIn b h scene) (scene .number) Entries (y .parameter) (y .«record») (y .entry) (y .count)) (λ l. done (putEntries y l))
     unfolding entriesMeaning
     entries-is y = refl
 
@@ -337,7 +337,7 @@ module _ {body b index t : List ℕ} {h : Held} {scene : Scene} {start : ℕ} {f
             let o : map (fetched (sourceOf b) Entries) (entriesIn words′) ≡ replicate 10 [] = ap (map (fetched (sourceOf b) Entries)) (words-zero 109 10 (omega arith)) ∙ fetched-cleared (sourceOf b) Entries 10 in
             let y : tablesIn words′ ≡ tablesIn (h .words) = ap (bank 128 20) (c .words-zero) ∙ zeros-behind 0 (h .words) 128 20 in
             let q : headingsOf (headingsIn words′) ≡ replicate 9 noHeading = ap headingsOf (words-zero 119 9 (omega arith)) ∙ headings-cleared 9 in
-            λ z. record { position = record { at = f .at; line = f .line }; variables = record { integers = i z; decimals = j z; strings = l z; records = m z; entries = o z }; datasource = f .datasource; tables = opened (y z) (f .depth); layout = record { headings = q z; feeds = true }; page = f .page }
+            λ z. record { position = record { at = f .at; line = f .line }; variables = record { integers = i z; decimals = j z; strings = l z; records = m z; entries = o z }; datasource = f .datasource; tables = opened (y z) (f .depth); layout = record { headings = q z; formFeeds = true }; page = f .page }
 
   -- ---- with the values of the arguments
 
@@ -354,11 +354,11 @@ module _ {body b index t : List ℕ} {h : Held} {scene : Scene} {start : ℕ} {f
     test-does : (r : Lined) (j : Judged) (z : Settled Bool) → judgedOf j ≡ z → Settles (scene .number) f u a (branchedIn t f) (judgedOf j) r → Executes 330 (bind (concluded (scene .number) z) (λ y. done (branched t s y))) b h f T u log a p h T log r
     test-does r j z d i = settles-executes (judgedOf j) z (λ y. y) (branched t s) (sym d ∙ mapped-same (judgedOf j)) i (refl, refl) branch-page branch-same
 
-    pub if-zero-line : (r : Lined) (j : Judged) (y : Argument) → line ≡ form.IfZero y → JudgesZero true w j → Settles (scene .number) f u a (branchedIn t f) (judgedOf j) r → Valued T h r
+    pub if-zero-line : (r : Lined) (j : Judged) (y : Argument) → line ≡ form.IfNot y → JudgesZero true w j → Settles (scene .number) f u a (branchedIn t f) (judgedOf j) r → Valued T h r
     unfolding formWith
     if-zero-line r j y e d i = rw e (test-does r j _ (d .same S) i)
 
-    pub if-non-zero-line : (r : Lined) (j : Judged) (y : Argument) → line ≡ form.IfNonZero y → JudgesZero false w j → Settles (scene .number) f u a (branchedIn t f) (judgedOf j) r → Valued T h r
+    pub if-non-zero-line : (r : Lined) (j : Judged) (y : Argument) → line ≡ form.If y → JudgesZero false w j → Settles (scene .number) f u a (branchedIn t f) (judgedOf j) r → Valued T h r
     unfolding formWith
     if-non-zero-line r j y e d i = rw e (test-does r j _ (d .same S) i)
 
@@ -374,7 +374,7 @@ module _ {body b index t : List ℕ} {h : Held} {scene : Scene} {start : ℕ} {f
     pub end-line : (ws : List ℕ) (r : Lined) (n : Taken) (j : Judged) (y : Optional) → line ≡ form.EndTable y → Takes (integerOr (pos 1) y) w n → EndsTable n (h .words) (f .depth) ws j → Settles (scene .number) f u a (overIn (tablesIn ws) f) (judgedOf j) r → Valued T (held (h .numbers) (h .rows) ws) r
     unfolding formWith
     end-line ws r n j y e d g i =
-        rw e (settles-executes (judgedOf j) (endFrom (openOf (h .words) (f .depth)) (integerOr (pos 1) y (meant S w))) (passing ws (f .depth)) (tableEnded s) (ap (endFrom (openOf (h .words) (f .depth))) (sym (d .same S)) ∙ g .same) i (refl, bank-long (h .words) ws 128 20 (g .stays .same)) (ended-page (tablesIn ws)) (ended-same ws (g .stays)))
+        rw e (settles-executes (judgedOf j) (endFrom (openOf (h .words) (f .depth)) (integerOr (pos 1) y (meant S w))) (passing ws (f .depth)) (tableCounted s) (ap (endFrom (openOf (h .words) (f .depth))) (sym (d .same S)) ∙ g .same) i (refl, bank-long (h .words) ws 128 20 (g .stays .same)) (ended-page (tablesIn ws)) (ended-same ws (g .stays)))
 
     breaks-does : (T′ : List ℕ) (r : Lined) → BreaksLine (scene .number) f T u a T′ r → Executes 330 (breaking (scene .number) s) b h f T u log a p h T′ log r
     unfolding breaking
@@ -388,9 +388,9 @@ module _ {body b index t : List ℕ} {h : Held} {scene : Scene} {start : ℕ} {f
         by (K.Refused x) z =
             let y = g .refused x z in
             rw (z, y .0, y .1) (record { does = does-stop (sourceOf b) (at T u (questions log) a p (f .page .number)) x (scene .number); few = omega arith; rows = (refl, refl) })
-        by (K.Value m) z = rw z (choose (ltZ (pos (61 - f .page .line)) m) refl)
+        by (K.Value m) z = rw z (choose (ltZ (pos (61 - f .page .row)) m) refl)
           where
-            choose : (c : Bool) → ltZ (pos (61 - f .page .line)) m ≡ c → Executes 330 (breakingFor (scene .number) s m) b h f T u log a p h T′ log r
+            choose : (c : Bool) → ltZ (pos (61 - f .page .row)) m ≡ c → Executes 330 (breakingFor (scene .number) s m) b h f T u log a p h T′ log r
             choose true c = rw c (breaks-does T′ r (g .breaks m z c))
             choose false c =
                 let y = g .stays m z c in

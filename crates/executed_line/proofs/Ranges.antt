@@ -37,7 +37,7 @@ use Rattle.control.proofs.Ranges.{Held, held, gives-yields, set-within, begin-w
 use Rattle.pages.specs.declared.page.Page.{Page}
 use Rattle.pages.specs.Page.{breakMeaning, lineStep}
 use Rattle.control.specs.State.{State, seen, withPosition, withVariables, withDatasource, withTables, withPage, noVariables, cleared}
-use Rattle.control.specs.Line.{past, jumped, setting, branched, testing, tableBegun, tableEnded, breaking, breakingFor, newPageMeaning, formMeaning, lineMeaning}
+use Rattle.control.specs.Line.{pastLine, jumped, setting, branched, testing, tableBegun, tableCounted, breaking, breakingFor, newPageMeaning, formMeaning, lineMeaning}
 use Rattle.control.specs.inner.Sound.{Sound}
 use Rattle.executed_line.proofs.Sounds.{each-same, full-none}
 
@@ -103,15 +103,15 @@ module _ (t : List ℕ) (start l : ℕ) (body : List ℕ) (s : State) (h : Machi
 
   begins : (x : Looping) → Each G.Bounded (x .tables) → InRange (tableBegun t s x)
   unfolding tableBegun
-  begins x k = by (x .jumps)
+  begins x k = by (x .elsewhere)
     where
       by : (b : Bool) → InRange (cond b (jumped t s TableEnd) (withTables s (x .tables)))
       by true = range-at r _ _
       by false = range-tables r (x .tables) k
 
-  ends : (x : Looping) → Each G.Bounded (x .tables) → InRange (tableEnded s x)
-  unfolding tableEnded
-  ends x k = by (x .jumps)
+  ends : (x : Looping) → Each G.Bounded (x .tables) → InRange (tableCounted s x)
+  unfolding tableCounted
+  ends x k = by (x .elsewhere)
     where
       by : (b : Bool) → InRange (cond b (withPosition (withTables s (x .tables)) (innermost (x .tables) .start) (innermost (x .tables) .line)) (withTables s (x .tables)))
       by true = range-at (range-tables r (x .tables) k) _ _
@@ -122,12 +122,12 @@ module _ (t : List ℕ) (start l : ℕ) (body : List ℕ) (s : State) (h : Machi
 
   breaks : Yields AnswerWithin (breaking l s) InRange
   unfolding breaking
-  breaks = paged (breakMeaning l (s .layout .feeds) (s .page))
+  breaks = paged (breakMeaning l (s .layout .formFeeds) (s .page))
 
   pages : (n : Optional) → Yields AnswerWithin (newPageMeaning l body s n) InRange
   unfolding newPageMeaning breakingFor
   pages Absent = breaks
-  pages (Given a) = yields-bind AnswerWithin (integerMeaning (seen s) body l a) (breakingFor l s) (λ _. Unit {0}) InRange (yields-any AnswerWithin (integerMeaning (seen s) body l a)) (λ z e. by (ltZ (pos (61 - s .page .line)) z))
+  pages (Given a) = yields-bind AnswerWithin (integerMeaning (seen s) body l a) (breakingFor l s) (λ _. Unit {0}) InRange (yields-any AnswerWithin (integerMeaning (seen s) body l a)) (λ z e. by (ltZ (pos (61 - s .page .row)) z))
     where
       by : (b : Bool) → Yields AnswerWithin (cond b (breaking l s) (done s)) InRange
       by true = breaks
@@ -136,16 +136,16 @@ module _ (t : List ℕ) (start l : ℕ) (body : List ℕ) (s : State) (h : Machi
   form-in-range : (f : Line) → Bounded body f → Yields AnswerWithin (formMeaning t start l body s f) InRange
   unfolding formMeaning
   form-in-range form.NoForm b = r
-  form-in-range form.Text b = paged (lineStep (seen s) t l (s .layout .feeds) (s .layout .headings) body (s .page))
+  form-in-range form.Text b = paged (lineStep (seen s) t l (s .layout .formFeeds) (s .layout .headings) body (s .page))
   form-in-range (form.Section a e) b = range-cleared s (r .tables) (r .datasource)
   form-in-range (form.Set o v a) b = sets (setMeaning (seen s) body l o v a) (set-within (seen s) h l body o v a (b .1))
-  form-in-range (form.IfZero a) b = tests (zeroMeaning (seen s) body l true a)
-  form-in-range (form.IfNonZero a) b = tests (zeroMeaning (seen s) body l false a)
+  form-in-range (form.IfNot a) b = tests (zeroMeaning (seen s) body l true a)
+  form-in-range (form.If a) b = tests (zeroMeaning (seen s) body l false a)
   form-in-range (form.Compare c x y) b = tests (testMeaning (seen s) body l c x y)
   form-in-range form.Else b = range-at r _ _
   form-in-range form.EndIf b = r
   form-in-range (form.BeginTable a) b = yields-bind AnswerWithin (beginMeaning (seen s) body l (s .tables) (s .position .at) (s .position .line) a) (λ x. done (tableBegun t s x)) (λ x. Each G.Bounded (x .tables)) InRange (begin-within (seen s) h l body (s .tables) (s .position .at) (s .position .line) a b (r .tables)) (λ x k. begins x k)
-  form-in-range (form.EndTable k) b = yields-bind AnswerWithin (endMeaning (seen s) body l (s .tables) k) (λ x. done (tableEnded s x)) (λ x. Each G.Bounded (x .tables)) InRange (end-within (seen s) body l (s .tables) k (r .tables)) (λ x e. ends x e)
+  form-in-range (form.EndTable k) b = yields-bind AnswerWithin (endMeaning (seen s) body l (s .tables) k) (λ x. done (tableCounted s x)) (λ x. Each G.Bounded (x .tables)) InRange (end-within (seen s) body l (s .tables) k (r .tables)) (λ x e. ends x e)
   form-in-range (form.Records f) b = sets (recordsMeaning (seen s) l f) (records-within (seen s) h l f)
   form-in-range (form.Entries f) b = sets (entriesMeaning (seen s) l f) (entries-within (seen s) h l f)
   form-in-range (form.Datasource i) b = yields-bind AnswerWithin (datasourceMeaning (seen s) l i) (λ d. done (withDatasource s d)) Selectable InRange (gives-yields (datasourceMeaning (seen s) l i) Selectable (datasource-gives (seen s) l i)) (λ d e. range-datasource r d (record { least = e .low; most = e .high }))
@@ -160,4 +160,4 @@ pub line-in-range : (t : List ℕ) (g : ℕ) (s : State) → g ≤ integerLimit 
 unfolding lineMeaning
 line-in-range t g s h i r =
     let body = lineAt t (s .position .at) in
-    form-in-range t (s .position .at) (s .position .line) body (past s (length body)) (seen-within t g s h i r) (range-at r _ _) (parseLine body) (parsed-bounded body (parseLine body) refl)
+    form-in-range t (s .position .at) (s .position .line) body (pastLine s (length body)) (seen-within t g s h i r) (range-at r _ _) (parseLine body) (parsed-bounded body (parseLine body) refl)

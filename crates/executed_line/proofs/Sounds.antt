@@ -48,14 +48,14 @@ use Rattle.pages.proofs.Stepping.{blank-fits}
 use Rattle.lines.proofs.Accepted.{heading-accepted}
 use Rattle.pages.proofs.Sixty as P
 use Rattle.control.specs.State.{State, seen, withPosition, withVariables, withDatasource, withTables, withLayout, withPage, noVariables, cleared}
-use Rattle.control.specs.Line.{past, jumped, setting, branched, testing, tableBegun, tableEnded, breaking, breakingFor, newPageMeaning, headed, formMeaning, lineMeaning}
+use Rattle.control.specs.Line.{pastLine, jumped, setting, branched, testing, tableBegun, tableCounted, breaking, breakingFor, newPageMeaning, headed, formMeaning, lineMeaning}
 use Rattle.control.specs.inner.Sound.{Nested, Fit, Sound, Full}
 use Rattle.executed_line.proofs.Places.{nested-plain, nested-remark, nested-section, nested-end-test, nested-test, nested-failed, nested-else, nested-begun, nested-skipped, nested-ended, nested-again}
 
 -- LINENUM is one more than the lines on the page
 pub record On (t : List ℕ) (g : ℕ) (s : State) (c : ℕ) : Type 0 where
   pub sound : Sound t g s
-  pub next : s .page .line ≡ suc c
+  pub next : s .page .row ≡ suc c
 
 -- ---- headings
 
@@ -105,7 +105,7 @@ module _ {t : List ℕ} {g : ℕ} {s : State} (i : Sound t g s) where
   sound-feeds : (f : Bool) → Sound t g (withLayout s (s .layout .headings) f)
   sound-feeds f = record { checks = i .checks; nested = i .nested; number = i .number; first-row = i .first-row; last-row = i .last-row; datasource = i .datasource; variables = i .variables; headings = i .headings; heads = i .heads }
 
-  sound-page : (g′ : ℕ) (p : Page) → p .number ≤ g′ → 1 ≤ p .line → p .line ≤ 61 → Sound t g′ (withPage s p)
+  sound-page : (g′ : ℕ) (p : Page) → p .number ≤ g′ → 1 ≤ p .row → p .row ≤ 61 → Sound t g′ (withPage s p)
   sound-page g′ p a b c = record { checks = i .checks; nested = i .nested; number = a; first-row = b; last-row = c; datasource = i .datasource; variables = i .variables; headings = i .headings; heads = i .heads }
 
   sound-cleared : Sound t g (cleared s)
@@ -122,7 +122,7 @@ module _ {t : List ℕ} {g : ℕ} {s : State} {c : ℕ} (i : On t g s c) (h : s 
   body = lineAt t (s .position .at)
 
   abbrev s₁ : State
-  s₁ = past s (length body)
+  s₁ = pastLine s (length body)
 
   checks : Checks t
   checks = i .sound .checks
@@ -162,8 +162,8 @@ module _ {t : List ℕ} {g : ℕ} {s : State} {c : ℕ} (i : On t g s c) (h : s 
   begins-keep _ e skipped = record { sound = sound-at wider (jumped t s₁ TableEnd .position .at) (jumped t s₁ TableEnd .position .line) (λ k. nested-skipped checks here h e k); next = i .next }
   begins-keep _ e (opened n) = record { sound = sound-tables wider (s₁ .position .at) (s₁ .position .line) (newTable n (s₁ .position .at) (s₁ .position .line) ∷ s .tables) (λ _. nested-begun checks here h e (newTable n (s₁ .position .at) (s₁ .position .line)) refl refl); next = i .next }
 
-  ends-keep : (x : Looping) → shapeOf body ≡ EndTable → Counting (s .tables) x → On t (g + 1) (tableEnded s₁ x) c
-  unfolding tableEnded
+  ends-keep : (x : Looping) → shapeOf body ≡ EndTable → Counting (s .tables) x → On t (g + 1) (tableCounted s₁ x) c
+  unfolding tableCounted
   ends-keep _ e ended = record { sound = sound-tables wider (s₁ .position .at) (s₁ .position .line) (drop 1 (s .tables)) (λ _. nested-ended checks here h e); next = i .next }
   ends-keep _ e (again n j k) = record { sound = sound-tables wider (innermost (s .tables) .start) (innermost (s .tables) .line) (countedTo (innermost (s .tables)) n ∷ drop 1 (s .tables)) (λ _. nested-again checks here h n e); next = i .next }
 
@@ -173,12 +173,12 @@ module _ {t : List ℕ} {g : ℕ} {s : State} {c : ℕ} (i : On t g s c) (h : s 
 
   breaks-keep : On t (g + 1) s₁ c → Keeps (pageLimit 60) (breaking (s .position .line) s₁) c (On t (g + 1))
   unfolding breaking
-  breaks-keep o = paged (breakMeaning (s .position .line) (s .layout .feeds) (s .page)) (P.break-keeps (s .position .line) g (s .layout .feeds) (s .page) c (i .sound .number)) o
+  breaks-keep o = paged (breakMeaning (s .position .line) (s .layout .formFeeds) (s .page)) (P.break-keeps (s .position .line) g (s .layout .formFeeds) (s .page) c (i .sound .number)) o
 
   pages-keep : (n : Optional) → On t (g + 1) s₁ c → Keeps (pageLimit 60) (newPageMeaning (s .position .line) body s₁ n) c (On t (g + 1))
   unfolding newPageMeaning breakingFor
   pages-keep Absent o = breaks-keep o
-  pages-keep (Given a) o = keeps-bind (pageLimit 60) (integerMeaning (seen s₁) body (s .position .line) a) (breakingFor (s .position .line) s₁) c (λ z c′. Anything z × (c′ ≡ c)) (On t (g + 1)) (gives-keeps (pageLimit 60) (integerMeaning (seen s₁) body (s .position .line) a) c Anything (integer-gives (seen s₁) body (s .position .line) a)) (λ z c′ q. rw (q .1) (by (ltZ (pos (61 - s .page .line)) z)))
+  pages-keep (Given a) o = keeps-bind (pageLimit 60) (integerMeaning (seen s₁) body (s .position .line) a) (breakingFor (s .position .line) s₁) c (λ z c′. Anything z × (c′ ≡ c)) (On t (g + 1)) (gives-keeps (pageLimit 60) (integerMeaning (seen s₁) body (s .position .line) a) c Anything (integer-gives (seen s₁) body (s .position .line) a)) (λ z c′ q. rw (q .1) (by (ltZ (pos (61 - s .page .row)) z)))
     where
       by : (b : Bool) → Keeps (pageLimit 60) (cond b (breaking (s .position .line) s₁) (done s₁)) c (On t (g + 1))
       by true = breaks-keep o
@@ -187,16 +187,16 @@ module _ {t : List ℕ} {g : ℕ} {s : State} {c : ℕ} (i : On t g s c) (h : s 
   form-keeps : (f : Line) → parseLine body ≡ f → Keeps (pageLimit 60) (formMeaning t (s .position .at) (s .position .line) body s₁ f) c (On t (g + 1))
   unfolding formMeaning shapeIn
   form-keeps form.NoForm e = absurd (opens-line checks (here .opens) h .parsed e)
-  form-keeps form.Text e = paged (lineStep (seen s₁) t (s .position .line) (s .layout .feeds) (s .layout .headings) body (s .page)) (P.step-keeps (seen s₁) t (s .position .line) (s .layout .feeds) (s .layout .headings) body g (s .page) c (record { next = i .next; most = omega (arith, i .next, i .sound .last-row); number = i .sound .number })) (plain (shaped Plain form.Text e refl))
+  form-keeps form.Text e = paged (lineStep (seen s₁) t (s .position .line) (s .layout .formFeeds) (s .layout .headings) body (s .page)) (P.step-keeps (seen s₁) t (s .position .line) (s .layout .formFeeds) (s .layout .headings) body g (s .page) c (record { next = i .next; most = omega (arith, i .next, i .sound .last-row); number = i .sound .number })) (plain (shaped Plain form.Text e refl))
   form-keeps (form.Section a b) e = let o = behind (nested-section checks here h (shaped Section (form.Section a b) e refl)) in record { sound = sound-cleared (o .sound); next = i .next }
   form-keeps (form.Set o v a) e = sets-keep (setMeaning (seen s₁) body (s .position .line) o v a) (set-gives (seen s₁) body (s .position .line) o v a) (plain (shaped Plain (form.Set o v a) e refl))
-  form-keeps (form.IfZero a) e = tests-keep (zeroMeaning (seen s₁) body (s .position .line) true a) (zero-gives (seen s₁) body (s .position .line) true a) (shaped Test (form.IfZero a) e refl)
-  form-keeps (form.IfNonZero a) e = tests-keep (zeroMeaning (seen s₁) body (s .position .line) false a) (zero-gives (seen s₁) body (s .position .line) false a) (shaped Test (form.IfNonZero a) e refl)
+  form-keeps (form.IfNot a) e = tests-keep (zeroMeaning (seen s₁) body (s .position .line) true a) (zero-gives (seen s₁) body (s .position .line) true a) (shaped Test (form.IfNot a) e refl)
+  form-keeps (form.If a) e = tests-keep (zeroMeaning (seen s₁) body (s .position .line) false a) (zero-gives (seen s₁) body (s .position .line) false a) (shaped Test (form.If a) e refl)
   form-keeps (form.Compare k a b) e = tests-keep (testMeaning (seen s₁) body (s .position .line) k a b) (test-gives (seen s₁) body (s .position .line) k a b) (shaped Test (form.Compare k a b) e refl)
   form-keeps form.Else e = record { sound = sound-at wider (jumped t s₁ TestEnd .position .at) (jumped t s₁ TestEnd .position .line) (λ k. nested-else checks here h (shaped Else form.Else e refl) k); next = i .next }
   form-keeps form.EndIf e = behind (nested-end-test checks here h (shaped EndTest form.EndIf e refl))
   form-keeps (form.BeginTable a) e = keeps-bind (pageLimit 60) (beginMeaning (seen s₁) body (s .position .line) (s .tables) (s₁ .position .at) (s₁ .position .line) a) (λ x. done (tableBegun t s₁ x)) c (λ x c′. Begun (s .tables) (s₁ .position .at) (s₁ .position .line) x × (c′ ≡ c)) (On t (g + 1)) (gives-keeps (pageLimit 60) (beginMeaning (seen s₁) body (s .position .line) (s .tables) (s₁ .position .at) (s₁ .position .line) a) c (Begun (s .tables) (s₁ .position .at) (s₁ .position .line)) (begin-gives (seen s₁) body (s .position .line) (s .tables) (s₁ .position .at) (s₁ .position .line) a)) (λ x c′ q. rw (q .1) (begins-keep x (shaped Table (form.BeginTable a) e refl) (q .0)))
-  form-keeps (form.EndTable k) e = keeps-bind (pageLimit 60) (endMeaning (seen s₁) body (s .position .line) (s .tables) k) (λ x. done (tableEnded s₁ x)) c (λ x c′. Counting (s .tables) x × (c′ ≡ c)) (On t (g + 1)) (gives-keeps (pageLimit 60) (endMeaning (seen s₁) body (s .position .line) (s .tables) k) c (Counting (s .tables)) (end-gives (seen s₁) body (s .position .line) (s .tables) k)) (λ x c′ q. rw (q .1) (ends-keep x (shaped EndTable (form.EndTable k) e refl) (q .0)))
+  form-keeps (form.EndTable k) e = keeps-bind (pageLimit 60) (endMeaning (seen s₁) body (s .position .line) (s .tables) k) (λ x. done (tableCounted s₁ x)) c (λ x c′. Counting (s .tables) x × (c′ ≡ c)) (On t (g + 1)) (gives-keeps (pageLimit 60) (endMeaning (seen s₁) body (s .position .line) (s .tables) k) c (Counting (s .tables)) (end-gives (seen s₁) body (s .position .line) (s .tables) k)) (λ x c′ q. rw (q .1) (ends-keep x (shaped EndTable (form.EndTable k) e refl) (q .0)))
   form-keeps (form.Records f) e = sets-keep (recordsMeaning (seen s₁) (s .position .line) f) (records-gives (seen s₁) (s .position .line) f) (plain (shaped Plain (form.Records f) e refl))
   form-keeps (form.Entries f) e = sets-keep (entriesMeaning (seen s₁) (s .position .line) f) (entries-gives (seen s₁) (s .position .line) f) (plain (shaped Plain (form.Entries f) e refl))
   form-keeps (form.Datasource x) e = let o = plain (shaped Plain (form.Datasource x) e refl) in keeps-bind (pageLimit 60) (datasourceMeaning (seen s₁) (s .position .line) x) (λ d. done (withDatasource s₁ d)) c (λ d c′. Selectable d × (c′ ≡ c)) (On t (g + 1)) (gives-keeps (pageLimit 60) (datasourceMeaning (seen s₁) (s .position .line) x) c Selectable (datasource-gives (seen s₁) (s .position .line) x)) (λ d c′ q. record { sound = sound-datasource (o .sound) d (q .0 .high); next = i .next ∙ ap suc (sym (q .1)) })

@@ -88,11 +88,11 @@ pub fn execute<'a>(
             let verdict = set::assigned(body, store, numbers, strings, words, o, target, first);
             arms::settled(verdict, scene.number, flow, printed, asked)
         }
-        Line::IfZero(_) => {
+        Line::IfNot(_) => {
             let judged = test::if_zero(true, first);
             arms::branched(judged, scene.number, template, flow, printed, asked)
         }
-        Line::IfNonZero(_) => {
+        Line::If(_) => {
             let judged = test::if_zero(false, first);
             arms::branched(judged, scene.number, template, flow, printed, asked)
         }
@@ -100,7 +100,7 @@ pub fn execute<'a>(
             let judged = test::compare(body, store, strings, c, first, second);
             arms::branched(judged, scene.number, template, flow, printed, asked)
         }
-        Line::Else => arms::turned_away(template, flow, printed, asked),
+        Line::Else => arms::else_line(template, flow, printed, asked),
         Line::EndIf => arms::went(flow, printed, asked),
         Line::BeginTable(_) => {
             let n = settle::integer_of(first);

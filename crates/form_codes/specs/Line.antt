@@ -12,7 +12,7 @@ use Rattle.lines.specs.declared.command.Optional.{Optional}
 use Rattle.lines.specs.declared.command.Optional.the-variants.{Given, Absent}
 use Rattle.lines.specs.declared.command.Fetch.{Fetch}
 use Rattle.lines.specs.declared.command.Line.{Line}
-use Rattle.lines.specs.declared.command.Line.the-variants.{NoForm, Text, Section, Set, IfZero, IfNonZero, Compare, Else, EndIf, BeginTable, EndTable, Records, Entries, Datasource, NoFormFeed, NewPage, Heading, NoHeading, Remark}
+use Rattle.lines.specs.declared.command.Line.the-variants.{NoForm, Text, Section, Set, IfNot, If, Compare, Else, EndIf, BeginTable, EndTable, Records, Entries, Datasource, NoFormFeed, NewPage, Heading, NoHeading, Remark}
 use Rattle.lines.specs.readers.Command.{parseLine}
 use Rattle.form_codes.specs.declared.row.Pair.{Pair}
 use Rattle.form_codes.specs.declared.row.Seven.{Seven}
@@ -54,7 +54,7 @@ fetched m r e c = (m, r .0, r .1, e .0, e .1, c .0, c .1)
 
 abbrev pub fetchRow : ℕ → Fetch → Row
 fetchRow k f =
-    rowWith k (f .number) (fetched (f .parameter) (indexCodes (f .first)) (indexCodes (f .second)) (indexCodes (f .count)))
+    rowWith k (f .number) (fetched (f .parameter) (indexCodes (f .«record»)) (indexCodes (f .entry)) (indexCodes (f .count)))
 
 abbrev pub indexSeven : Pair → Seven
 indexSeven i = (i .0, i .1, 0, 0, 0, 0, 0)
@@ -68,8 +68,8 @@ lineRow NoForm = bareRow 0 0
 lineRow Text = bareRow 1 0
 lineRow (Section a e) = rowWith 2 0 (a, e, 0, 0, 0, 0, 0)
 lineRow (Set o t a) = (3, operationCode o, targetCodes t, argumentCodes a)
-lineRow (IfZero a) = rowWith 4 0 (argumentCodes a)
-lineRow (IfNonZero a) = rowWith 5 0 (argumentCodes a)
+lineRow (IfNot a) = rowWith 4 0 (argumentCodes a)
+lineRow (If a) = rowWith 5 0 (argumentCodes a)
 lineRow (Compare c a b) = (6, comparisonCode c, argumentCodes a, argumentCodes b)
 lineRow Else = bareRow 7 0
 lineRow EndIf = bareRow 8 0

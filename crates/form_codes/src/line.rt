@@ -65,8 +65,8 @@ fn optional_codes(optional: Optional) -> Seven
 fn fetch_row(form: u64, fetch: Fetch) -> Row
     ensures { λ r. ⌜ r ≡ fetchRow form fetch ⌝ }
 {
-    let first = fetch.first;
-    let second = fetch.second;
+    let first = fetch.record;
+    let second = fetch.entry;
     let count = fetch.count;
     let f = argument::index_codes(first);
     let s = argument::index_codes(second);
@@ -100,8 +100,8 @@ fn line_row(line: Line) -> Row
                 argument::argument_codes(a),
             )
         }
-        Line::IfZero(a) => row::row_with(4, 0, argument::argument_codes(a)),
-        Line::IfNonZero(a) => row::row_with(5, 0, argument::argument_codes(a)),
+        Line::IfNot(a) => row::row_with(4, 0, argument::argument_codes(a)),
+        Line::If(a) => row::row_with(5, 0, argument::argument_codes(a)),
         Line::Compare(c, a, b) => Row(
             6,
             comparison_code(c),

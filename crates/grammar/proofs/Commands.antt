@@ -35,7 +35,7 @@ use Rattle.lines.specs.declared.command.Comparison.the-variants.{SameString, Sa
 use Rattle.lines.specs.declared.command.Optional.{Optional}
 use Rattle.lines.specs.declared.command.Fetch.{Fetch}
 use Rattle.lines.specs.declared.command.Line.{Line}
-use Rattle.lines.specs.declared.command.Line.the-variants.{Section, Set, IfZero, IfNonZero, Compare, Else, EndIf, BeginTable, EndTable, Records, Entries, Datasource, NoFormFeed, NewPage, Heading, NoHeading}
+use Rattle.lines.specs.declared.command.Line.the-variants.{Section, Set, IfNot, If, Compare, Else, EndIf, BeginTable, EndTable, Records, Entries, Datasource, NoFormFeed, NewPage, Heading, NoHeading}
 use Rattle.lines.specs.declared.set.TargetRead.the-variants.{TargetIs}
 use Rattle.lines.specs.declared.fetch.FetchRead.the-variants.{FetchTo}
 use Rattle.lines.specs.readers.Behind.{behindSpace}
@@ -45,10 +45,10 @@ use Rattle.lines.specs.readers.Simple.{singleAt, bareAt, optionalAt}
 use Rattle.lines.specs.readers.Fetch.{parameterAt, fetchedAt, fetchAt}
 use Rattle.lines.specs.readers.Title.{nameAt, sectionAt, headingOf, headingAt, remarkAt}
 use Rattle.lines.specs.readers.Command.{commands, parseLine}
-use Rattle.grammar.specs.Number.{Row, IndexSpelled}
+use Rattle.grammar.specs.Number.{Several, IndexSpelled}
 use Rattle.grammar.specs.Argument.{OperandSpelled, ArgumentSpelled, integer-variable, decimal-variable, string-variable}
 use Rattle.grammar.specs.Text.{TextSpelled}
-use Rattle.grammar.specs.Line.{space, TargetSpelled, integer-target, decimal-target, string-target, OptionalSpelled, absent, given, FetchSpelled, fetch, first, numbered, Spells, text, section, set, if-zero, if-non-zero, compare, «else», end-if, begin-table, end-table, records, entries, datasource, no-form-feed, new-page, heading, no-heading, remark, remark-text}
+use Rattle.grammar.specs.Line.{space, TargetSpelled, integer-target, decimal-target, string-target, OptionalSpelled, absent, given, FetchSpelled, fetch, first, numbered, Spells, text, section, set, if-not, if, compare, «else», end-if, begin-table, end-table, records, entries, datasource, no-form-feed, new-page, heading, no-heading, remark, remark-text}
 use Rattle.grammar.proofs.Standing.{tested, byte-is, onward, past, Stops, span-exact}
 use Rattle.grammar.proofs.Numbers.{number-read}
 use Rattle.grammar.proofs.Literals.{no-digits, index-read}
@@ -136,7 +136,7 @@ datasource-read l at i s e k =
 
 -- ---- $REC and $TBL
 
-fetched-read : (l : List ℕ) (at n m : ℕ) (r : Index) (u : List ℕ) (e : Index) (v : List ℕ) (c : Index) (w : List ℕ) → drop at l ≡ space ∷ (u ++ (space ∷ (v ++ (space ∷ w)))) → IndexSpelled r u → IndexSpelled e v → IndexSpelled c w → fetchedAt l at n m ≡ FetchTo (record { number = n; parameter = m; first = r; second = e; count = c }) (at + 1 + length u + 1 + length v + 1 + length w)
+fetched-read : (l : List ℕ) (at n m : ℕ) (r : Index) (u : List ℕ) (e : Index) (v : List ℕ) (c : Index) (w : List ℕ) → drop at l ≡ space ∷ (u ++ (space ∷ (v ++ (space ∷ w)))) → IndexSpelled r u → IndexSpelled e v → IndexSpelled c w → fetchedAt l at n m ≡ FetchTo (record { number = n; parameter = m; «record» = r; entry = e; count = c }) (at + 1 + length u + 1 + length v + 1 + length w)
 unfolding fetchedAt belongs
 fetched-read l at n m r u e v c w h a b d =
     let j : ℕ = at + 1 + length u in
@@ -161,7 +161,7 @@ fetch-read form l at f s h (fetch n x m y r u e v c w a b i j k) =
 
 -- ---- $SEC, $PH, texts
 
-section-read : (l : List ℕ) (at : ℕ) (name : List ℕ) → drop at l ≡ space ∷ name → Row InName 1 16 name → sectionAt l at ≡ Section (at + 1) (at + 1 + length name)
+section-read : (l : List ℕ) (at : ℕ) (name : List ℕ) → drop at l ≡ space ∷ name → Several InName 1 16 name → sectionAt l at ≡ Section (at + 1) (at + 1 + length name)
 unfolding sectionAt nameAt
 section-read l at name e w =
     let f = e ∙ last name in
@@ -202,8 +202,8 @@ spelled-is-read f l (set Add t x a y u v) = set-read Add t l 5 x a y refl u (mov
 spelled-is-read f l (set Subtract t x a y u v) = set-read Subtract t l 5 x a y refl u (moved a y (omega arith) v)
 spelled-is-read f l (set Multiply t x a y u v) = set-read Multiply t l 5 x a y refl u (moved a y (omega arith) v)
 spelled-is-read f l (set Divide t x a y u v) = set-read Divide t l 5 x a y refl u (moved a y (omega arith) v)
-spelled-is-read f l (if-zero a s k) = single-read IfZero l 6 a s refl k
-spelled-is-read f l (if-non-zero a s k) = single-read IfNonZero l 3 a s refl k
+spelled-is-read f l (if-not a s k) = single-read IfNot l 6 a s refl k
+spelled-is-read f l (if a s k) = single-read If l 3 a s refl k
 spelled-is-read f l (compare SameString a x b y u v) = compare-read SameString l 7 a x b y refl u v
 spelled-is-read f l (compare SameLetters a x b y u v) = compare-read SameLetters l 7 a x b y refl u v
 spelled-is-read f l (compare Equal a x b y u v) = compare-read Equal l 5 a x b y refl u v

@@ -42,7 +42,7 @@ use Rattle.lines.specs.declared.command.Optional.{Optional}
 use Rattle.lines.specs.declared.command.Optional.the-variants.{Given, Absent}
 use Rattle.lines.specs.declared.command.Fetch.{Fetch}
 use Rattle.lines.specs.declared.command.Line.{Line}
-use Rattle.lines.specs.declared.command.Line.the-variants.{NoForm, Text, Section, Set, IfZero, IfNonZero, Compare, Else, EndIf, BeginTable, EndTable, Records, Entries, Datasource, NoFormFeed, NewPage, Heading, NoHeading, Remark}
+use Rattle.lines.specs.declared.command.Line.the-variants.{NoForm, Text, Section, Set, IfNot, If, Compare, Else, EndIf, BeginTable, EndTable, Records, Entries, Datasource, NoFormFeed, NewPage, Heading, NoHeading, Remark}
 use Rattle.lines.specs.declared.set.TargetRead.{TargetRead}
 use Rattle.lines.specs.declared.set.TargetRead.the-variants.{TargetIs, NoTarget}
 use Rattle.lines.specs.declared.fetch.FetchRead.{FetchRead}
@@ -57,10 +57,10 @@ use Rattle.lines.specs.readers.Title.{nameAt, sectionAt, headingOf, headingAt, 
 use Rattle.lines.specs.readers.Command.{commands, parseLine}
 use Rattle.lines.proofs.EndLaws.{no-number, no-parameter, no-index, no-operand, no-argument, no-name}
 use Rattle.lines.proofs.SectionLaws.{formCase}
-use Rattle.grammar.specs.Number.{Row, Numbered, IndexSpelled}
+use Rattle.grammar.specs.Number.{Several, Numbered, IndexSpelled}
 use Rattle.grammar.specs.Argument.{OperandSpelled, literal, string, integer-variable, decimal-variable, string-variable, page-number, line-number, loop-counter, record-element, entry-element, parameter, record-of, entry-of, ArgumentSpelled}
 use Rattle.grammar.specs.Text.{TextSpelled}
-use Rattle.grammar.specs.Line.{space, TargetSpelled, integer-target, decimal-target, string-target, OptionalSpelled, absent, given, FetchSpelled, fetch, HeadingWord, first, numbered, Spells, text, section, set, if-zero, if-non-zero, compare, «else», end-if, begin-table, end-table, records, entries, datasource, no-form-feed, new-page, heading, no-heading, remark, remark-text}
+use Rattle.grammar.specs.Line.{space, TargetSpelled, integer-target, decimal-target, string-target, OptionalSpelled, absent, given, FetchSpelled, fetch, HeadingWord, first, numbered, Spells, text, section, set, if-not, if, compare, «else», end-if, begin-table, end-table, records, entries, datasource, no-form-feed, new-page, heading, no-heading, remark, remark-text}
 use Rattle.grammar.proofs.Standing.{tested, Found, byte-stands, stands-says, span-all, span-here, no-more, _or_, found-word}
 use Rattle.grammar.proofs.Numbers.{number-spelled}
 use Rattle.grammar.proofs.Literals.{index-spelled}
@@ -307,17 +307,17 @@ module _ (l : List ℕ) {at : ℕ} {w : List ℕ} (f : Fronted l at w) where
       (λ b. as-spelled (subst (Spells Remark) (sym (append-nil w) ∙ line-is l [] f (drop-of-length-le l (leb-true (length l) at b))) g))
       (λ b. tested (Sound l) (byteIs l at " ") (λ e. as-spelled (subst (Spells Remark) (line-is l _ f (space-then l at _ e refl)) (h (drop (at + 1) l)))) (λ e. nothing))
 
-  name-sound : byteIs l at " " ≡ true → ((name : List ℕ) → Row InName 1 16 name → Spells (Section (at + 1) (at + 1 + length name)) (w ++ (space ∷ name))) → Sound l (nameAt l (at + 1))
+  name-sound : byteIs l at " " ≡ true → ((name : List ℕ) → Several InName 1 16 name → Spells (Section (at + 1) (at + 1 + length name)) (w ++ (space ∷ name))) → Sound l (nameAt l (at + 1))
   unfolding nameAt
   name-sound e h =
       let s : List ℕ = span InName (take 16 (drop (at + 1) l)) in
       tested (Sound l) (eqb (length s) 0) (λ z. nothing) (λ z.
       ending-sound l (at + 1 + length s) (Section (at + 1) (at + 1 + length s)) (λ y.
-      let r : Row InName 1 16 s = record { all = span-all InName (take 16 (drop (at + 1) l)); enough = omega (arith, eqb-false (length s) 0 z); few = omega (arith, length-span InName (take 16 (drop (at + 1) l)), length-take 16 (drop (at + 1) l)) } in
+      let r : Several InName 1 16 s = record { all = span-all InName (take 16 (drop (at + 1) l)); enough = omega (arith, eqb-false (length s) 0 z); few = omega (arith, length-span InName (take 16 (drop (at + 1) l)), length-take 16 (drop (at + 1) l)) } in
       let g : drop (at + 1) l ≡ s = span-here InName l (at + 1) 16 ∙ ap (λ (x : List ℕ). s ++ x) (ended l (at + 1 + length s) y) ∙ append-nil s in
       subst (Spells (Section (at + 1) (at + 1 + length s))) (line-is l _ f (space-then l at _ e g)) (h s r)))
 
-  section-sound : ((name : List ℕ) → Row InName 1 16 name → Spells (Section (at + 1) (at + 1 + length name)) (w ++ (space ∷ name))) → Sound l (sectionAt l at)
+  section-sound : ((name : List ℕ) → Several InName 1 16 name → Spells (Section (at + 1) (at + 1 + length name)) (w ++ (space ∷ name))) → Sound l (sectionAt l at)
   unfolding sectionAt behindSpace
   section-sound h = go (byteIs l at " ") refl
     where
@@ -361,8 +361,8 @@ command-sound l e =
     or (λ h. compare-sound l (front (ascii "IFLE") h) AtMost (compare AtMost))
     or (λ h. compare-sound l (front (ascii "IFGT") h) Greater (compare Greater))
     or (λ h. compare-sound l (front (ascii "IFGE") h) AtLeast (compare AtLeast))
-    or (λ h. single-sound l (front (ascii "IFNOT") h) IfZero if-zero)
-    or (λ h. single-sound l (front (ascii "IF") h) IfNonZero if-non-zero)
+    or (λ h. single-sound l (front (ascii "IFNOT") h) IfNot if-not)
+    or (λ h. single-sound l (front (ascii "IF") h) If if)
     or (λ h. single-sound l (front (ascii "BT") h) BeginTable begin-table)
     or (λ h. bare-sound l (front (ascii "ELSE") h) Else «else»)
     or (λ h. bare-sound l (front (ascii "ENDIF") h) EndIf end-if)
@@ -407,8 +407,8 @@ spelled-has-form : (f : Line) (l : List ℕ) → Spells f l → HasForm f
 spelled-has-form f l (text ps l′ h t w) = tt
 spelled-has-form f l (section name w) = tt
 spelled-has-form f l (set o t x a y u v) = tt
-spelled-has-form f l (if-zero a s k) = tt
-spelled-has-form f l (if-non-zero a s k) = tt
+spelled-has-form f l (if-not a s k) = tt
+spelled-has-form f l (if a s k) = tt
 spelled-has-form f l (compare c a x b y u v) = tt
 spelled-has-form f l «else» = tt
 spelled-has-form f l end-if = tt

@@ -31,7 +31,7 @@ use Rattle.arguments.specs.declared.literal.LiteralRead.the-variants.{LiteralTo
 use Rattle.arguments.specs.readers.Literal as L
 use Rattle.arguments.specs.readers.Literal.{fractionAt, unsignedAt, literalAt}
 use Rattle.arguments.specs.readers.Index.{loopWord, variableWord, variableIndex, indexAt}
-use Rattle.grammar.specs.Number.{point, All, Row, sign, inMillionths, LiteralSpelled, integer, decimal, IndexSpelled, fixed, variable, loop}
+use Rattle.grammar.specs.Number.{point, All, Several, sign, millionthsSpelled, LiteralSpelled, integer, decimal, IndexSpelled, fixed, variable, loop}
 use Rattle.grammar.proofs.Standing.{tested, Found, byte-is, onward, past, byte-stands, stands, stands-says, other-word, Stops, span-all, span-here}
 use Rattle.grammar.proofs.Numbers.{digits-read, first-byte, number-read, number-spelled}
 
@@ -57,22 +57,22 @@ first-digit (d ∷ s) a h = digit-bounds d (a .0)
 -- ---- what is spelled is read
 
 module _ (l : List ℕ) (negative : Bool) where
-  unsigned-integer : (at : ℕ) (whole r : List ℕ) → Row Digit 1 10 whole → valueOf whole ≤ integerLimit → drop at l ≡ whole ++ r → Ends r → unsignedAt l at negative ≡ LiteralTo (Integer (signed negative (valueOf whole))) (at + length whole)
+  unsigned-integer : (at : ℕ) (whole r : List ℕ) → Several Digit 1 10 whole → valueOf whole ≤ integerLimit → drop at l ≡ whole ++ r → Ends r → unsignedAt l at negative ≡ LiteralTo (Integer (signed negative (valueOf whole))) (at + length whole)
   unfolding unsignedAt
   unsigned-integer at whole r w h e t =
       let p : byteIs l (at + length whole) "." ≡ false = ne-eqb _ point (λ q. ends-point r t (sym (byte-is l (at + length whole) r (onward l at whole r e)) ∙ q)) in
       rw (digits-read l at 10 whole r (omega arith) e (w .all) (w .few) (ends-stops r t), ne-eqb (length whole) 0 (λ q. omega (arith, w .enough)), p, le-ltb integerLimit (valueOf whole) h)
 
-  unsigned-decimal : (at : ℕ) (whole fraction r : List ℕ) → Row Digit 1 10 whole → Row Digit 1 6 fraction → inMillionths whole fraction ≤ decimalLimit → drop at l ≡ whole ++ (point ∷ (fraction ++ r)) → Ends r → unsignedAt l at negative ≡ LiteralTo (Decimal (signed negative (inMillionths whole fraction))) (at + length whole + 1 + length fraction)
+  unsigned-decimal : (at : ℕ) (whole fraction r : List ℕ) → Several Digit 1 10 whole → Several Digit 1 6 fraction → millionthsSpelled whole fraction ≤ decimalLimit → drop at l ≡ whole ++ (point ∷ (fraction ++ r)) → Ends r → unsignedAt l at negative ≡ LiteralTo (Decimal (signed negative (millionthsSpelled whole fraction))) (at + length whole + 1 + length fraction)
   unfolding unsignedAt fractionAt L.inMillionths belongs
   unsigned-decimal at whole fraction r w f h e t =
       let o : drop (at + length whole) l ≡ point ∷ (fraction ++ r) = onward l at whole (point ∷ (fraction ++ r)) e in
       let p : byteIs l (at + length whole) "." ≡ true = eq-eqb _ point (byte-is l (at + length whole) (point ∷ (fraction ++ r)) o) in
       let n : drop (at + length whole + 1) l ≡ fraction ++ r = past l (at + length whole) point (fraction ++ r) o in
-      rw (digits-read l at 10 whole (point ∷ (fraction ++ r)) (omega arith) e (w .all) (w .few) refl, ne-eqb (length whole) 0 (λ q. omega (arith, w .enough)), p, digits-read l (at + length whole + 1) 6 fraction r (omega arith) n (f .all) (f .few) (ends-stops r t), ne-eqb (length fraction) 0 (λ q. omega (arith, f .enough)), le-ltb decimalLimit (inMillionths whole fraction) h)
+      rw (digits-read l at 10 whole (point ∷ (fraction ++ r)) (omega arith) e (w .all) (w .few) refl, ne-eqb (length whole) 0 (λ q. omega (arith, w .enough)), p, digits-read l (at + length whole + 1) 6 fraction r (omega arith) n (f .all) (f .few) (ends-stops r t), ne-eqb (length fraction) 0 (λ q. omega (arith, f .enough)), le-ltb decimalLimit (millionthsSpelled whole fraction) h)
 
 -- the first byte of a literal without a sign is none
-unsigned-first : (l : List ℕ) (at : ℕ) (whole r : List ℕ) → Row Digit 1 10 whole → drop at l ≡ whole ++ r → byteIs l at "-" ≡ false
+unsigned-first : (l : List ℕ) (at : ℕ) (whole r : List ℕ) → Several Digit 1 10 whole → drop at l ≡ whole ++ r → byteIs l at "-" ≡ false
 unsigned-first l at whole r w e =
     let d = first-digit whole (w .all) (w .enough) in
     ne-eqb (byteAt l at) 45 (λ q. omega (arith, d, byte-is l at (whole ++ r) e, first-byte whole r (w .enough)))
@@ -112,7 +112,7 @@ index-read l at i x r loop e t =
 -- ---- what is read is spelled
 
 -- digits that were read, 1 to `most` of them
-pub row-read : (l : List ℕ) (at most : ℕ) → (length (span Digit (take most (drop at l))) ≡ 0 → ⊥) → Row Digit 1 most (span Digit (take most (drop at l)))
+pub row-read : (l : List ℕ) (at most : ℕ) → (length (span Digit (take most (drop at l))) ≡ 0 → ⊥) → Several Digit 1 most (span Digit (take most (drop at l)))
 row-read l at most c =
     record {
       all = span-all Digit (take most (drop at l));
@@ -125,16 +125,16 @@ module _ (l : List ℕ) (negative : Bool) where
   LiteralSound at (LiteralTo q next) = Found (λ s. LiteralSpelled q (sign negative ++ s)) l at next
   LiteralSound at NoLiteral = Unit {0}
 
-  fraction-sound : (at : ℕ) (whole : List ℕ) → Row Digit 1 10 whole → drop at l ≡ whole ++ (point ∷ drop (at + length whole + 1) l) → LiteralSound at (fractionAt l (at + length whole + 1) negative (valueOf whole))
+  fraction-sound : (at : ℕ) (whole : List ℕ) → Several Digit 1 10 whole → drop at l ≡ whole ++ (point ∷ drop (at + length whole + 1) l) → LiteralSound at (fractionAt l (at + length whole + 1) negative (valueOf whole))
   unfolding fractionAt digitsAt L.inMillionths
   fraction-sound at whole w e =
       let k : ℕ = at + length whole + 1 in
       let s : List ℕ = span Digit (take 6 (drop k l)) in
       tested (LiteralSound at) (eqb (length s) 0) (λ c. tt) (λ c.
-      tested (LiteralSound at) (ltb decimalLimit (inMillionths whole s)) (λ v. tt) (λ v.
+      tested (LiteralSound at) (ltb decimalLimit (millionthsSpelled whole s)) (λ v. tt) (λ v.
       record {
         bytes = whole ++ (point ∷ s);
-        spelled = decimal negative whole s w (row-read l k 6 (eqb-false (length s) 0 c)) (ltb-false decimalLimit (inMillionths whole s) v);
+        spelled = decimal negative whole s w (row-read l k 6 (eqb-false (length s) 0 c)) (ltb-false decimalLimit (millionthsSpelled whole s) v);
         here = e ∙ ap (λ (x : List ℕ). whole ++ (point ∷ x)) (span-here Digit l k 6) ∙ sym (append-assoc whole (point ∷ s) (drop (k + length s) l));
         behind = omega (arith, length-append whole (point ∷ s));
       }))

@@ -29,7 +29,7 @@ use Rattle.arguments.specs.declared.operand.OperandRead.the-variants.{OperandTo
 use Rattle.arguments.specs.readers.Literal.{unsignedAt, literalAt}
 use Rattle.arguments.specs.readers.Index.{indexAt}
 use Rattle.arguments.specs.readers.Operand.{stringAt, entryOf, recordOf, cellOf, cellAt, wholeAt, numberedOf, numberedAt, names, namedAt, numberOr, operandAt}
-use Rattle.grammar.specs.Number.{point, All, Row, Numbered, LiteralSpelled, integer, decimal, IndexSpelled}
+use Rattle.grammar.specs.Number.{point, All, Several, Numbered, LiteralSpelled, integer, decimal, IndexSpelled}
 use Rattle.grammar.specs.Argument.{quote, OperandSpelled, literal, string, integer-variable, decimal-variable, string-variable, page-number, line-number, loop-counter, record-element, entry-element, parameter, record-of, entry-of}
 use Rattle.grammar.proofs.Standing.{tested, Found, byte-is, onward, past, byte-stands, Stops, span-all, span-exact, span-here, no-more, _or_, found-word}
 use Rattle.grammar.proofs.Numbers.{first-byte, some-digits, number-read, number-spelled}
@@ -80,7 +80,7 @@ no-point l at r e t = ne-eqb (byteAt l at) point (λ q. ends-point r t (sym (byt
 a-point : (l : List ℕ) (at : ℕ) (r : List ℕ) → drop at l ≡ point ∷ r → byteIs l at "." ≡ true
 a-point l at r e = eq-eqb (byteAt l at) point (byte-is l at (point ∷ r) e)
 
-string-read : (l : List ℕ) (at : ℕ) (s r : List ℕ) → Row InString 0 16 s → drop at l ≡ quote ∷ (s ++ (quote ∷ r)) → operandAt l at ≡ OperandTo (Text (at + 1) (at + 1 + length s)) (at + 1 + length s + 1)
+string-read : (l : List ℕ) (at : ℕ) (s r : List ℕ) → Several InString 0 16 s → drop at l ≡ quote ∷ (s ++ (quote ∷ r)) → operandAt l at ≡ OperandTo (Text (at + 1) (at + 1 + length s)) (at + 1 + length s + 1)
 unfolding operandAt stringAt belongs
 string-read l at s r w e =
     let p : drop (at + 1) l ≡ s ++ (quote ∷ r) = past l at quote (s ++ (quote ∷ r)) e in

@@ -14,7 +14,7 @@ use Rattle.texts.specs.readers.Text.{textPieces}
 use Rattle.texts.specs.Pieces.{read, piecesOf}
 use Rattle.lines.specs.declared.command.Line.the-variants as L
 use Rattle.lines.specs.declared.command.Line.the-variants.{Section, Heading}
-use Rattle.grammar.specs.Number.{Row}
+use Rattle.grammar.specs.Number.{Several}
 use Rattle.grammar.specs.Argument.{quote, OperandSpelled, string}
 use Rattle.grammar.specs.Text.{TextSpelled}
 use Rattle.grammar.specs.Line.{space, Spells, text, section, heading}
@@ -24,7 +24,7 @@ use Rattle.grammar.proofs.Texts.{text-read}
 -- A string's places: between them stand its bytes, in quotes.
 pub record StringThere (l : List ℕ) (start end : ℕ) : Type 0 where
   pub bytes : List ℕ
-  pub row : Row InString 0 16 bytes
+  pub row : Several InString 0 16 bytes
   pub there : take (end - start) (drop start l) ≡ bytes
 
 pub string-there : (l : List ℕ) (at start end : ℕ) (s r : List ℕ) → OperandSpelled at (Text start end) s → drop at l ≡ s ++ r → StringThere l start end
@@ -36,7 +36,7 @@ string-there l at start end s r (string x w) e =
 -- A section's places: between them stands its name, and nothing else behind `$SEC `.
 pub record NameThere (l : List ℕ) (start end : ℕ) : Type 0 where
   pub bytes : List ℕ
-  pub row : Row InName 1 16 bytes
+  pub row : Several InName 1 16 bytes
   pub there : take (end - start) (drop start l) ≡ bytes
   pub whole : l ≡ ascii "$SEC " ++ bytes
 

@@ -16,7 +16,7 @@ use Rattle.arguments.specs.declared.argument.Filter.{Filter}
 use Rattle.arguments.specs.declared.argument.Filter.the-variants.{Unfiltered, Absolute, Truncated, UpperCase, Length, RecordCount, EntryCount}
 use Rattle.arguments.specs.declared.argument.Argument.{Argument}
 use Rattle.arguments.specs.Admitted.{countOf, admits}
-use Rattle.grammar.specs.Number.{point, Row, Numbered, LiteralSpelled, IndexSpelled}
+use Rattle.grammar.specs.Number.{point, Several, Numbered, LiteralSpelled, IndexSpelled}
 
 abbrev pub quote : ℕ
 quote = code "\""
@@ -25,7 +25,7 @@ quote = code "\""
 -- LINENUM; LOOP; Rn, Tn (n 1–10); a cell Pn, Pn.r or Pn.r.e, n 1–65,535"
 pub data OperandSpelled (at : ℕ) : Operand → List ℕ → Type 0 where
   literal : {q : Quantity} {s : List ℕ} → LiteralSpelled q s → OperandSpelled at (Number q) s
-  string : (s : List ℕ) → Row InString 0 16 s → OperandSpelled at (Text (at + 1) (at + 1 + length s)) (quote ∷ (s ++ (quote ∷ [])))
+  string : (s : List ℕ) → Several InString 0 16 s → OperandSpelled at (Text (at + 1) (at + 1 + length s)) (quote ∷ (s ++ (quote ∷ [])))
   integer-variable : (n : ℕ) (s : List ℕ) → Numbered 99 n s → OperandSpelled at (IntegerVariable n) (ascii "IV" ++ s)
   decimal-variable : (n : ℕ) (s : List ℕ) → Numbered 99 n s → OperandSpelled at (DecimalVariable n) (ascii "FV" ++ s)
   string-variable : (n : ℕ) (s : List ℕ) → Numbered 99 n s → OperandSpelled at (StringVariable n) (ascii "SV" ++ s)

@@ -22,8 +22,8 @@ use Rattle.lines.specs.declared.command.Optional.{Optional}
 use Rattle.lines.specs.declared.command.Optional.the-variants.{Given, Absent}
 use Rattle.lines.specs.declared.command.Fetch.{Fetch}
 use Rattle.lines.specs.declared.command.Line.{Line}
-use Rattle.lines.specs.declared.command.Line.the-variants.{Text, Section, Set, IfZero, IfNonZero, Compare, Else, EndIf, BeginTable, EndTable, Records, Entries, Datasource, NoFormFeed, NewPage, Heading, NoHeading, Remark}
-use Rattle.grammar.specs.Number.{Row, Numbered, IndexSpelled}
+use Rattle.lines.specs.declared.command.Line.the-variants.{Text, Section, Set, IfNot, If, Compare, Else, EndIf, BeginTable, EndTable, Records, Entries, Datasource, NoFormFeed, NewPage, Heading, NoHeading, Remark}
+use Rattle.grammar.specs.Number.{Several, Numbered, IndexSpelled}
 use Rattle.grammar.specs.Argument.{ArgumentSpelled}
 use Rattle.grammar.specs.Text.{TextSpelled}
 
@@ -61,7 +61,7 @@ pub data OptionalSpelled (at : ℕ) : Optional → List ℕ → Type 0 where
 
 -- "n Pm record entry count"
 pub data FetchSpelled : Fetch → List ℕ → Type 0 where
-  fetch : (n : ℕ) (x : List ℕ) (m : ℕ) (y : List ℕ) (r : Index) (u : List ℕ) (e : Index) (v : List ℕ) (c : Index) (w : List ℕ) → Numbered 10 n x → Numbered 65535 m y → IndexSpelled r u → IndexSpelled e v → IndexSpelled c w → FetchSpelled (record { number = n; parameter = m; first = r; second = e; count = c }) (x ++ (ascii " P" ++ (y ++ (space ∷ (u ++ (space ∷ (v ++ (space ∷ w))))))))
+  fetch : (n : ℕ) (x : List ℕ) (m : ℕ) (y : List ℕ) (r : Index) (u : List ℕ) (e : Index) (v : List ℕ) (c : Index) (w : List ℕ) → Numbered 10 n x → Numbered 65535 m y → IndexSpelled r u → IndexSpelled e v → IndexSpelled c w → FetchSpelled (record { number = n; parameter = m; «record» = r; entry = e; count = c }) (x ++ (ascii " P" ++ (y ++ (space ∷ (u ++ (space ∷ (v ++ (space ∷ w))))))))
 
 -- "`$PHn text` (n 1–9, `$PH` is `$PH1`; ..)"
 pub data HeadingWord : ℕ → List ℕ → Type 0 where
@@ -72,10 +72,10 @@ pub data Spells : Line → List ℕ → Type 0 where
   -- "at most 132 bytes", with fields at their widths
   text : (ps : List Piece) (l : List ℕ) → (byteAt l 0 ≡ code "$" → ⊥) → TextSpelled 0 ps l → totalWidth ps ≤ 132 → Spells Text l
   -- "1–16 of A–Z, 0–9"
-  section : (name : List ℕ) → Row InName 1 16 name → Spells (Section 5 (5 + length name)) (ascii "$SEC " ++ name)
+  section : (name : List ℕ) → Several InName 1 16 name → Spells (Section 5 (5 + length name)) (ascii "$SEC " ++ name)
   set : (o : Operation) (t : Target) (x : List ℕ) (a : Argument) (y : List ℕ) → TargetSpelled o t x → ArgumentSpelled (7 + length x) a y → Spells (Set o t a) (setWord o ++ (x ++ (space ∷ y)))
-  if-zero : (a : Argument) (s : List ℕ) → ArgumentSpelled 7 a s → Spells (IfZero a) (ascii "$IFNOT " ++ s)
-  if-non-zero : (a : Argument) (s : List ℕ) → ArgumentSpelled 4 a s → Spells (IfNonZero a) (ascii "$IF " ++ s)
+  if-not : (a : Argument) (s : List ℕ) → ArgumentSpelled 7 a s → Spells (IfNot a) (ascii "$IFNOT " ++ s)
+  if : (a : Argument) (s : List ℕ) → ArgumentSpelled 4 a s → Spells (If a) (ascii "$IF " ++ s)
   compare : (c : Comparison) (a : Argument) (x : List ℕ) (b : Argument) (y : List ℕ) → ArgumentSpelled (length (compareWord c)) a x → ArgumentSpelled (length (compareWord c) + length x + 1) b y → Spells (Compare c a b) (compareWord c ++ (x ++ (space ∷ y)))
   «else» : Spells Else (ascii "$ELSE")
   end-if : Spells EndIf (ascii "$ENDIF")

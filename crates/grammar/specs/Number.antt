@@ -27,7 +27,7 @@ All class [] = Unit {0}
 All class (b ∷ s) = (belongs class b ≡ true) × All class s
 
 -- so many bytes of a class, from the least to the most
-pub record Row (class : Class) (least most : ℕ) (s : List ℕ) : Type 0 where
+pub record Several (class : Class) (least most : ℕ) (s : List ℕ) : Type 0 where
   pub all : All class s
   pub enough : least ≤ length s
   pub few : length s ≤ most
@@ -46,17 +46,17 @@ sign true = ascii "-"
 sign false = []
 
 -- the digits before the point and those behind it, in millionths
-abbrev pub inMillionths : List ℕ → List ℕ → ℕ
-inMillionths whole fraction = valueOf whole * 1000000 + valueOf fraction * 10 ^ (6 - length fraction)
+abbrev pub millionthsSpelled : List ℕ → List ℕ → ℕ
+millionthsSpelled whole fraction = valueOf whole * 1000000 + valueOf fraction * 10 ^ (6 - length fraction)
 
 -- "an integer (optional `-`, 1–10 digits); a decimal (the same, a point, 1–6 digits)"; 3: "a number literal exceeds
 -- ±2,000,000,000"
 pub data LiteralSpelled : Quantity → List ℕ → Type 0 where
-  integer : (negative : Bool) (whole : List ℕ) → Row Digit 1 10 whole → valueOf whole ≤ integerLimit → LiteralSpelled (Integer (signed negative (valueOf whole))) (sign negative ++ whole)
-  decimal : (negative : Bool) (whole fraction : List ℕ) → Row Digit 1 10 whole → Row Digit 1 6 fraction → inMillionths whole fraction ≤ decimalLimit → LiteralSpelled (Decimal (signed negative (inMillionths whole fraction))) (sign negative ++ (whole ++ (point ∷ fraction)))
+  integer : (negative : Bool) (whole : List ℕ) → Several Digit 1 10 whole → valueOf whole ≤ integerLimit → LiteralSpelled (Integer (signed negative (valueOf whole))) (sign negative ++ whole)
+  decimal : (negative : Bool) (whole fraction : List ℕ) → Several Digit 1 10 whole → Several Digit 1 6 fraction → millionthsSpelled whole fraction ≤ decimalLimit → LiteralSpelled (Decimal (signed negative (millionthsSpelled whole fraction))) (sign negative ++ (whole ++ (point ∷ fraction)))
 
 -- "An index .. is 1–3 digits, IVn or LOOP"
 pub data IndexSpelled : Index → List ℕ → Type 0 where
-  fixed : (s : List ℕ) → Row Digit 1 3 s → IndexSpelled (Fixed (valueOf s)) s
+  fixed : (s : List ℕ) → Several Digit 1 3 s → IndexSpelled (Fixed (valueOf s)) s
   variable : (n : ℕ) (s : List ℕ) → Numbered 99 n s → IndexSpelled (Variable n) (ascii "IV" ++ s)
   loop : IndexSpelled Loop (ascii "LOOP")

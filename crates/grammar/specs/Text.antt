@@ -12,13 +12,13 @@ use Rattle.texts.specs.declared.text.Places.{Places}
 use Rattle.texts.specs.declared.text.Places.the-variants.{Unsaid, Said}
 use Rattle.texts.specs.declared.text.Piece.{Piece}
 use Rattle.texts.specs.declared.text.Piece.the-variants.{Plain, Placed}
-use Rattle.grammar.specs.Number.{point, Row, Numbered}
+use Rattle.grammar.specs.Number.{point, Several, Numbered}
 use Rattle.grammar.specs.Argument.{ArgumentSpelled}
 
 -- "`{argument,w}` or `{argument,w.d}`": what stands behind w, "d 0–6"
 pub data PlacesSpelled : Places → List ℕ → Type 0 where
   unsaid : PlacesSpelled Unsaid []
-  said : (s : List ℕ) → Row Digit 1 1 s → valueOf s ≤ 6 → PlacesSpelled (Said (valueOf s)) (point ∷ s)
+  said : (s : List ℕ) → Several Digit 1 1 s → valueOf s ≤ 6 → PlacesSpelled (Said (valueOf s)) (point ∷ s)
 
 -- a byte, or a field, "w 1–32": "other braces in text and headings, outside a field's string, are refused"
 pub data PieceSpelled (at : ℕ) : Piece → List ℕ → Type 0 where

@@ -12,20 +12,20 @@ use Rattle.cells.specs.Cell.{Key, Cell, number, wholeCell, wholeKey}
 use Rattle.cells.specs.Asking.{asked, queryOf, queryAllowed, questionAllowed, lookup, queryAnswer, answer, answeredAsk, replied, askOf}
 use Rattle.cells.proofs.BigEndian.{and-true}
 use Rattle.store.specs.Edit.{with, refusedOn, doneOn, fits, putOn, takenOut, removeOn}
-use Rattle.history.specs.State.{State, heldBy, askIn}
+use Rattle.history.specs.LentStore.{LentStore, cellsHeldBy, askIn}
 use Rattle.history.specs.Change.{Change, put, remove, next, succeeded, accepted, keyOfCell, keyNamed, isKey, touches, edited}
-use Rattle.history.specs.History.{after, untouched, cellsAfter, heldAfter}
+use Rattle.history.specs.History.{after, untouched, cellsAfter, cellsHeldAfter}
 use Rattle.history.proofs.Lookup.{lookup-with-other, lookup-without-other}
 use Rattle.history.proofs.Form.{form-kept, end-kept, refused-left}
 use Rattle.history.proofs.Lists.{folded}
 
 -- Stores that hold the same cells answer every question alike.
-pub answers-by-cells : (m m′ : State) → heldBy m ≡ heldBy m′ → (q : Question) → askIn m q ≡ askIn m′ q
+pub answers-by-cells : (m m′ : LentStore) → cellsHeldBy m ≡ cellsHeldBy m′ → (q : Question) → askIn m q ≡ askIn m′ q
 unfolding askOf
 answers-by-cells m m′ h q = ap (replied q) h
 
 -- a store in form gives the answer by its cells to a question within the limits
-pub answered : (m : State) (cs : List Cell) (q : Question) → heldBy m ≡ some cs → questionAllowed q ≡ true → askIn m q ≡ answeredAsk (answer q cs)
+pub answered : (m : LentStore) (cs : List Cell) (q : Question) → cellsHeldBy m ≡ some cs → questionAllowed q ≡ true → askIn m q ≡ answeredAsk (answer q cs)
 unfolding askOf replied
 answered m cs q h a = rw (h, a)
 
@@ -53,7 +53,7 @@ edited-other size k (remove s) cs = go (wholeKey s)
     go (some l) e = by l (lookup (number l) cs) e
 
 -- an edit that is refused, or of another key
-left-other : (k : Key) (e : Change) (m : State) (cs : List Cell) → heldBy m ≡ some cs → touches k e m ≡ false → lookup (number k) (edited (length (m .buffer)) e cs .left) ≡ lookup (number k) cs
+left-other : (k : Key) (e : Change) (m : LentStore) (cs : List Cell) → cellsHeldBy m ≡ some cs → touches k e m ≡ false → lookup (number k) (edited (length (m .buffer)) e cs .left) ≡ lookup (number k) cs
 unfolding touches
 left-other k e m cs h u = go (accepted e m) refl
   where
@@ -61,7 +61,7 @@ left-other k e m cs h u = go (accepted e m) refl
     go true a = edited-other (length (m .buffer)) k e cs (rw a at u)
     go false a = ap (lookup (number k)) (refused-left (length (m .buffer)) e cs (ap succeeded (sym (end-kept e m cs h)) ∙ a))
 
-lookup-kept : (k : Key) (es : List Change) (m : State) (cs : List Cell) → heldBy m ≡ some cs → untouched k es m ≡ true → lookup (number k) (cellsAfter (length (m .buffer)) es cs) ≡ lookup (number k) cs
+lookup-kept : (k : Key) (es : List Change) (m : LentStore) (cs : List Cell) → cellsHeldBy m ≡ some cs → untouched k es m ≡ true → lookup (number k) (cellsAfter (length (m .buffer)) es cs) ≡ lookup (number k) cs
 unfolding untouched cellsAfter
 lookup-kept k [] m cs h u = refl
 lookup-kept k (e ∷ es) m cs h u =
@@ -77,10 +77,10 @@ answer-cell q cs ds h e = rw (eq-eqb (q .kind) 1 h, e)
 
 -- Edits of other keys change no answer of kind 1: for any list of edits, from any bytes, none of them an accepted put or remove
 -- of that key.
-pub other-key : (q : Question) (es : List Change) (m : State) → q .kind ≡ 1 → untouched (asked q) es m ≡ true → askIn (after es m) q ≡ askIn m q
-unfolding askOf heldAfter
-other-key q es m h u = ap (replied q) (folded es m) ∙ go (heldBy m) refl
+pub other-key : (q : Question) (es : List Change) (m : LentStore) → q .kind ≡ 1 → untouched (asked q) es m ≡ true → askIn (after es m) q ≡ askIn m q
+unfolding askOf cellsHeldAfter
+other-key q es m h u = ap (replied q) (folded es m) ∙ go (cellsHeldBy m) refl
   where
-    go : (o : Option (List Cell)) → heldBy m ≡ o → replied q (heldAfter (length (m .buffer)) es o) ≡ replied q o
+    go : (o : Option (List Cell)) → cellsHeldBy m ≡ o → replied q (cellsHeldAfter (length (m .buffer)) es o) ≡ replied q o
     go none e = refl
     go (some cs) e = answer-cell q (cellsAfter (length (m .buffer)) es cs) cs h (lookup-kept (asked q) es m cs e u)

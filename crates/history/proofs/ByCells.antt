@@ -2,15 +2,15 @@
 use mathlib.Core.Path.{_≡_, sym, ap₂, _∙_}
 use mathlib.Core.List.{List}
 use lib.ListN.{length}
-use Rattle.history.specs.State.{State, heldBy}
+use Rattle.history.specs.LentStore.{LentStore, cellsHeldBy}
 use Rattle.history.specs.Change.{Change}
-use Rattle.history.specs.History.{after, ends, heldAfter, endsAfter}
+use Rattle.history.specs.History.{after, ends, cellsHeldAfter, endsAfter}
 use Rattle.history.proofs.Lists.{folded, ends-are}
 
 -- stores that hold the same cells in buffers equally long: every list of edits ends alike in both
-pub ends-by-cells : (es : List Change) (m m′ : State) → length (m .buffer) ≡ length (m′ .buffer) → heldBy m ≡ heldBy m′ → ends es m ≡ ends es m′
+pub ends-by-cells : (es : List Change) (m m′ : LentStore) → length (m .buffer) ≡ length (m′ .buffer) → cellsHeldBy m ≡ cellsHeldBy m′ → ends es m ≡ ends es m′
 ends-by-cells es m m′ l h = ends-are es m ∙ ap₂ (λ size o. endsAfter size es o) l h ∙ sym (ends-are es m′)
 
 -- and leaves the same cells
-pub cells-by-cells : (es : List Change) (m m′ : State) → length (m .buffer) ≡ length (m′ .buffer) → heldBy m ≡ heldBy m′ → heldBy (after es m) ≡ heldBy (after es m′)
-cells-by-cells es m m′ l h = folded es m ∙ ap₂ (λ size o. heldAfter size es o) l h ∙ sym (folded es m′)
+pub cells-by-cells : (es : List Change) (m m′ : LentStore) → length (m .buffer) ≡ length (m′ .buffer) → cellsHeldBy m ≡ cellsHeldBy m′ → cellsHeldBy (after es m) ≡ cellsHeldBy (after es m′)
+cells-by-cells es m m′ l h = folded es m ∙ ap₂ (λ size o. cellsHeldAfter size es o) l h ∙ sym (folded es m′)

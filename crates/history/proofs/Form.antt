@@ -16,14 +16,14 @@ use Rattle.meaning.specs.declared.refusal.Refusal.{Refusal}
 use Rattle.meaning.specs.declared.refusal.Refusal.the-variants.{BadStore, BadRequest, StoreFull, NoCell}
 use Rattle.cells.specs.Bytes.{equalBytes}
 use Rattle.cells.specs.Cell.{Key, Cell, number, cellAllowed, keyAllowed, cellBytes, keyBytes, keyAt, cellOf, wholeCell, wholeKey}
-use Rattle.cells.specs.Store.{capacity, encode, cells, held}
+use Rattle.cells.specs.Store.{capacity, encode, cells, cellsHeld}
 use Rattle.cells.specs.Asking.{lookup}
 use Rattle.cells.proofs.CellForm.{passing-some}
 use Rattle.cells.proofs.BigEndian.{and-true}
 use Rattle.cells.proofs.Runs.{Valid, Holds, some-inj, none-some, cells-encode, cells-some}
 use Rattle.store.specs.Edit.{with, without, CellEdit, refusedOn, doneOn, fits, putOn, takenOut, removeOn, Edit, refusedEdit, written, writtenBy, writtenOut, checkedEdit, putOf, removeOf}
-use Rattle.history.specs.State.{State, heldBy}
-use Rattle.history.specs.Change.{Change, put, remove, handedBack, handedOn, next, endOf, succeeded, accepted, edited}
+use Rattle.history.specs.LentStore.{LentStore, cellsHeldBy}
+use Rattle.history.specs.Change.{Change, put, remove, handedBack, handedOn, next, editEnd, succeeded, accepted, edited}
 use Rattle.history.proofs.Order.{with-valid, without-valid, without-shorter}
 
 -- ---- what is handed in
@@ -49,8 +49,8 @@ record InForm (b : List ℕ) (n : ℕ) (cs : List Cell) : Type 0 where
   limit : n ≤ capacity
   run : Holds (take n b) cs
 
-held-form : (b : List ℕ) (n : ℕ) (cs : List Cell) → held b n ≡ some cs → InForm b n cs
-unfolding held
+held-form : (b : List ℕ) (n : ℕ) (cs : List Cell) → cellsHeld b n ≡ some cs → InForm b n cs
+unfolding cellsHeld
 held-form b n cs e = go (leb n (length b) && leb n capacity) refl e
   where
     go : (t : Bool) → leb n (length b) && leb n capacity ≡ t → cond t (cells (take n b)) none ≡ some cs → InForm b n cs
@@ -59,8 +59,8 @@ held-form b n cs e = go (leb n (length b) && leb n capacity) refl e
         record { inside = leb-true _ _ (t .0); limit = leb-true _ _ (t .1); run = cells-some (take n b) cs x }
     go false f x = absurd (none-some x)
 
-form-held : (b : List ℕ) (n : ℕ) (cs : List Cell) → n ≤ length b → n ≤ capacity → encode cs ≡ take n b → Valid cs → held b n ≡ some cs
-unfolding held
+form-held : (b : List ℕ) (n : ℕ) (cs : List Cell) → n ≤ length b → n ≤ capacity → encode cs ≡ take n b → Valid cs → cellsHeld b n ≡ some cs
+unfolding cellsHeld
 form-held b n cs h k e v = rw (le-leb n (length b) h, le-leb n capacity k, ← e) (cells-encode cs v)
 
 size-held : (b : List ℕ) (n : ℕ) (cs : List Cell) → InForm b n cs → length (encode cs) ≡ n
@@ -69,7 +69,7 @@ size-held b n cs f = ap length (f .run .bytes) ∙ length-take-le n b (f .inside
 -- ---- what an edit hands back: the cells behind it, in a buffer as long as before
 
 pub record Kept (b : List ℕ) (cs : List Cell) (r : Edit) : Type 0 where
-  pub held : held (r .buffer) (r .length) ≡ some cs
+  pub held : cellsHeld (r .buffer) (r .length) ≡ some cs
   pub size : length (r .buffer) ≡ length b
 
 front-written : (b e z : List ℕ) → length (e ++ z) ≤ length b → take (length e) (sets b 0 (e ++ z)) ≡ e
@@ -90,7 +90,7 @@ fits-says : (size : ℕ) (cs : List Cell) → fits size cs ≡ true → (length 
 unfolding fits
 fits-says size cs e = let t = and-true _ _ e in (leb-true _ _ (t .0), leb-true _ _ (t .1))
 
-module _ (b : List ℕ) (n : ℕ) (cs : List Cell) (h : held b n ≡ some cs) where
+module _ (b : List ℕ) (n : ℕ) (cs : List Cell) (h : cellsHeld b n ≡ some cs) where
   -- the cells that an edit leaves are held by what it hands back
   abbrev Keeps : CellEdit → Type 0
   Keeps x = Kept b (x .left) (writtenOut b n x)
@@ -126,7 +126,7 @@ module _ (b : List ℕ) (n : ℕ) (cs : List Cell) (h : held b n ≡ some cs) wh
 
 -- From a store in form every edit leaves one in form, with the cells that its definition gives: "Put adds or replaces the cell
 -- of a key", "Remove takes it out", and a refused edit changes nothing. The buffer stays as long as it was.
-pub form-kept : (e : Change) (m : State) (cs : List Cell) → heldBy m ≡ some cs → Kept (m .buffer) (edited (length (m .buffer)) e cs .left) (handedBack e m)
+pub form-kept : (e : Change) (m : LentStore) (cs : List Cell) → cellsHeldBy m ≡ some cs → Kept (m .buffer) (edited (length (m .buffer)) e cs .left) (handedBack e m)
 unfolding handedBack edited putOf removeOf checkedEdit
 form-kept (put s) m cs h = rw h (put-kept (m .buffer) (m .length) cs h s (wholeCell s) refl)
 form-kept (remove s) m cs h = rw h (remove-kept (m .buffer) (m .length) cs h (wholeKey s))
@@ -137,7 +137,7 @@ written-end b n cs Finished = refl
 written-end b n cs (Halted h l) = refl
 
 -- and it ends as it does on the cells
-pub end-kept : (e : Change) (m : State) (cs : List Cell) → heldBy m ≡ some cs → endOf e m ≡ edited (length (m .buffer)) e cs .end
+pub end-kept : (e : Change) (m : LentStore) (cs : List Cell) → cellsHeldBy m ≡ some cs → editEnd e m ≡ edited (length (m .buffer)) e cs .end
 unfolding handedBack edited putOf removeOf checkedEdit
 end-kept (put s) m cs h =
     ap (λ (o : Option (List Cell)). checkedEdit (m .buffer) (m .length) (putOn (length (m .buffer)) (wholeCell s)) o .end) h ∙ written-end (m .buffer) (m .length) _ _
@@ -179,13 +179,13 @@ checked-stays b n f none = λ e. refl
 checked-stays b n f (some cs) = written-stays b n (f cs .left) (f cs .end)
 
 -- A refused edit keeps every byte and the length.
-pub refused-keeps : (e : Change) (m : State) → accepted e m ≡ false → next e m ≡ m
+pub refused-keeps : (e : Change) (m : LentStore) → accepted e m ≡ false → next e m ≡ m
 unfolding handedBack putOf removeOf
-refused-keeps (put s) m = checked-stays (m .buffer) (m .length) (putOn (length (m .buffer)) (wholeCell s)) (heldBy m)
-refused-keeps (remove s) m = checked-stays (m .buffer) (m .length) (removeOn (wholeKey s)) (heldBy m)
+refused-keeps (put s) m = checked-stays (m .buffer) (m .length) (putOn (length (m .buffer)) (wholeCell s)) (cellsHeldBy m)
+refused-keeps (remove s) m = checked-stays (m .buffer) (m .length) (removeOn (wholeKey s)) (cellsHeldBy m)
 
 -- 1: "The store breaks its form": every edit is refused with it
-pub out-of-form-once : (e : Change) (m : State) → heldBy m ≡ none → handedBack e m ≡ refusedEdit (m .buffer) (m .length) BadStore
+pub out-of-form-once : (e : Change) (m : LentStore) → cellsHeldBy m ≡ none → handedBack e m ≡ refusedEdit (m .buffer) (m .length) BadStore
 unfolding handedBack putOf removeOf checkedEdit
 out-of-form-once (put s) m h = rw h
 out-of-form-once (remove s) m h = rw h

@@ -15,8 +15,8 @@ use Rattle.cells.specs.Cell.{Key, Cell, number, keyAllowed, wholeCell, wholeKey
 use Rattle.store.specs.Edit.{with, refusedOn, doneOn, fits, putOn, takenOut, removeOn}
 use Rattle.cells.specs.Asking.{refusedWith, queryOf, queryAllowed, questionAllowed, lookup, found, queryAnswer, answer, answeredAsk}
 use Rattle.cells.proofs.CellForm.{key-allowed as cell-key-allowed}
-use Rattle.history.specs.State.{State, heldBy, askIn, cellQuestion}
-use Rattle.history.specs.Change.{Change, put, remove, next, endOf, succeeded, accepted, edited}
+use Rattle.history.specs.LentStore.{LentStore, cellsHeldBy, askIn, cellQuestion}
+use Rattle.history.specs.Change.{Change, put, remove, next, editEnd, succeeded, accepted, edited}
 use Rattle.history.specs.History.{after, untouched}
 use Rattle.history.proofs.Lookup.{lookup-with, lookup-without}
 use Rattle.history.proofs.Answers.{answered, other-key}
@@ -28,26 +28,26 @@ accepted-end Finished e = refl
 accepted-end (Halted h l) e = absurd (false≢true e)
 
 -- an accepted edit was accepted on the cells too, and leaves those of its definition
-record AcceptedOn (e : Change) (m : State) : Type 0 where
+record AcceptedOn (e : Change) (m : LentStore) : Type 0 where
   cells : List Cell
   done : edited (length (m .buffer)) e cells .end ≡ Finished
-  left : heldBy (next e m) ≡ some (edited (length (m .buffer)) e cells .left)
+  left : cellsHeldBy (next e m) ≡ some (edited (length (m .buffer)) e cells .left)
 
-accepted-cells : (e : Change) (m : State) → accepted e m ≡ true → AcceptedOn e m
+accepted-cells : (e : Change) (m : LentStore) → accepted e m ≡ true → AcceptedOn e m
 unfolding succeeded
-accepted-cells e m a = go (heldBy m) refl
+accepted-cells e m a = go (cellsHeldBy m) refl
   where
-    go : (o : Option (List Cell)) → heldBy m ≡ o → AcceptedOn e m
+    go : (o : Option (List Cell)) → cellsHeldBy m ≡ o → AcceptedOn e m
     go none h = absurd (true≢false (sym a ∙ ap (λ r. succeeded (r .end)) (out-of-form-once e m h)))
-    go (some cs) h = record { cells = cs; done = sym (end-kept e m cs h) ∙ accepted-end (endOf e m) a; left = form-kept e m cs h .held }
+    go (some cs) h = record { cells = cs; done = sym (end-kept e m cs h) ∙ accepted-end (editEnd e m) a; left = form-kept e m cs h .held }
 
 -- the question for the cell of a key within the limits, to a store in form
-cell-asked : (m : State) (k : Key) (cs : List Cell) → keyAllowed k ≡ true → heldBy m ≡ some cs → askIn m (cellQuestion k) ≡ answeredAsk (found (lookup (number k) cs))
+cell-asked : (m : LentStore) (k : Key) (cs : List Cell) → keyAllowed k ≡ true → cellsHeldBy m ≡ some cs → askIn m (cellQuestion k) ≡ answeredAsk (found (lookup (number k) cs))
 unfolding queryOf queryAllowed questionAllowed queryAnswer answer
 cell-asked m k cs a h = answered m cs (cellQuestion k) h a
 
 -- the key that an accepted edit settles is answered so for as long as no other edit of it is accepted
-settled : (e : Change) (k : Key) (o : Option Cell) (es : List Change) (m : State)
+settled : (e : Change) (k : Key) (o : Option Cell) (es : List Change) (m : LentStore)
     → keyAllowed k ≡ true → ((cs : List Cell) → edited (length (m .buffer)) e cs .end ≡ Finished → lookup (number k) (edited (length (m .buffer)) e cs .left) ≡ o) → accepted e m ≡ true → untouched k es (next e m) ≡ true
     → askIn (after (e ∷ es) m) (cellQuestion k) ≡ answeredAsk (found o)
 unfolding after
@@ -77,7 +77,7 @@ remove-missing k cs = go (lookup (number k) cs)
 
 -- Demand 2: a cell put is found with its kind and value after any list of further edits, accepted or refused, none of which is
 -- an accepted put or remove of that key.
-pub found-after : (s : List ℕ) (c : Cell) (es : List Change) (m : State)
+pub found-after : (s : List ℕ) (c : Cell) (es : List Change) (m : LentStore)
     → wholeCell s ≡ some c → accepted (put s) m ≡ true → untouched (c .key) es (next (put s) m) ≡ true
     → askIn (after (put s ∷ es) m) (cellQuestion (c .key)) ≡ answeredAsk (cell (c .value))
 unfolding found edited
@@ -86,7 +86,7 @@ found-after s c es m w =
     (λ cs. subst (λ (o : Option Cell). putOn (length (m .buffer)) o cs .end ≡ Finished → lookup (number (c .key)) (putOn (length (m .buffer)) o cs .left) ≡ some c) (sym w) (put-found (length (m .buffer)) c cs))
 
 -- The same of a remove: the key is missing.
-pub missing-after : (s : List ℕ) (k : Key) (es : List Change) (m : State)
+pub missing-after : (s : List ℕ) (k : Key) (es : List Change) (m : LentStore)
     → wholeKey s ≡ some k → accepted (remove s) m ≡ true → untouched k es (next (remove s) m) ≡ true
     → askIn (after (remove s ∷ es) m) (cellQuestion k) ≡ answeredAsk missing
 unfolding found edited

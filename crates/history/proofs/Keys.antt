@@ -7,7 +7,7 @@ use Rattle.cells.specs.Cell.{Key, Cell, keyAllowed, wholeCell}
 use Rattle.cells.proofs.BigEndian.{and-true}
 use Rattle.cells.proofs.CellForm.{key-allowed as cell-key-allowed, same-key}
 use Rattle.cells.proofs.Runs.{some-inj, none-some}
-use Rattle.history.specs.State.{State}
+use Rattle.history.specs.LentStore.{LentStore}
 use Rattle.history.specs.Change.{Change, put, remove, keyOfCell, keyNamed, isKey, accepted, touches}
 use Rattle.history.proofs.Form.{cell-allowed, key-allowed}
 
@@ -23,7 +23,7 @@ named-allowed (put s) k = go (wholeCell s) refl
 named-allowed (remove s) k = key-allowed s k
 
 -- An edit that touches a key within the limits names this key, not only its number.
-pub touches-key : (k : Key) (e : Change) (m : State) → keyAllowed k ≡ true → touches k e m ≡ true → keyNamed e ≡ some k
+pub touches-key : (k : Key) (e : Change) (m : LentStore) → keyAllowed k ≡ true → touches k e m ≡ true → keyNamed e ≡ some k
 unfolding touches isKey
 touches-key k e m a t = go (keyNamed e) refl (and-true (accepted e m) (isKey k (keyNamed e)) t .1)
   where

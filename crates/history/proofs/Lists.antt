@@ -7,24 +7,24 @@ use lib.ListN.{length, replicate}
 use Rattle.meaning.specs.declared.refusal.Refusal.the-variants.{BadStore}
 use Rattle.meaning.specs.declared.end.Ended.{Ended}
 use Rattle.cells.specs.Cell.{Cell}
-use Rattle.cells.specs.Store.{isHeld}
+use Rattle.cells.specs.Store.{holdsCells}
 use Rattle.cells.specs.Asking.{refusedWith}
 use Rattle.store.specs.Edit.{Edit, refusedEdit}
-use Rattle.history.specs.State.{State, heldBy, inForm}
+use Rattle.history.specs.LentStore.{LentStore, cellsHeldBy, inForm}
 use Rattle.history.specs.Change.{Change, handedBack, handedOn, next, edited}
-use Rattle.history.specs.History.{after, ends, cellsAfter, endsOn, heldAfter, endsAfter}
+use Rattle.history.specs.History.{after, ends, cellsAfter, endsOn, cellsHeldAfter, endsAfter}
 use Rattle.history.proofs.Form.{form-kept, end-kept, out-of-form-once}
 
 -- ---- from a store in form
 
-cells-folded : (es : List Change) (m : State) (cs : List Cell) → heldBy m ≡ some cs → heldBy (after es m) ≡ some (cellsAfter (length (m .buffer)) es cs)
+cells-folded : (es : List Change) (m : LentStore) (cs : List Cell) → cellsHeldBy m ≡ some cs → cellsHeldBy (after es m) ≡ some (cellsAfter (length (m .buffer)) es cs)
 unfolding after cellsAfter
 cells-folded [] m cs h = h
 cells-folded (e ∷ es) m cs h =
     let k = form-kept e m cs h in
     cells-folded es (next e m) (edited (length (m .buffer)) e cs .left) (k .held) ∙ ap (λ (size : ℕ). some (cellsAfter size es (edited (length (m .buffer)) e cs .left))) (k .size)
 
-ends-folded : (es : List Change) (m : State) (cs : List Cell) → heldBy m ≡ some cs → ends es m ≡ endsOn (length (m .buffer)) es cs
+ends-folded : (es : List Change) (m : LentStore) (cs : List Cell) → cellsHeldBy m ≡ some cs → ends es m ≡ endsOn (length (m .buffer)) es cs
 unfolding ends endsOn
 ends-folded [] m cs h = refl
 ends-folded (e ∷ es) m cs h =
@@ -35,12 +35,12 @@ ends-folded (e ∷ es) m cs h =
 -- ---- from a store out of form
 
 -- the store stays as it is, and every edit is refused with 1
-pub record NothingDone (es : List Change) (m : State) : Type 0 where
+pub record NothingDone (es : List Change) (m : LentStore) : Type 0 where
   pub kept : after es m ≡ m
   pub refused : ends es m ≡ replicate (length es) (refusedWith BadStore)
 
 -- Out of form at first: every edit of the list is refused with 1, and nothing changes.
-pub out-of-form : (es : List Change) (m : State) → heldBy m ≡ none → NothingDone es m
+pub out-of-form : (es : List Change) (m : LentStore) → cellsHeldBy m ≡ none → NothingDone es m
 unfolding after ends
 out-of-form [] m h = record { kept = refl; refused = refl }
 out-of-form (e ∷ es) m h =
@@ -55,41 +55,41 @@ out-of-form (e ∷ es) m h =
 -- ---- from any bytes
 
 -- "The list starts from the store, of any bytes": the cells afterwards are the fold of put and remove on lists of cells.
-pub folded : (es : List Change) (m : State) → heldBy (after es m) ≡ heldAfter (length (m .buffer)) es (heldBy m)
-unfolding heldAfter
-folded es m = go (heldBy m) refl
+pub folded : (es : List Change) (m : LentStore) → cellsHeldBy (after es m) ≡ cellsHeldAfter (length (m .buffer)) es (cellsHeldBy m)
+unfolding cellsHeldAfter
+folded es m = go (cellsHeldBy m) refl
   where
-    go : (o : Option (List Cell)) → heldBy m ≡ o → heldBy (after es m) ≡ heldAfter (length (m .buffer)) es o
-    go none h = ap heldBy (out-of-form es m h .kept) ∙ h
+    go : (o : Option (List Cell)) → cellsHeldBy m ≡ o → cellsHeldBy (after es m) ≡ cellsHeldAfter (length (m .buffer)) es o
+    go none h = ap cellsHeldBy (out-of-form es m h .kept) ∙ h
     go (some cs) h = cells-folded es m cs h
 
 -- And each ends as it does there.
-pub ends-are : (es : List Change) (m : State) → ends es m ≡ endsAfter (length (m .buffer)) es (heldBy m)
+pub ends-are : (es : List Change) (m : LentStore) → ends es m ≡ endsAfter (length (m .buffer)) es (cellsHeldBy m)
 unfolding endsAfter
-ends-are es m = go (heldBy m) refl
+ends-are es m = go (cellsHeldBy m) refl
   where
-    go : (o : Option (List Cell)) → heldBy m ≡ o → ends es m ≡ endsAfter (length (m .buffer)) es o
+    go : (o : Option (List Cell)) → cellsHeldBy m ≡ o → ends es m ≡ endsAfter (length (m .buffer)) es o
     go none h = out-of-form es m h .refused
     go (some cs) h = ends-folded es m cs h
 
 -- a store is in form after the edits exactly where it was before
-pub same-form : (es : List Change) (m : State) → inForm (after es m) ≡ inForm m
-unfolding heldAfter isHeld
-same-form es m = ap isHeld (folded es m) ∙ go (heldBy m)
+pub same-form : (es : List Change) (m : LentStore) → inForm (after es m) ≡ inForm m
+unfolding cellsHeldAfter holdsCells
+same-form es m = ap holdsCells (folded es m) ∙ go (cellsHeldBy m)
   where
-    go : (o : Option (List Cell)) → isHeld (heldAfter (length (m .buffer)) es o) ≡ isHeld o
+    go : (o : Option (List Cell)) → holdsCells (cellsHeldAfter (length (m .buffer)) es o) ≡ holdsCells o
     go none = refl
     go (some cs) = refl
 
 -- the buffer stays as long as it was
-pub size-once : (e : Change) (m : State) → length (next e m .buffer) ≡ length (m .buffer)
-size-once e m = go (heldBy m) refl
+pub size-once : (e : Change) (m : LentStore) → length (next e m .buffer) ≡ length (m .buffer)
+size-once e m = go (cellsHeldBy m) refl
   where
-    go : (o : Option (List Cell)) → heldBy m ≡ o → length (next e m .buffer) ≡ length (m .buffer)
+    go : (o : Option (List Cell)) → cellsHeldBy m ≡ o → length (next e m .buffer) ≡ length (m .buffer)
     go none h = ap (λ (r : Edit). length (r .buffer)) (out-of-form-once e m h)
     go (some cs) h = form-kept e m cs h .size
 
-pub size-kept : (es : List Change) (m : State) → length (after es m .buffer) ≡ length (m .buffer)
+pub size-kept : (es : List Change) (m : LentStore) → length (after es m .buffer) ≡ length (m .buffer)
 unfolding after
 size-kept [] m = refl
 size-kept (e ∷ es) m = size-kept es (next e m) ∙ size-once e m

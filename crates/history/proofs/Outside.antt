@@ -21,8 +21,8 @@ use Rattle.cells.proofs.CellForm.{same-key, key-allowed as cell-key-allowed}
 use Rattle.cells.proofs.Locating.{held-some}
 use Rattle.cells.proofs.Questions.{by-query}
 use Rattle.store.specs.Edit.{lower, higher, with, without, refusedOn, doneOn, fits, putOn, takenOut, removeOn}
-use Rattle.history.specs.State.{State, heldBy, askIn}
-use Rattle.history.specs.Change.{Change, put, remove, next, endOf, succeeded, keyOfCell, keyNamed, isKey, ofItsParameter, touchesParameter, edited}
+use Rattle.history.specs.LentStore.{LentStore, cellsHeldBy, askIn}
+use Rattle.history.specs.Change.{Change, put, remove, next, editEnd, succeeded, keyOfCell, keyNamed, isKey, ofItsParameter, touchesParameter, edited}
 use Rattle.history.specs.History.{after, outside}
 use Rattle.history.proofs.Form.{cell-allowed, key-allowed, form-kept, refused-keeps, out-of-form-once}
 use Rattle.history.proofs.Answers.{edited-other}
@@ -142,15 +142,15 @@ module _ (q : Question) (e : Change) (n : ofItsParameter (asked q) (keyNamed e) 
       go true a = rw (edited-other size (asked q) e cs (not-asked a))
       go false a = rw a
 
-other-once : (q : Question) (e : Change) (m : State) → touchesParameter (asked q) e m ≡ false → askIn (next e m) q ≡ askIn m q
+other-once : (q : Question) (e : Change) (m : LentStore) → touchesParameter (asked q) e m ≡ false → askIn (next e m) q ≡ askIn m q
 unfolding touchesParameter askOf succeeded
-other-once q e m n = by (endOf e m) refl
+other-once q e m n = by (editEnd e m) refl
   where
-    by : (x : Ended) → endOf e m ≡ x → askIn (next e m) q ≡ askIn m q
-    by (Halted h l) u = ap (λ (s : State). askIn s q) (refused-keeps e m (ap succeeded u))
-    by Finished u = go (heldBy m) refl
+    by : (x : Ended) → editEnd e m ≡ x → askIn (next e m) q ≡ askIn m q
+    by (Halted h l) u = ap (λ (s : LentStore). askIn s q) (refused-keeps e m (ap succeeded u))
+    by Finished u = go (cellsHeldBy m) refl
       where
-        go : (o : Option (List Cell)) → heldBy m ≡ o → askIn (next e m) q ≡ askIn m q
+        go : (o : Option (List Cell)) → cellsHeldBy m ≡ o → askIn (next e m) q ≡ askIn m q
         go none h = absurd (true≢false (sym (ap succeeded u) ∙ ap (λ r. succeeded (r .end)) (out-of-form-once e m h)))
         go (some cs) h =
             ap (replied q) (form-kept e m cs h .held)
@@ -159,7 +159,7 @@ other-once q e m n = by (endOf e m) refl
 
 -- Edits outside a parameter change no answer about it, of any kind: for any list of edits, from any bytes, none of them an
 -- accepted put or remove of a cell of that parameter in that datasource.
-pub other-parameter : (q : Question) (es : List Change) (m : State) → outside (asked q) es m ≡ true → askIn (after es m) q ≡ askIn m q
+pub other-parameter : (q : Question) (es : List Change) (m : LentStore) → outside (asked q) es m ≡ true → askIn (after es m) q ≡ askIn m q
 unfolding after outside
 other-parameter q [] m u = refl
 other-parameter q (e ∷ es) m u =

@@ -8,7 +8,7 @@ use Rattle.meaning.specs.declared.end.Ended.{Ended}
 use Rattle.meaning.specs.declared.end.Ended.the-variants.{Finished, Halted}
 use Rattle.cells.specs.Cell.{Key, Cell, number, wholeCell, wholeKey}
 use Rattle.store.specs.Edit.{CellEdit, putOn, removeOn, Edit, putOf, removeOf}
-use Rattle.history.specs.State.{State}
+use Rattle.history.specs.LentStore.{LentStore}
 
 -- the bytes of a cell, or of a key: any bytes
 pub data Change : Type 0 where
@@ -16,27 +16,27 @@ pub data Change : Type 0 where
   remove : List ℕ → Change
 
 -- what the edit hands back
-unfoldable pub handedBack : Change → State → Edit
+unfoldable pub handedBack : Change → LentStore → Edit
 handedBack (put s) m = putOf (m .buffer) (m .length) s
 handedBack (remove s) m = removeOf (m .buffer) (m .length) s
 
 -- the store for the next call: "in the same buffer, at the length last handed back"
-abbrev pub handedOn : Edit → State
+abbrev pub handedOn : Edit → LentStore
 handedOn r = record { buffer = r .buffer; length = r .length }
 
-abbrev pub next : Change → State → State
+abbrev pub next : Change → LentStore → LentStore
 next e m = handedOn (handedBack e m)
 
 -- how the edit ended; "0 is success", and an edit with that end is accepted
-abbrev pub endOf : Change → State → Ended
-endOf e m = handedBack e m .end
+abbrev pub editEnd : Change → LentStore → Ended
+editEnd e m = handedBack e m .end
 
 unfoldable pub succeeded : Ended → Bool
 succeeded Finished = true
 succeeded (Halted h l) = false
 
-abbrev pub accepted : Change → State → Bool
-accepted e m = succeeded (endOf e m)
+abbrev pub accepted : Change → LentStore → Bool
+accepted e m = succeeded (editEnd e m)
 
 -- the key that an edit names, none where the bytes are no cell or key
 unfoldable pub keyOfCell : Option Cell → Option Key
@@ -53,7 +53,7 @@ isKey k none = false
 isKey k (some l) = eqb (number l) (number k)
 
 -- an accepted put or remove of key k
-unfoldable pub touches : Key → Change → State → Bool
+unfoldable pub touches : Key → Change → LentStore → Bool
 touches k e m = accepted e m && isKey k (keyNamed e)
 
 -- the key is one of the parameter in the datasource that k names
@@ -62,7 +62,7 @@ ofItsParameter k none = false
 ofItsParameter k (some l) = eqb (l .datasource) (k .datasource) && eqb (l .parameter) (k .parameter)
 
 -- an accepted put or remove of a cell of that parameter
-unfoldable pub touchesParameter : Key → Change → State → Bool
+unfoldable pub touchesParameter : Key → Change → LentStore → Bool
 touchesParameter k e m = accepted e m && ofItsParameter k (keyNamed e)
 
 -- the same edit on the cells alone, in a buffer of `size` bytes

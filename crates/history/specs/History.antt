@@ -8,26 +8,26 @@ use Rattle.meaning.specs.declared.refusal.Refusal.the-variants.{BadStore}
 use Rattle.meaning.specs.declared.end.Ended.{Ended}
 use Rattle.cells.specs.Asking.{refusedWith}
 use Rattle.cells.specs.Cell.{Key, Cell}
-use Rattle.history.specs.State.{State}
-use Rattle.history.specs.Change.{Change, next, endOf, touches, touchesParameter, edited}
+use Rattle.history.specs.LentStore.{LentStore}
+use Rattle.history.specs.Change.{Change, next, editEnd, touches, touchesParameter, edited}
 
 -- the store after the edits, one after the other
-unfoldable pub after : List Change → State → State
+unfoldable pub after : List Change → LentStore → LentStore
 after [] m = m
 after (e ∷ es) m = after es (next e m)
 
 -- how each of them ended
-unfoldable pub ends : List Change → State → List Ended
+unfoldable pub ends : List Change → LentStore → List Ended
 ends [] m = []
-ends (e ∷ es) m = endOf e m ∷ ends es (next e m)
+ends (e ∷ es) m = editEnd e m ∷ ends es (next e m)
 
 -- none of them is an accepted put or remove of key k
-unfoldable pub untouched : Key → List Change → State → Bool
+unfoldable pub untouched : Key → List Change → LentStore → Bool
 untouched k [] m = true
 untouched k (e ∷ es) m = not (touches k e m) && untouched k es (next e m)
 
 -- none of them is an accepted put or remove of a cell of the parameter that k names
-unfoldable pub outside : Key → List Change → State → Bool
+unfoldable pub outside : Key → List Change → LentStore → Bool
 outside k [] m = true
 outside k (e ∷ es) m = not (touchesParameter k e m) && outside k es (next e m)
 
@@ -41,9 +41,9 @@ endsOn size [] cs = []
 endsOn size (e ∷ es) cs = edited size e cs .end ∷ endsOn size es (edited size e cs .left)
 
 -- "The list starts from the store, of any bytes": out of form there are no cells, before or after, and every edit ends in 1
-unfoldable pub heldAfter : ℕ → List Change → Option (List Cell) → Option (List Cell)
-heldAfter size es none = none
-heldAfter size es (some cs) = some (cellsAfter size es cs)
+unfoldable pub cellsHeldAfter : ℕ → List Change → Option (List Cell) → Option (List Cell)
+cellsHeldAfter size es none = none
+cellsHeldAfter size es (some cs) = some (cellsAfter size es cs)
 
 unfoldable pub endsAfter : ℕ → List Change → Option (List Cell) → List Ended
 endsAfter size es none = replicate (length es) (refusedWith BadStore)

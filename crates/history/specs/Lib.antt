@@ -1,4 +1,4 @@
-pub mod State
+pub mod LentStore
 pub mod Change
 pub mod History
 pub mod Rows

@@ -9,11 +9,11 @@ use Rattle.meaning.specs.declared.refusal.Refusal.the-variants.{BadStore, BadRe
 use Rattle.meaning.specs.declared.end.Ended.the-variants.{Finished}
 use Rattle.numbers.specs.Range.{within}
 use Rattle.cells.specs.Bytes.{pair, quad, octet, pairAt, quadAt, octetAt, inComplement, fromComplement, begins, equalBytes}
-use Rattle.cells.specs.Cell.{Key, between, keyAllowed, keyBytes, number, each, valueAllowed, cellAllowed, kindOf, valueBytes, cellBytes, keyAt, cellBy, cellOf, passing, front, wholeCell, wholeKey}
-use Rattle.cells.specs.Store.{encode, above, rising, before, cellRun, ordered, cells, held}
+use Rattle.cells.specs.Cell.{Key, between, keyAllowed, keyBytes, number, each, valueAllowed, cellAllowed, kindByte, valueBytes, cellBytes, keyAt, cellBy, cellOf, passing, front, wholeCell, wholeKey}
+use Rattle.cells.specs.Store.{encode, above, rising, before, cellRun, ordered, cells, cellsHeld}
 use Rattle.cells.specs.Asking.{unused, queryOf, queryAllowed, questionAllowed, lookup, found, queryAnswer, answer, replied, askOf, refusedWith}
 use Rattle.store.specs.Edit.{lower, higher, with, without, written, fits, putOn, takenOut, removeOn, writtenBy, checkedEdit, putOf, removeOf}
-use Rattle.history.specs.State.{State, answerIn, cellQuestion}
+use Rattle.history.specs.LentStore.{LentStore, answerIn, cellQuestion}
 use Rattle.history.specs.Change.{put, remove, handedBack}
 use Rattle.history.specs.History.{after, ends}
 
@@ -34,11 +34,11 @@ abbrev keyOf : List ℕ
 keyOf = 1 ∷ 0 ∷ 1 ∷ 0 ∷ 0 ∷ 0 ∷ 0 ∷ []
 
 -- an empty store in 26 bytes of 9
-abbrev blank : State
+abbrev blank : LentStore
 blank = record { buffer = replicate 26 9; length = 0 }
 
 -- one byte of it taken for a store
-abbrev broken : State
+abbrev broken : LentStore
 broken = record { buffer = replicate 26 9; length = 1 }
 
 abbrev Rows : Type 0
@@ -76,7 +76,7 @@ unfolding
     each
     valueAllowed
     cellAllowed
-    kindOf
+    kindByte
     valueBytes
     cellBytes
     keyAt
@@ -93,7 +93,7 @@ unfolding
     cellRun
     ordered
     cells
-    held
+    cellsHeld
     unused
     queryOf
     queryAllowed

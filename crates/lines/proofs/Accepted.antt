@@ -14,7 +14,7 @@ use Rattle.lines.specs.declared.command.Comparison.{Comparison}
 use Rattle.lines.specs.declared.command.Optional.{Optional}
 use Rattle.lines.specs.declared.command.Optional.the-variants.{Given, Absent}
 use Rattle.lines.specs.declared.command.Line.{Line}
-use Rattle.lines.specs.declared.command.Line.the-variants.{NoForm, Text, Section, Set, IfZero, IfNonZero, Compare, Else, EndIf, BeginTable, EndTable, Records, Entries, Datasource, NoFormFeed, NewPage, Heading, NoHeading, Remark}
+use Rattle.lines.specs.declared.command.Line.the-variants.{NoForm, Text, Section, Set, IfNot, If, Compare, Else, EndIf, BeginTable, EndTable, Records, Entries, Datasource, NoFormFeed, NewPage, Heading, NoHeading, Remark}
 use Rattle.lines.specs.readers.Set.{setAt}
 use Rattle.lines.specs.readers.Compare.{compareAt}
 use Rattle.lines.specs.readers.Command.{commands, parseLine}
@@ -28,8 +28,8 @@ Bounded l NoForm = Unit {0}
 Bounded l Text = textFits l 0 ≡ true
 Bounded l (Section a e) = Unit {0}
 Bounded l (Set o t a) = TargetWithin t × ArgumentWithin l a
-Bounded l (IfZero a) = ArgumentWithin l a
-Bounded l (IfNonZero a) = ArgumentWithin l a
+Bounded l (IfNot a) = ArgumentWithin l a
+Bounded l (If a) = ArgumentWithin l a
 Bounded l (Compare c a b) = ArgumentWithin l a × ArgumentWithin l b
 Bounded l Else = Unit {0}
 Bounded l EndIf = Unit {0}
@@ -62,8 +62,8 @@ sound l NoForm h = tt
 sound l Text h = h
 sound l (Section a e) h = tt
 sound l (Set o t a) h = small l a (h .1)
-sound l (IfZero a) h = small l a h
-sound l (IfNonZero a) h = small l a h
+sound l (IfNot a) h = small l a h
+sound l (If a) h = small l a h
 sound l (Compare c a b) h = (small l a (h .0), small l b (h .1))
 sound l Else h = tt
 sound l EndIf h = tt
@@ -105,8 +105,8 @@ module _ (l : List ℕ) where
       besides compare _
       besides compare _
       besides compare _
-      besides single-makes (Fine l) none IfZero (λ a k. fine k)
-      besides single-makes (Fine l) none IfNonZero (λ a k. fine k)
+      besides single-makes (Fine l) none IfNot (λ a k. fine k)
+      besides single-makes (Fine l) none If (λ a k. fine k)
       besides single-makes (Fine l) none BeginTable (λ a k. fine k)
       besides bare-makes (Fine l) none Else (fine tt) l
       besides bare-makes (Fine l) none EndIf (fine tt) l

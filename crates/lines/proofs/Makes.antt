@@ -88,8 +88,8 @@ target-fine l (O.Entry n r e) word h = tt
 pub record FetchWithin (f : Fetch) : Type 0 where
   pub number : Between 1 10 (f .number)
   pub parameter : Between 1 65535 (f .parameter)
-  pub first : IndexWithin (f .first)
-  pub second : IndexWithin (f .second)
+  pub «record» : IndexWithin (f .«record»)
+  pub entry : IndexWithin (f .entry)
   pub count : IndexWithin (f .count)
 
 -- "`$PHn text` (n 1–9)": the text starts behind the word, in the line or at its end
@@ -150,15 +150,15 @@ module _ (P : Line → Type 0) (lack : P NoForm) where
   unfolding fetchedAt
   behind-fetched l at n m {found} b h o = first-index (indexAt l (behindSpace l at)) refl
     where
-      third : (r e : Index) → IndexWithin r → IndexWithin e → (i : ℕ) (x : IndexRead) → indexAt l i ≡ x → P (fetchOr (indexOr NoFetch x (λ c end. FetchTo (record { number = n; parameter = m; first = r; second = e; count = c }) end)) found)
-      third r e u v i (IndexTo c end) q = o (record { number = n; parameter = m; first = r; second = e; count = c }) end (record { number = b; parameter = h; first = u; second = v; count = index-bounded l i c end q })
+      third : (r e : Index) → IndexWithin r → IndexWithin e → (i : ℕ) (x : IndexRead) → indexAt l i ≡ x → P (fetchOr (indexOr NoFetch x (λ c end. FetchTo (record { number = n; parameter = m; «record» = r; entry = e; count = c }) end)) found)
+      third r e u v i (IndexTo c end) q = o (record { number = n; parameter = m; «record» = r; entry = e; count = c }) end (record { number = b; parameter = h; «record» = u; entry = v; count = index-bounded l i c end q })
       third r e u v i NoIndex q = lack
 
-      second-index : (r : Index) → IndexWithin r → (i : ℕ) (x : IndexRead) → indexAt l i ≡ x → P (fetchOr (indexOr NoFetch x (λ e after. indexOr NoFetch (indexAt l (behindSpace l after)) (λ c end. FetchTo (record { number = n; parameter = m; first = r; second = e; count = c }) end))) found)
+      second-index : (r : Index) → IndexWithin r → (i : ℕ) (x : IndexRead) → indexAt l i ≡ x → P (fetchOr (indexOr NoFetch x (λ e after. indexOr NoFetch (indexAt l (behindSpace l after)) (λ c end. FetchTo (record { number = n; parameter = m; «record» = r; entry = e; count = c }) end))) found)
       second-index r u i (IndexTo e after) q = third r e u (index-bounded l i e after q) (behindSpace l after) (indexAt l (behindSpace l after)) refl
       second-index r u i NoIndex q = lack
 
-      first-index : (x : IndexRead) → indexAt l (behindSpace l at) ≡ x → P (fetchOr (indexOr NoFetch x (λ r next. indexOr NoFetch (indexAt l (behindSpace l next)) (λ e after. indexOr NoFetch (indexAt l (behindSpace l after)) (λ c end. FetchTo (record { number = n; parameter = m; first = r; second = e; count = c }) end)))) found)
+      first-index : (x : IndexRead) → indexAt l (behindSpace l at) ≡ x → P (fetchOr (indexOr NoFetch x (λ r next. indexOr NoFetch (indexAt l (behindSpace l next)) (λ e after. indexOr NoFetch (indexAt l (behindSpace l after)) (λ c end. FetchTo (record { number = n; parameter = m; «record» = r; entry = e; count = c }) end)))) found)
       first-index (IndexTo r next) q = second-index r (index-bounded l (behindSpace l at) r next q) (behindSpace l next) (indexAt l (behindSpace l next)) refl
       first-index NoIndex q = lack
 

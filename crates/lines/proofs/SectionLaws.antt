@@ -20,7 +20,7 @@ use Rattle.texts.specs.readers.Text.{textFits}
 use Rattle.lines.specs.declared.command.Operation.{Operation}
 use Rattle.lines.specs.declared.command.Comparison.{Comparison}
 use Rattle.lines.specs.declared.command.Line.{Line}
-use Rattle.lines.specs.declared.command.Line.the-variants.{NoForm, Text, Section, Set, IfZero, IfNonZero, Compare, Else, EndIf, BeginTable, EndTable, Records, Entries, Datasource, NoFormFeed, NewPage, Heading, NoHeading, Remark}
+use Rattle.lines.specs.declared.command.Line.the-variants.{NoForm, Text, Section, Set, IfNot, If, Compare, Else, EndIf, BeginTable, EndTable, Records, Entries, Datasource, NoFormFeed, NewPage, Heading, NoHeading, Remark}
 use Rattle.lines.specs.readers.Behind.{behindSpace}
 use Rattle.lines.specs.readers.Set.{setAt}
 use Rattle.lines.specs.readers.Compare.{compareAt}
@@ -36,8 +36,8 @@ formCase N S R NoForm = N
 formCase N S R Text = R
 formCase N S R (Section a e) = S
 formCase N S R (Set o t a) = R
-formCase N S R (IfZero a) = R
-formCase N S R (IfNonZero a) = R
+formCase N S R (IfNot a) = R
+formCase N S R (If a) = R
 formCase N S R (Compare c a b) = R
 formCase N S R Else = R
 formCase N S R EndIf = R
@@ -125,8 +125,8 @@ before-section =
     besides compare _
     besides compare _
     besides compare _
-    besides (λ l. single-makes Other lacking IfZero (λ a k. other tt))
-    besides (λ l. single-makes Other lacking IfNonZero (λ a k. other tt))
+    besides (λ l. single-makes Other lacking IfNot (λ a k. other tt))
+    besides (λ l. single-makes Other lacking If (λ a k. other tt))
     besides (λ l. single-makes Other lacking BeginTable (λ a k. other tt))
     besides bare-makes Other lacking Else (other tt)
     besides bare-makes Other lacking EndIf (other tt)

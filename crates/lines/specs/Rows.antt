@@ -30,7 +30,7 @@ use Rattle.lines.specs.declared.command.Target.the-variants.{IntegerTarg
 use Rattle.lines.specs.declared.command.Comparison.the-variants.{SameString, SameLetters, Equal, NotEqual, Less, AtMost, Greater, AtLeast}
 use Rattle.lines.specs.declared.command.Optional.the-variants.{Given, Absent}
 use Rattle.lines.specs.declared.command.Line.{Line}
-use Rattle.lines.specs.declared.command.Line.the-variants.{NoForm, Text, Section, Set, IfZero, IfNonZero, Compare, Else, EndIf, BeginTable, EndTable, Records, Entries, Datasource, NoFormFeed, NewPage, Heading, NoHeading, Remark}
+use Rattle.lines.specs.declared.command.Line.the-variants.{NoForm, Text, Section, Set, IfNot, If, Compare, Else, EndIf, BeginTable, EndTable, Records, Entries, Datasource, NoFormFeed, NewPage, Heading, NoHeading, Remark}
 use Rattle.lines.specs.readers.Behind.{behindSpace}
 use Rattle.lines.specs.readers.Set.{stringTarget, targetOf, setAt, datasourceAt}
 use Rattle.lines.specs.readers.Compare.{compareAt}
@@ -70,8 +70,8 @@ rows =
     ∷ "$SETM IV2 P7.1|ENTCNT" is Set Multiply (IntegerTarget 2) (Record 7 (Fixed 1) by EntryCount)
     ∷ "$SETD FV3 R10|ABS" is Set Divide (DecimalTarget 3) (RecordElement 10 by Absolute)
     ∷ "$SETE SV1 \"ab\"|UPPER" is Set Assign (StringTarget 1) (operand.Text 11 13 by UpperCase)
-    ∷ "$IF IV1" is IfNonZero (plain (IntegerVariable 1))
-    ∷ "$IFNOT FV1|INT" is IfZero (DecimalVariable 1 by Truncated)
+    ∷ "$IF IV1" is If (plain (IntegerVariable 1))
+    ∷ "$IFNOT FV1|INT" is IfNot (DecimalVariable 1 by Truncated)
     ∷ "$IFEQ LOOP 1" is Compare Equal (plain LoopCounter) (int 1)
     ∷ "$IFNE PAGENUM 1" is Compare NotEqual (plain PageNumber) (int 1)
     ∷ "$IFLT LINENUM 9" is Compare Less (plain LineNumber) (int 9)
@@ -85,8 +85,8 @@ rows =
     ∷ "$BT 5" is BeginTable (int 5)
     ∷ "$ET" is EndTable Absent
     ∷ "$ET 2" is EndTable (Given (int 2))
-    ∷ "$REC 10 P65535 0 IV1 064" is Records (record { number = 10; parameter = 65535; first = Fixed 0; second = Variable 1; count = Fixed 64 })
-    ∷ "$TBL 1 P1 LOOP 999 1" is Entries (record { number = 1; parameter = 1; first = Loop; second = Fixed 999; count = Fixed 1 })
+    ∷ "$REC 10 P65535 0 IV1 064" is Records (record { number = 10; parameter = 65535; «record» = Fixed 0; entry = Variable 1; count = Fixed 64 })
+    ∷ "$TBL 1 P1 LOOP 999 1" is Entries (record { number = 1; parameter = 1; «record» = Loop; entry = Fixed 999; count = Fixed 1 })
     ∷ "$SETDS 35" is Datasource (Fixed 35)
     ∷ "$NOFF" is NoFormFeed
     ∷ "$NP" is NewPage Absent

@@ -53,8 +53,8 @@ pub enum Optional {
 pub struct Fetch {
     pub number: usize,
     pub parameter: usize,
-    pub first: Index,
-    pub second: Index,
+    pub record: Index,
+    pub entry: Index,
     pub count: Index,
 }
 
@@ -66,8 +66,8 @@ pub enum Line {
     Section(usize, usize),
     Set(Operation, Target, Argument),
     // $IFNOT, $IF
-    IfZero(Argument),
-    IfNonZero(Argument),
+    IfNot(Argument),
+    If(Argument),
     Compare(Comparison, Argument, Argument),
     Else,
     EndIf,

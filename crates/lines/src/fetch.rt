@@ -47,8 +47,8 @@ fn fetched_at(line: &[u8], at: usize, number: usize, parameter: usize) -> FetchR
         Fetch {
             number,
             parameter,
-            first,
-            second,
+            record: first,
+            entry: second,
             count,
         },
         end,

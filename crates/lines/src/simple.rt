@@ -20,10 +20,10 @@ pub fn single_at(line: &[u8], at: usize, k: usize) -> Line
         return Line::NoForm;
     }
     if k == 14 {
-        return Line::IfZero(argument);
+        return Line::IfNot(argument);
     }
     if k == 15 {
-        return Line::IfNonZero(argument);
+        return Line::If(argument);
     }
     Line::BeginTable(argument)
 }

@@ -8,7 +8,7 @@ use lib.ListN.{length}
 use Rattle.meaning.specs.Each.{Each}
 use Rattle.meaning.specs.Event.{Event, bytes, joined}
 use Rattle.meaning.specs.Tree.{Tree, ask, refused, cut, End, finished, halted, Run, textOf, ended, asking, printing, run}
-use Rattle.meaning.specs.Compare.{Agree, Prefix, Start, LongerBy, Longer, filtered}
+use Rattle.meaning.specs.Compare.{Agree, Prefix, Start, LongerBy, Longer, behindFilter}
 use Rattle.meaning.specs.declared.refusal.Overflow.{Overflow}
 use Rattle.meaning.proofs.Events.{joined-append}
 use Rattle.meaning.proofs.Runs.{Runs, finishes, stops, asks, asks-full, prints, prints-full, runs, run-print, run-print-full, run-ask}
@@ -88,27 +88,27 @@ pub start-text : {Q E L A : Type 0} {x y : Run Q E L A} → Start x y → Prefix
 start-text {x = x} h = (joined (h .events .0), ap joined (h .events .1) ∙ joined-append (x .events) (h .events .0))
 
 module _ {Q R : Type 0} (shown : Q → Bool) (blank : Q → R) where
-  filtered-same : (s s′ : Q → R) (q : Q) → (shown q ≡ true → s q ≡ s′ q) → filtered shown blank s q ≡ filtered shown blank s′ q
-  unfolding filtered
+  filtered-same : (s s′ : Q → R) (q : Q) → (shown q ≡ true → s q ≡ s′ q) → behindFilter shown blank s q ≡ behindFilter shown blank s′ q
+  unfolding behindFilter
   filtered-same s s′ q h = by (shown q) h where
     by : (b : Bool) → (b ≡ true → s q ≡ s′ q) → _≡_ {A = R} (elim b [ true ↦ s q | false ↦ blank q ]) (elim b [ true ↦ s′ q | false ↦ blank q ])
     by true h = h refl
     by false h = refl
 
   -- A run behind a filter sees nothing of what the filter hides.
-  pub unseen : {E L A : Type 0} (s s′ : Q → R) → ((q : Q) → shown q ≡ true → s q ≡ s′ q) → (p r : ℕ) (t : Tree Q R E L A) → run (filtered shown blank s) p r t ≡ run (filtered shown blank s′) p r t
-  unseen s s′ h p r t = same-listed (filtered shown blank s) (filtered shown blank s′) p r t (λ q m. filtered-same s s′ q (h q))
+  pub unseen : {E L A : Type 0} (s s′ : Q → R) → ((q : Q) → shown q ≡ true → s q ≡ s′ q) → (p r : ℕ) (t : Tree Q R E L A) → run (behindFilter shown blank s) p r t ≡ run (behindFilter shown blank s′) p r t
+  unseen s s′ h p r t = same-listed (behindFilter shown blank s) (behindFilter shown blank s′) p r t (λ q m. filtered-same s s′ q (h q))
 
   -- A question that is shown gets the source's answer.
-  pub filtered-shown : (s : Q → R) (q : Q) → shown q ≡ true → filtered shown blank s q ≡ s q
-  unfolding filtered
-  filtered-shown s q h = rw (h, filtered)
+  pub filtered-shown : (s : Q → R) (q : Q) → shown q ≡ true → behindFilter shown blank s q ≡ s q
+  unfolding behindFilter
+  filtered-shown s q h = rw (h, behindFilter)
 
   -- A question that is hidden gets the blank answer.
-  pub filtered-hidden : (s : Q → R) (q : Q) → shown q ≡ false → filtered shown blank s q ≡ blank q
-  unfolding filtered
-  filtered-hidden s q h = rw (h, filtered)
+  pub filtered-hidden : (s : Q → R) (q : Q) → shown q ≡ false → behindFilter shown blank s q ≡ blank q
+  unfolding behindFilter
+  filtered-hidden s q h = rw (h, behindFilter)
 
   -- A hidden question is answered blank, and still listed.
-  pub hidden-listed : {E L A : Type 0} (s : Q → R) (p r : ℕ) (q : Q) (l : L) (k : R → Tree Q R E L A) → shown q ≡ false → 0 < p → run (filtered shown blank s) p r (ask q l k) ≡ asking q (run (filtered shown blank s) (p - 1) r (k (blank q)))
-  hidden-listed s p r q l k h f = run-ask (filtered shown blank s) p r q l k f ∙ ap (λ a. asking q (run (filtered shown blank s) (p - 1) r (k a))) (filtered-hidden s q h)
+  pub hidden-listed : {E L A : Type 0} (s : Q → R) (p r : ℕ) (q : Q) (l : L) (k : R → Tree Q R E L A) → shown q ≡ false → 0 < p → run (behindFilter shown blank s) p r (ask q l k) ≡ asking q (run (behindFilter shown blank s) (p - 1) r (k (blank q)))
+  hidden-listed s p r q l k h f = run-ask (behindFilter shown blank s) p r q l k f ∙ ap (λ a. asking q (run (behindFilter shown blank s) (p - 1) r (k a))) (filtered-hidden s q h)

@@ -7,7 +7,7 @@ use lib.IntN.{pos}
 use Rattle.meaning.specs.Answer.{Answer, cell, integer}
 use Rattle.meaning.specs.Event.{line, break, joined, pageFrom, laterPages, pages}
 use Rattle.meaning.specs.Tree.{done, stop, ask, print, Run, textOf, run}
-use Rattle.meaning.specs.Number.{numberOf, lineOf}
+use Rattle.meaning.specs.Number.{numberOf, lineNamed}
 use Rattle.meaning.specs.Meaning.{Meaning}
 use Rattle.meaning.specs.declared.question.Question.{Question}
 use Rattle.meaning.specs.declared.refusal.Refusal.{Refusal}
@@ -45,7 +45,7 @@ pub data Result : Type 0 where
   result : ℕ → ℕ → ℕ → List ℕ → List Question → Result
 
 abbrev resultOf : Run Question Refusal ℕ ℕ → Result
-resultOf x = result (numberOf (x .end)) (lineOf (x .end)) (length (pages (x .events))) (textOf x) (x .asked)
+resultOf x = result (numberOf (x .end)) (lineNamed (x .end)) (length (pages (x .events))) (textOf x) (x .asked)
 
 abbrev in-space : ℕ → ℕ → Meaning ℕ → Result
 in-space places room t = resultOf (run source places room t)

@@ -43,9 +43,9 @@ numberOf (halted c l) = causeNumber c
 
 -- The line that an end names; "0 .. give line 0". That 1 and 6 do, and every end of ask, put and remove, is said where these are
 -- made: report/specs/Report:reportOf, template/specs/Order:acceptedRun, cells/specs/Asking:refusedWith.
-abbrev pub lineOf : {A : Type 0} → End Refusal ℕ A → ℕ
-lineOf (finished a) = 0
-lineOf (halted c l) = l
+abbrev pub lineNamed : {A : Type 0} → End Refusal ℕ A → ℕ
+lineNamed (finished a) = 0
+lineNamed (halted c l) = l
 
 abbrev pub causeOf : Halt → Cause Refusal
 causeOf (Refused e) = refused e

@@ -2,7 +2,7 @@
 use crate::refusal::Overflow;
 use crate::refusal::Refusal;
 ghost use mathlib.Core.Path.{_≡_};
-ghost use Rattle.meaning.specs.Number.{causeOf, endOf, causeNumber, numberOf, lineOf};
+ghost use Rattle.meaning.specs.Number.{causeOf, endOf, causeNumber, numberOf, lineNamed};
 
 // Why a run ended early.
 pub enum Halt {
@@ -40,7 +40,7 @@ impl Ended {
 
     // The line named; 0 where none is.
     pub fn line(self) -> u32
-        ensures { λ r. ⌜ r ≡ lineOf (endOf (tt {0}) self) ⌝ }
+        ensures { λ r. ⌜ r ≡ lineNamed (endOf (tt {0}) self) ⌝ }
     {
         match self {
             Ended::Finished => 0,

@@ -14,7 +14,7 @@ use Rattle.numbers.specs.declared.Quantity.{Quantity}
 use Rattle.numbers.specs.declared.Quantity.the-variants.{Integer}
 use Rattle.numbers.specs.declared.Rounded.the-variants.{Units, OutOfRange}
 use Rattle.numbers.specs.Range.{integerLimit, decimalLimit, within, millionths}
-use Rattle.numbers.specs.Outcome.{Outcome, success, refused, outcome}
+use Rattle.numbers.specs.Result.{Result, success, refused, resultIn}
 use Rattle.numbers.specs.Rounding.{rounded}
 use Rattle.numbers.specs.Arithmetic.{checked, operands, dividedBy, sumOf, differenceOf, integerProduct, integerQuotient, decimalProduct, decimalQuotient, absoluteOf, inMillionths}
 use Rattle.numbers.specs.Parts.{wholeOf}
@@ -57,7 +57,7 @@ pub checked-out : (limit : ℕ) (z : ℤ) → limit < natAbs z → checked limit
 unfolding checked
 checked-out limit z h = rw (within-out limit z h)
 
-pub operands-in : (limit : ℕ) (a b : ℤ) (o : Outcome) → Inside limit a b → operands limit a b o ≡ o
+pub operands-in : (limit : ℕ) (a b : ℤ) (o : Result) → Inside limit a b → operands limit a b o ≡ o
 unfolding operands
 operands-in limit a b o h = rw (within-in limit a (h .left), within-in limit b (h .right))
 
@@ -68,22 +68,22 @@ inside limit {a} {b} sa sb {r} e t =
     let p = and-true _ _ w in
     record { left = within-true limit a (p .0); right = within-true limit b (p .1) }
 
-pub outside : (limit : ℕ) {a b : ℤ} → SFits w64 a → SFits w64 b → {r : Bool} → r ≡ within limit (back a) && within limit (back b) → not r ≡ true → (o : Outcome) → refused 13 ≡ operands limit a b o
+pub outside : (limit : ℕ) {a b : ℤ} → SFits w64 a → SFits w64 b → {r : Bool} → r ≡ within limit (back a) && within limit (back b) → not r ≡ true → (o : Result) → refused 13 ≡ operands limit a b o
 unfolding operands
 outside limit {a} {b} sa sb {r} e t o =
     let w = sym (read₂ (λ (x y : ℤ). within limit x && within limit y) sa sb e) ∙ not-true r t in
     rw w
 
 -- a result that is computed in 64 bits from operands in range, then checked
-pub calculated : (f : ℤ → ℤ → ℤ) (limit : ℕ) {a b : ℤ} → SFits w64 a → SFits w64 b → SFits w64 (f a b) → Inside limit a b → {o : Outcome} → o ≡ checked limit (back (f (back a) (back b))) → o ≡ operands limit a b (checked limit (f a b))
+pub calculated : (f : ℤ → ℤ → ℤ) (limit : ℕ) {a b : ℤ} → SFits w64 a → SFits w64 b → SFits w64 (f a b) → Inside limit a b → {o : Result} → o ≡ checked limit (back (f (back a) (back b))) → o ≡ operands limit a b (checked limit (f a b))
 calculated f limit {a} {b} sa sb s h e =
     read (checked limit) s (read₂ (λ (x y : ℤ). checked limit (back (f x y))) sa sb e) ∙ sym (operands-in limit a b _ h)
 
-pub by-zero : (b : ℤ) (o : Outcome) → natAbs b ≡ 0 → dividedBy b o ≡ refused 12
+pub by-zero : (b : ℤ) (o : Result) → natAbs b ≡ 0 → dividedBy b o ≡ refused 12
 unfolding dividedBy
 by-zero b o e = rw e
 
-pub by-other : (b : ℤ) (o : Outcome) → (natAbs b ≡ 0 → ⊥) → dividedBy b o ≡ o
+pub by-other : (b : ℤ) (o : Result) → (natAbs b ≡ 0 → ⊥) → dividedBy b o ≡ o
 unfolding dividedBy
 by-other b o n = rw (ne-eqb _ _ n)
 
@@ -99,11 +99,11 @@ checked-bound limit z v e =
     let q : z ≡ v = cc in
     rw q at (within-true limit z (p .0))
 
-operands-success : (limit : ℕ) (a b : ℤ) (o : Outcome) (v : ℤ) → operands limit a b o ≡ success v → o ≡ success v
+operands-success : (limit : ℕ) (a b : ℤ) (o : Result) (v : ℤ) → operands limit a b o ≡ success v → o ≡ success v
 unfolding operands
 operands-success limit a b o v e = first-case (within limit a && within limit b) e unequal .1
 
-divided-success : (b : ℤ) (o : Outcome) (v : ℤ) → dividedBy b o ≡ success v → o ≡ success v
+divided-success : (b : ℤ) (o : Result) (v : ℤ) → dividedBy b o ≡ success v → o ≡ success v
 unfolding dividedBy
 divided-success b o v e = other-case (eqb (natAbs b) 0) e unequal
 
@@ -158,7 +158,7 @@ unfolding inMillionths
 millionths-in n h = checked-in decimalLimit _ (integer-inside n h)
 
 -- an answer is known by its number and value
-pub same-answer : (r s : Number) → outcome r ≡ outcome s → r ≡ s
+pub same-answer : (r s : Number) → resultIn r ≡ resultIn s → r ≡ s
 same-answer (number.Value x) (number.Value y) e = cc
 same-answer (number.Value x) number.ZeroDivisor e = absurd (unequal (sym e))
 same-answer (number.Value x) number.OutOfRange e = absurd (unequal (sym e))

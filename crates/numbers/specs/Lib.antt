@@ -1,6 +1,6 @@
 pub mod Sign
 pub mod Range
-pub mod Outcome
+pub mod Result
 pub mod Rounding
 pub mod Arithmetic
 pub mod Parts

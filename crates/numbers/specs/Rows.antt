@@ -6,17 +6,17 @@ use Prim.Native.Nat.{ℕ}
 use lib.IntN.{ℤ, pos, negℤ}
 use Rattle.numbers.specs.Sign.{opposed}
 use Rattle.numbers.specs.Range.{integerLimit, decimalLimit, within}
-use Rattle.numbers.specs.Outcome.{Outcome, success, refused}
+use Rattle.numbers.specs.Result.{Result, success, refused}
 use Rattle.numbers.specs.Rounding.{rounded}
 use Rattle.numbers.specs.Arithmetic.{checked, operands, dividedBy, sumOf, differenceOf, integerProduct, integerQuotient, decimalProduct, decimalQuotient, absoluteOf, inMillionths}
 
 -- what a definition computes, and what is expected
 pub record Row : Type 0 where
-  pub computed : Outcome
-  pub expected : Outcome
+  pub computed : Result
+  pub expected : Result
 
 infix 70 _gives_
-abbrev _gives_ : Outcome → Outcome → Row
+abbrev _gives_ : Result → Result → Row
 c gives e = record { computed = c; expected = e }
 
 abbrev minus : ℕ → ℤ

@@ -8,19 +8,19 @@ ghost use Prim.Native.Nat.{_≤_, _<_, _*_};
 ghost use Rattle.numbers.specs.Sign.{signed};
 ghost use Rattle.numbers.specs.Rounding.{rounded};
 ghost use Rattle.numbers.specs.Range.{decimalLimit};
-ghost use Rattle.numbers.specs.Outcome.{outcome};
+ghost use Rattle.numbers.specs.Result.{resultIn};
 ghost use Rattle.numbers.specs.Arithmetic.{checked, sumOf, differenceOf, absoluteOf, decimalProduct, decimalQuotient};
 
 const SCALE: u64 = 1_000_000;
 
 pub fn add(a: i64, b: i64) -> Number
-    ensures { λ r. ⌜ outcome r ≡ sumOf decimalLimit a b ⌝ }
+    ensures { λ r. ⌜ resultIn r ≡ sumOf decimalLimit a b ⌝ }
 {
     range::sum(DECIMAL_LIMIT, a, b)
 }
 
 pub fn subtract(a: i64, b: i64) -> Number
-    ensures { λ r. ⌜ outcome r ≡ differenceOf decimalLimit a b ⌝ }
+    ensures { λ r. ⌜ resultIn r ≡ differenceOf decimalLimit a b ⌝ }
 {
     range::difference(DECIMAL_LIMIT, a, b)
 }
@@ -29,7 +29,7 @@ pub fn subtract(a: i64, b: i64) -> Number
 // is past it after rounding too; any other fits 64 bits.
 fn product(negative: bool, a: u64, b: u64) -> Number
     requires { ⌜ (a ≤ decimalLimit) × (b ≤ decimalLimit) ⌝ }
-    ensures { λ r. ⌜ outcome r ≡ checked decimalLimit (signed negative (rounded (a * b) 1000000)) ⌝ }
+    ensures { λ r. ⌜ resultIn r ≡ checked decimalLimit (signed negative (rounded (a * b) 1000000)) ⌝ }
 {
     let ah = a / SCALE;
     let al = a % SCALE;
@@ -50,7 +50,7 @@ fn product(negative: bool, a: u64, b: u64) -> Number
 // no dividend passes 64 bits.
 fn quotient(negative: bool, a: u64, b: u64) -> Number
     requires { ⌜ (a ≤ decimalLimit) × ((b ≤ decimalLimit) × (0 < b)) ⌝ }
-    ensures { λ r. ⌜ outcome r ≡ checked decimalLimit (signed negative (rounded (a * 1000000) b)) ⌝ }
+    ensures { λ r. ⌜ resultIn r ≡ checked decimalLimit (signed negative (rounded (a * 1000000) b)) ⌝ }
 {
     let whole = a / b;
     let first = a % b * 1000;
@@ -67,7 +67,7 @@ fn quotient(negative: bool, a: u64, b: u64) -> Number
 }
 
 pub fn multiply(a: i64, b: i64) -> Number
-    ensures { λ r. ⌜ outcome r ≡ decimalProduct a b ⌝ }
+    ensures { λ r. ⌜ resultIn r ≡ decimalProduct a b ⌝ }
 {
     if !range::both_in_range(DECIMAL_LIMIT, a, b) {
         return Number::OutOfRange;
@@ -76,7 +76,7 @@ pub fn multiply(a: i64, b: i64) -> Number
 }
 
 pub fn divide(a: i64, b: i64) -> Number
-    ensures { λ r. ⌜ outcome r ≡ decimalQuotient a b ⌝ }
+    ensures { λ r. ⌜ resultIn r ≡ decimalQuotient a b ⌝ }
 {
     if !range::both_in_range(DECIMAL_LIMIT, a, b) {
         return Number::OutOfRange;
@@ -89,7 +89,7 @@ pub fn divide(a: i64, b: i64) -> Number
 }
 
 pub fn absolute(m: i64) -> Number
-    ensures { λ r. ⌜ outcome r ≡ absoluteOf decimalLimit m ⌝ }
+    ensures { λ r. ⌜ resultIn r ≡ absoluteOf decimalLimit m ⌝ }
 {
     range::absolute(DECIMAL_LIMIT, m)
 }

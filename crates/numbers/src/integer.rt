@@ -4,23 +4,23 @@ use crate::range;
 use crate::range::INTEGER_LIMIT;
 ghost use mathlib.Core.Path.{_≡_};
 ghost use Rattle.numbers.specs.Range.{integerLimit};
-ghost use Rattle.numbers.specs.Outcome.{outcome};
+ghost use Rattle.numbers.specs.Result.{resultIn};
 ghost use Rattle.numbers.specs.Arithmetic.{sumOf, differenceOf, absoluteOf, integerProduct, integerQuotient, inMillionths};
 
 pub fn add(a: i64, b: i64) -> Number
-    ensures { λ r. ⌜ outcome r ≡ sumOf integerLimit a b ⌝ }
+    ensures { λ r. ⌜ resultIn r ≡ sumOf integerLimit a b ⌝ }
 {
     range::sum(INTEGER_LIMIT, a, b)
 }
 
 pub fn subtract(a: i64, b: i64) -> Number
-    ensures { λ r. ⌜ outcome r ≡ differenceOf integerLimit a b ⌝ }
+    ensures { λ r. ⌜ resultIn r ≡ differenceOf integerLimit a b ⌝ }
 {
     range::difference(INTEGER_LIMIT, a, b)
 }
 
 pub fn multiply(a: i64, b: i64) -> Number
-    ensures { λ r. ⌜ outcome r ≡ integerProduct a b ⌝ }
+    ensures { λ r. ⌜ resultIn r ≡ integerProduct a b ⌝ }
 {
     if !range::both_in_range(INTEGER_LIMIT, a, b) {
         return Number::OutOfRange;
@@ -30,7 +30,7 @@ pub fn multiply(a: i64, b: i64) -> Number
 
 // The quotient toward zero. It is in range, since its magnitude is at most the dividend's.
 pub fn divide(a: i64, b: i64) -> Number
-    ensures { λ r. ⌜ outcome r ≡ integerQuotient a b ⌝ }
+    ensures { λ r. ⌜ resultIn r ≡ integerQuotient a b ⌝ }
 {
     if !range::both_in_range(INTEGER_LIMIT, a, b) {
         return Number::OutOfRange;
@@ -42,14 +42,14 @@ pub fn divide(a: i64, b: i64) -> Number
 }
 
 pub fn absolute(n: i64) -> Number
-    ensures { λ r. ⌜ outcome r ≡ absoluteOf integerLimit n ⌝ }
+    ensures { λ r. ⌜ resultIn r ≡ absoluteOf integerLimit n ⌝ }
 {
     range::absolute(INTEGER_LIMIT, n)
 }
 
 // The same value as a decimal.
 pub fn to_decimal(n: i64) -> Number
-    ensures { λ r. ⌜ outcome r ≡ inMillionths n ⌝ }
+    ensures { λ r. ⌜ resultIn r ≡ inMillionths n ⌝ }
 {
     if !range::in_range(INTEGER_LIMIT, n) {
         return Number::OutOfRange;

@@ -6,7 +6,7 @@ ghost use mathlib.Core.Bool.{_&&_};
 ghost use Prim.Native.Nat.{_≤_};
 ghost use Rattle.numbers.specs.Sign.{signed};
 ghost use Rattle.numbers.specs.Range.{within, decimalLimit};
-ghost use Rattle.numbers.specs.Outcome.{outcome};
+ghost use Rattle.numbers.specs.Result.{resultIn};
 ghost use Rattle.numbers.specs.Arithmetic.{checked, sumOf, differenceOf, absoluteOf};
 
 pub const INTEGER_LIMIT: u64 = 2_000_000_000;
@@ -31,7 +31,7 @@ pub fn both_in_range(limit: u64, a: i64, b: i64) -> bool
 
 // A result, where it is in range.
 pub fn check(limit: u64, z: i64) -> Number
-    ensures { λ r. ⌜ outcome r ≡ checked limit z ⌝ }
+    ensures { λ r. ⌜ resultIn r ≡ checked limit z ⌝ }
 {
     if in_range(limit, z) {
         Number::Value(z)
@@ -43,7 +43,7 @@ pub fn check(limit: u64, z: i64) -> Number
 // The same of a result that is given by its sign and magnitude.
 pub fn check_signed(limit: u64, negative: bool, m: u64) -> Number
     requires { ⌜ limit ≤ decimalLimit ⌝ }
-    ensures { λ r. ⌜ outcome r ≡ checked limit (signed negative m) ⌝ }
+    ensures { λ r. ⌜ resultIn r ≡ checked limit (signed negative m) ⌝ }
 {
     if m > limit {
         return Number::OutOfRange;
@@ -58,7 +58,7 @@ pub fn check_signed(limit: u64, negative: bool, m: u64) -> Number
 
 pub fn sum(limit: u64, a: i64, b: i64) -> Number
     requires { ⌜ limit ≤ decimalLimit ⌝ }
-    ensures { λ r. ⌜ outcome r ≡ sumOf limit a b ⌝ }
+    ensures { λ r. ⌜ resultIn r ≡ sumOf limit a b ⌝ }
 {
     if !both_in_range(limit, a, b) {
         return Number::OutOfRange;
@@ -68,7 +68,7 @@ pub fn sum(limit: u64, a: i64, b: i64) -> Number
 
 pub fn difference(limit: u64, a: i64, b: i64) -> Number
     requires { ⌜ limit ≤ decimalLimit ⌝ }
-    ensures { λ r. ⌜ outcome r ≡ differenceOf limit a b ⌝ }
+    ensures { λ r. ⌜ resultIn r ≡ differenceOf limit a b ⌝ }
 {
     if !both_in_range(limit, a, b) {
         return Number::OutOfRange;
@@ -78,7 +78,7 @@ pub fn difference(limit: u64, a: i64, b: i64) -> Number
 
 pub fn absolute(limit: u64, z: i64) -> Number
     requires { ⌜ limit ≤ decimalLimit ⌝ }
-    ensures { λ r. ⌜ outcome r ≡ absoluteOf limit z ⌝ }
+    ensures { λ r. ⌜ resultIn r ≡ absoluteOf limit z ⌝ }
 {
     check_signed(limit, false, sign::magnitude(z))
 }

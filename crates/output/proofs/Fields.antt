@@ -16,7 +16,7 @@ use Rattle.fields.specs.Digits.{digits, digitCount}
 use Rattle.fields.specs.Field.{space, asterisk, hyphen, point, questionMark, placesOf, negative, minus, fraction, unsigned, rightIn, leftIn, widthAllowed, roundedField, shown, fieldOf}
 use Rattle.texts.specs.declared.text.Places as T
 use Rattle.values.specs.Worth.{Worth, missing, wrong, number, string}
-use Rattle.pages.specs.Shown.{placesIn, valueOf, orStars, fieldBytes}
+use Rattle.pages.specs.Shown.{placesIn, shownValue, orStars, fieldBytes}
 use Rattle.output.specs.Printable.{Printable, Clean}
 use Rattle.output.proofs.Bytes.{each-take, each-append, each-replicate}
 
@@ -83,8 +83,8 @@ WorthClean wrong = Unit {0}
 WorthClean (number q) = Unit {0}
 WorthClean (string s) = Clean s
 
-shown-clean : (w : ℕ) (p : Places) (x : Worth) → WorthClean x → Shown (shown w p (valueOf x))
-unfolding shown valueOf
+shown-clean : (w : ℕ) (p : Places) (x : Worth) → WorthClean x → Shown (shown w p (shownValue x))
+unfolding shown shownValue
 shown-clean w p missing h = left-clean w (questionMark ∷ questionMark ∷ questionMark ∷ []) question-marks
 shown-clean w p wrong h = left-clean w (questionMark ∷ questionMark ∷ questionMark ∷ []) question-marks
 shown-clean w p (number q) h = rounded-clean w (placesOf p q) (negative q) (roundedTo q (placesOf p q))
@@ -99,6 +99,6 @@ pub field-clean : (w : ℕ) (p : T.Places) (x : Worth) → WorthClean x → Clea
 unfolding fieldBytes fieldOf
 field-clean w p x h = go (widthAllowed w)
   where
-    go : (y : Bool) → Clean (orStars w (cond y (shown w (placesIn p) (valueOf x)) none))
-    go true = or-stars w (shown w (placesIn p) (valueOf x)) (shown-clean w (placesIn p) x h)
+    go : (y : Bool) → Clean (orStars w (cond y (shown w (placesIn p) (shownValue x)) none))
+    go true = or-stars w (shown w (placesIn p) (shownValue x)) (shown-clean w (placesIn p) x h)
     go false = or-stars w none tt

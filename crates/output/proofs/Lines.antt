@@ -28,7 +28,7 @@ use Rattle.pages.specs.Text.{fieldValues, rendered, anyWrong, printed, textMean
 use Rattle.pages.specs.Shown.{fieldBytes}
 use Rattle.pages.specs.declared.page.Page.{Page}
 use Rattle.pages.specs.declared.heading.Heading.{Heading}
-use Rattle.pages.specs.Page.{advancedOf, on, sayMeaning, headLine, headFrom, headNumber, headMeaning, headsMeaning, highestOf, breakMeaning, turnMeaning, topMeaning, lineStep}
+use Rattle.pages.specs.Page.{advancedOf, on, sayMeaning, headLine, headFrom, headNumber, headMeaning, headsMeaning, highestDefined, breakMeaning, turnMeaning, topMeaning, lineStep}
 use Rattle.pages.proofs.Counting.{values-give}
 use Rattle.output.specs.Printable.{Printable, Clean, fed, silent}
 use Rattle.output.proofs.Bytes.{each-take, each-append, each-at}
@@ -119,12 +119,12 @@ module _ (m : Machine) (h : VariablesClean (m .variables)) where
 
     top-says : (hs : List Heading) → Each (λ x. Clean (headLine t x)) hs → (p : Page) → Says (topMeaning m t due hs p) Anything
     unfolding topMeaning
-    top-says hs k p = go (eqb (p .line) 1) (eqb (highestOf hs 9) 0)
+    top-says hs k p = go (eqb (p .row) 1) (eqb (highestDefined hs 9) 0)
       where
-        go : (b d : Bool) → Says (cond b (cond d (done p) (headsMeaning m t due (take (highestOf hs 9) hs) p)) (done p)) Anything
+        go : (b d : Bool) → Says (cond b (cond d (done p) (headsMeaning m t due (take (highestDefined hs 9) hs) p)) (done p)) Anything
         go false d = tt
         go true true = tt
-        go true false = heads-say (take (highestOf hs 9) hs) (each-take (λ x. Clean (headLine t x)) (highestOf hs 9) hs k) p
+        go true false = heads-say (take (highestDefined hs 9) hs) (each-take (λ x. Clean (headLine t x)) (highestDefined hs 9) hs k) p
 
 pub break-says : (due : ℕ) (feeds : Bool) (p : Page) → Says (breakMeaning due feeds p) Anything
 unfolding breakMeaning
@@ -133,7 +133,7 @@ break-says due false p = (silent, tt)
 
 turn-says : (due : ℕ) (feeds : Bool) (p : Page) → Says (turnMeaning due feeds p) Anything
 unfolding turnMeaning
-turn-says due feeds p = go (ltb 60 (p .line))
+turn-says due feeds p = go (ltb 60 (p .row))
   where
     go : (b : Bool) → Says (cond b (breakMeaning due feeds p) (done p)) Anything
     go true = break-says due feeds p

@@ -24,7 +24,7 @@ use Rattle.template.specs.declared.seek.Sought.the-variants.{TableEnd}
 use Rattle.template.specs.Order.{templateChecked}
 use Rattle.template.proofs.Accepted.{accepted-runs}
 use Rattle.cells.specs.Cell.{each, between, printable}
-use Rattle.cells.specs.Store.{held, isHeld}
+use Rattle.cells.specs.Store.{cellsHeld, holdsCells}
 use Rattle.cells.proofs.BigEndian.{and-true}
 use Rattle.cells.proofs.Limits.{AnswerHas, Lettered, ask-lettered}
 use Rattle.meaning.specs.Answer as A
@@ -51,9 +51,9 @@ use Rattle.pages.specs.declared.heading.Heading.{Heading}
 use Rattle.pages.specs.Heading.{noHeading}
 use Rattle.pages.specs.Page.{headLine, breakMeaning, lineStep}
 use Rattle.control.specs.State.{State, seen, withPosition, withVariables, withDatasource, withTables, withPage, noVariables}
-use Rattle.control.specs.Line.{past, jumped, setting, branched, testing, tableBegun, tableEnded, breaking, breakingFor, newPageMeaning, headed, formMeaning, lineMeaning}
+use Rattle.control.specs.Line.{pastLine, jumped, setting, branched, testing, tableBegun, tableCounted, breaking, breakingFor, newPageMeaning, headed, formMeaning, lineMeaning}
 use Rattle.executed_line.proofs.Sounds.{each-same}
-use Rattle.report.specs.Report.{runFrom, startOf, runMeaning, Outcome, refusedWith, checkedOutcome, reportOf}
+use Rattle.report.specs.Report.{runFrom, startOf, runMeaning, Outcome, refusedReport, checkedOutcome, reportOf}
 use Rattle.output.specs.Printable.{Clean, Proper}
 use Rattle.output.proofs.Bytes.{Permitted, bytes-permitted, line-clean}
 use Rattle.output.proofs.Values.{AnswerClean, VariablesClean, set-clean, records-clean, entries-clean}
@@ -118,15 +118,15 @@ module _ (t : List ℕ) (whole : Each Permitted t) (at l : ℕ) (s : State) (h :
 
   begun-clean : (x : Looping) → StateClean t (tableBegun t s x)
   unfolding tableBegun
-  begun-clean x = by (x .jumps)
+  begun-clean x = by (x .elsewhere)
     where
       by : (b : Bool) → StateClean t (cond b (jumped t s TableEnd) (withTables s (x .tables)))
       by true = place-clean _ _
       by false = tables-clean x _ _
 
-  ended-clean : (x : Looping) → StateClean t (tableEnded s x)
-  unfolding tableEnded
-  ended-clean x = by (x .jumps)
+  ended-clean : (x : Looping) → StateClean t (tableCounted s x)
+  unfolding tableCounted
+  ended-clean x = by (x .elsewhere)
     where
       by : (b : Bool) → StateClean t (cond b (withPosition (withTables s (x .tables)) (innermost (x .tables) .start) (innermost (x .tables) .line)) (withTables s (x .tables)))
       by true = tables-clean x _ _
@@ -137,13 +137,13 @@ module _ (t : List ℕ) (whole : Each Permitted t) (at l : ℕ) (s : State) (h :
 
   breaks-say : Says (breaking l s) (StateClean t)
   unfolding breaking
-  breaks-say = paged (breakMeaning l (s .layout .feeds) (s .page)) (break-says l (s .layout .feeds) (s .page))
+  breaks-say = paged (breakMeaning l (s .layout .formFeeds) (s .page)) (break-says l (s .layout .formFeeds) (s .page))
 
   np-says : (n : Optional) → Says (newPageMeaning l body s n) (StateClean t)
   unfolding newPageMeaning breakingFor
   np-says Absent = breaks-say
   np-says (Given a) =
-      says-bind (integerMeaning (seen s) body l a) (breakingFor l s) (λ _. Unit {0}) (StateClean t) (asks-say (integerMeaning (seen s) body l a) Anything (λ _. Unit {0}) (integer-gives (seen s) body l a) (yields-any AnswerClean (integerMeaning (seen s) body l a))) (λ z _. by (ltZ (pos (61 - s .page .line)) z))
+      says-bind (integerMeaning (seen s) body l a) (breakingFor l s) (λ _. Unit {0}) (StateClean t) (asks-say (integerMeaning (seen s) body l a) Anything (λ _. Unit {0}) (integer-gives (seen s) body l a) (yields-any AnswerClean (integerMeaning (seen s) body l a))) (λ z _. by (ltZ (pos (61 - s .page .row)) z))
     where
       by : (b : Bool) → Says (cond b (breaking l s) (done s)) (StateClean t)
       by true = breaks-say
@@ -152,16 +152,16 @@ module _ (t : List ℕ) (whole : Each Permitted t) (at l : ℕ) (s : State) (h :
   form-says : (f : Line) → Says (formMeaning t at l body s f) (StateClean t)
   unfolding formMeaning
   form-says form.NoForm = h
-  form-says form.Text = paged (lineStep (seen s) t l (s .layout .feeds) (s .layout .headings) body (s .page)) (step-says (seen s) (h .variables) t l (s .layout .feeds) (s .layout .headings) (h .heads) body (line-clean t whole at) (s .page))
+  form-says form.Text = paged (lineStep (seen s) t l (s .layout .formFeeds) (s .layout .headings) body (s .page)) (step-says (seen s) (h .variables) t l (s .layout .formFeeds) (s .layout .headings) (h .heads) body (line-clean t whole at) (s .page))
   form-says (form.Section a b) = record { variables = variables-none; heads = each-same (λ x. Clean (headLine t x)) 9 noHeading (blank-clean t) }
   form-says (form.Set o v a) = set-says (setMeaning (seen s) body l o v a) (Shaped (s .variables)) (set-gives (seen s) body l o v a) (set-clean (seen s) (h .variables) l body (line-clean t whole at) o v a)
-  form-says (form.IfZero a) = test-says (zeroMeaning (seen s) body l true a) (zero-gives (seen s) body l true a)
-  form-says (form.IfNonZero a) = test-says (zeroMeaning (seen s) body l false a) (zero-gives (seen s) body l false a)
+  form-says (form.IfNot a) = test-says (zeroMeaning (seen s) body l true a) (zero-gives (seen s) body l true a)
+  form-says (form.If a) = test-says (zeroMeaning (seen s) body l false a) (zero-gives (seen s) body l false a)
   form-says (form.Compare k a b) = test-says (testMeaning (seen s) body l k a b) (test-gives (seen s) body l k a b)
   form-says form.Else = place-clean _ _
   form-says form.EndIf = h
   form-says (form.BeginTable a) = only-asks (beginMeaning (seen s) body l (s .tables) (s .position .at) (s .position .line) a) (Begun (s .tables) (s .position .at) (s .position .line)) (begin-gives (seen s) body l (s .tables) (s .position .at) (s .position .line) a) (tableBegun t s) begun-clean
-  form-says (form.EndTable k) = only-asks (endMeaning (seen s) body l (s .tables) k) (Counting (s .tables)) (end-gives (seen s) body l (s .tables) k) (tableEnded s) ended-clean
+  form-says (form.EndTable k) = only-asks (endMeaning (seen s) body l (s .tables) k) (Counting (s .tables)) (end-gives (seen s) body l (s .tables) k) (tableCounted s) ended-clean
   form-says (form.Records f) = set-says (recordsMeaning (seen s) l f) (Shaped (s .variables)) (records-gives (seen s) l f) (records-clean (seen s) (h .variables) l f)
   form-says (form.Entries f) = set-says (entriesMeaning (seen s) l f) (Shaped (s .variables)) (entries-gives (seen s) l f) (entries-clean (seen s) (h .variables) l f)
   form-says (form.Datasource x) = only-asks (datasourceMeaning (seen s) l x) Selectable (datasource-gives (seen s) l x) (withDatasource s) (λ d. record { variables = h .variables; heads = h .heads })
@@ -173,7 +173,7 @@ module _ (t : List ℕ) (whole : Each Permitted t) (at l : ℕ) (s : State) (h :
 
 line-says : (t : List ℕ) → Each Permitted t → (s : State) → StateClean t s → Says (lineMeaning t s) (StateClean t)
 unfolding lineMeaning
-line-says t whole s h = form-says t whole (s .position .at) (s .position .line) (past s (length (lineAt t (s .position .at)))) (record { variables = h .variables; heads = h .heads }) (parseLine (lineAt t (s .position .at)))
+line-says t whole s h = form-says t whole (s .position .at) (s .position .line) (pastLine s (length (lineAt t (s .position .at)))) (record { variables = h .variables; heads = h .heads }) (parseLine (lineAt t (s .position .at)))
 
 run-says : (n : ℕ) (t : List ℕ) → Each Permitted t → (end : ℕ) (s : State) → StateClean t s → Says (runFrom n t end s) (StateClean t)
 unfolding runFrom
@@ -215,7 +215,7 @@ AllProper o = Each Proper (o .events)
 -- Every line that a report prints is one line of 0x20–0x7E with its 0x0A, and every break a form feed or, under $NOFF, nothing.
 pub text-is-lines : (t name b : List ℕ) (n places room : ℕ) → AllProper (reportOf t name b n places room)
 unfolding reportOf checkedOutcome
-text-is-lines t name b n places room = by (isHeld (held b n))
+text-is-lines t name b n places room = by (holdsCells (cellsHeld b n))
   where
     checked : (k : Checked) → templateChecked t name ≡ k → AllProper (checkedOutcome t (answers b n) places room k)
     checked (Accepted r) e =
@@ -223,6 +223,6 @@ text-is-lines t name b n places room = by (isHeld (held b n))
         (run-says 50000 t (bytes-permitted t (accepted-runs t name r e .checks .bytes)) (r .end) (startOf r) (start-clean t r))
     checked (Refused e l) i = tt
 
-    by : (f : Bool) → AllProper (cond f (checkedOutcome t (answers b n) places room (templateChecked t name)) (refusedWith BadStore 0))
+    by : (f : Bool) → AllProper (cond f (checkedOutcome t (answers b n) places room (templateChecked t name)) (refusedReport BadStore 0))
     by true = checked (templateChecked t name) refl
     by false = tt

@@ -10,7 +10,7 @@ use Rattle.meaning.specs.Tree.{done}
 use Rattle.meaning.proofs.Yielding.{Yields, yields-bind}
 use Rattle.numbers.specs.declared.Quantity.{Quantity}
 use Rattle.numbers.specs.declared.Quantity.the-variants.{Integer, Decimal}
-use Rattle.numbers.specs.Outcome.{Outcome, success, refused}
+use Rattle.numbers.specs.Result.{Result, success, refused}
 use Rattle.arguments.specs.declared.argument.Argument.{Argument}
 use Rattle.arguments.specs.declared.argument.Filter.{Filter}
 use Rattle.arguments.specs.declared.argument.Filter.the-variants.{Unfiltered, Absolute, Truncated, UpperCase, Length, RecordCount, EntryCount}
@@ -24,14 +24,14 @@ use Rattle.lines.specs.declared.command.Target.{Target}
 use Rattle.lines.specs.declared.command.Target.the-variants.{IntegerTarget, DecimalTarget, StringTarget}
 use Rattle.values.specs.declared.fetch.Along.the-variants.{Records, Entries}
 use Rattle.values.specs.Machine.{Machine, numbered, Variables, setNumbered}
-use Rattle.values.specs.Worth.{Worth, missing, wrong, number, string, answered, ranged, absolute, filteredNumber, filteredString, filtered, kindOf}
+use Rattle.values.specs.Worth.{Worth, missing, wrong, number, string, answered, ranged, absolute, filteredNumber, filteredString, filtered, questionKind}
 use Rattle.values.specs.Asking.{cellMeaning}
 use Rattle.values.specs.Fetching.{element, fetchMeaning}
 use Rattle.values.specs.Meanings.{worthOf, operandMeaning, argumentMeaning}
 use Rattle.values.proofs.Answering.{cell-has, fetch-has}
 use Rattle.values.proofs.Ranges.{numbered-each}
 use Rattle.commands.specs.Settling.{Settled, settled, against, andThen, concluded, stringFrom}
-use Rattle.commands.specs.Setting.{stored, stringNew, integerNew, decimalNew, withStrings, setOf, setMeaning}
+use Rattle.commands.specs.Setting.{asVariable, stringNew, integerNew, decimalNew, withStrings, setOf, setMeaning}
 use Rattle.control.specs.Fetching.{recordsMeaning, entriesMeaning}
 use Rattle.control.proofs.Ranges as C
 use Rattle.output.specs.Printable.{Printable, Clean}
@@ -59,7 +59,7 @@ answered-clean (cell (A.number q)) h = tt
 answered-clean (cell (A.string s)) h = h
 answered-clean (highest n) h = tt
 
-ranged-clean : (kind : ℤ → Quantity) (o : Outcome) → WorthClean (ranged kind o)
+ranged-clean : (kind : ℤ → Quantity) (o : Result) → WorthClean (ranged kind o)
 unfolding ranged
 ranged-clean kind (success z) = tt
 ranged-clean kind (refused n) = tt
@@ -122,7 +122,7 @@ module _ (m : Machine) (line : ℕ) where
     pub argument-clean : (a : Argument) → Yields AnswerClean (argumentMeaning m s line a) WorthClean
     unfolding argumentMeaning
     argument-clean a =
-        yields-bind AnswerClean (operandMeaning m s line (kindOf (a .filter)) (a .operand)) (λ w. done (filtered (a .filter) w)) WorthClean WorthClean (operand-clean (kindOf (a .filter)) (a .operand)) (λ w k. filtered-clean (a .filter) w k)
+        yields-bind AnswerClean (operandMeaning m s line (questionKind (a .filter)) (a .operand)) (λ w. done (filtered (a .filter) w)) WorthClean WorthClean (operand-clean (questionKind (a .filter)) (a .operand)) (λ w k. filtered-clean (a .filter) w k)
 
 -- ---- commands that set
 
@@ -146,16 +146,16 @@ string-new wrong h = tt
 string-new (number q) h = tt
 string-new (string s) h = each-take Printable 16 s h
 
-stored-clean : (l : List (List ℕ)) (n : ℕ) (x : Settled (List ℕ)) → Each Clean l → Whenever x Clean → (f : List (List ℕ) → Variables) → ((k : List (List ℕ)) → Each Clean k → VariablesClean (f k)) → Whenever (andThen (stored l n x) (λ k. settled (f k))) VariablesClean
-unfolding stored
+stored-clean : (l : List (List ℕ)) (n : ℕ) (x : Settled (List ℕ)) → Each Clean l → Whenever x Clean → (f : List (List ℕ) → Variables) → ((k : List (List ℕ)) → Each Clean k → VariablesClean (f k)) → Whenever (andThen (asVariable l n x) (λ k. settled (f k))) VariablesClean
+unfolding asVariable
 stored-clean l n (settled s) h c f g = g (setNumbered l n s) (C.numbered-each Clean l n s c h)
 stored-clean l n (against e) h c f g = tt
 
 module _ (v : Variables) (h : VariablesClean v) where
   set-of : (o : Operation) (t : Target) (w : Worth) → WorthClean w → Whenever (setOf v o t w) VariablesClean
   unfolding setOf
-  set-of o (IntegerTarget n) w k = then-always (stored (v .integers) n (integerNew o (numbered (pos 0) (v .integers) n) w)) _ VariablesClean (λ l. record { strings = h .strings; records = h .records; entries = h .entries })
-  set-of o (DecimalTarget n) w k = then-always (stored (v .decimals) n (decimalNew o (numbered (pos 0) (v .decimals) n) w)) _ VariablesClean (λ l. record { strings = h .strings; records = h .records; entries = h .entries })
+  set-of o (IntegerTarget n) w k = then-always (asVariable (v .integers) n (integerNew o (numbered (pos 0) (v .integers) n) w)) _ VariablesClean (λ l. record { strings = h .strings; records = h .records; entries = h .entries })
+  set-of o (DecimalTarget n) w k = then-always (asVariable (v .decimals) n (decimalNew o (numbered (pos 0) (v .decimals) n) w)) _ VariablesClean (λ l. record { strings = h .strings; records = h .records; entries = h .entries })
   set-of o (StringTarget n) w k = stored-clean (v .strings) n (stringNew w) (h .strings) (string-new w k) (withStrings v) (λ l a. record { strings = a; records = h .records; entries = h .entries })
 
 pub set-clean : (m : Machine) → VariablesClean (m .variables) → (line : ℕ) (s : List ℕ) → Clean s → (o : Operation) (t : Target) (a : Argument) → Yields AnswerClean (setMeaning m s line o t a) VariablesClean
@@ -168,8 +168,8 @@ set-clean m h line s c o t a =
 module _ (m : Machine) (h : VariablesClean (m .variables)) (line : ℕ) (f : Fetch) where
   pub records-clean : Yields AnswerClean (recordsMeaning m line f) VariablesClean
   unfolding recordsMeaning
-  records-clean = yields-bind AnswerClean (fetchMeaning m line Records (f .parameter) (f .first) (f .second) (f .count)) _ (Each AnswerClean) VariablesClean (fetch-has AnswerClean m line Records (f .parameter) (f .first) (f .second) (f .count)) (λ l k. record { strings = h .strings; records = C.numbered-each (Each AnswerClean) (m .variables .records) (f .number) l k (h .records); entries = h .entries })
+  records-clean = yields-bind AnswerClean (fetchMeaning m line Records (f .parameter) (f .«record») (f .entry) (f .count)) _ (Each AnswerClean) VariablesClean (fetch-has AnswerClean m line Records (f .parameter) (f .«record») (f .entry) (f .count)) (λ l k. record { strings = h .strings; records = C.numbered-each (Each AnswerClean) (m .variables .records) (f .number) l k (h .records); entries = h .entries })
 
   pub entries-clean : Yields AnswerClean (entriesMeaning m line f) VariablesClean
   unfolding entriesMeaning
-  entries-clean = yields-bind AnswerClean (fetchMeaning m line Entries (f .parameter) (f .first) (f .second) (f .count)) _ (Each AnswerClean) VariablesClean (fetch-has AnswerClean m line Entries (f .parameter) (f .first) (f .second) (f .count)) (λ l k. record { strings = h .strings; records = h .records; entries = C.numbered-each (Each AnswerClean) (m .variables .entries) (f .number) l k (h .entries) })
+  entries-clean = yields-bind AnswerClean (fetchMeaning m line Entries (f .parameter) (f .«record») (f .entry) (f .count)) _ (Each AnswerClean) VariablesClean (fetch-has AnswerClean m line Entries (f .parameter) (f .«record») (f .entry) (f .count)) (λ l k. record { strings = h .strings; records = h .records; entries = C.numbered-each (Each AnswerClean) (m .variables .entries) (f .number) l k (h .entries) })

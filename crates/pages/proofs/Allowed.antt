@@ -48,7 +48,7 @@ module _ (m : Machine) (d : Between 1 35 (m .datasource)) where
   pub step-asks : (t : List ℕ) (due : ℕ) (feeds : Bool) (hs : List Heading) (l : List ℕ) (p : Page) → AsksAllowed (lineStep m t due feeds hs l p)
   unfolding lineStep turnMeaning breakMeaning
   step-asks t due feeds hs l p =
-      asks-then AnswerWithin Allowed (turnMeaning due feeds p) (λ p₁. bind (topMeaning m t due hs p₁) (λ p₂. sayMeaning m l 0 due p₂)) (go (ltb 60 (p .line))) (λ p₁.
+      asks-then AnswerWithin Allowed (turnMeaning due feeds p) (λ p₁. bind (topMeaning m t due hs p₁) (λ p₂. sayMeaning m l 0 due p₂)) (go (ltb 60 (p .row))) (λ p₁.
       rw (top-says m t due l hs p₁) (says-ask (linesDue t due hs l p₁) p₁))
     where
       go : (b : Bool) → AsksAllowed (cond {A = Meaning Page} b (breakMeaning due feeds p) (done p))

@@ -78,7 +78,7 @@ break-counts due feeds p c h = (tt, omega (arith, h))
 
 pub turn-counts : (due : ℕ) (feeds : Bool) (p : Page) (c : ℕ) → OnPage p c → Keeps counting (turnMeaning due feeds p) c OnPage
 unfolding turnMeaning
-turn-counts due feeds p c h = go (ltb 60 (p .line))
+turn-counts due feeds p c h = go (ltb 60 (p .row))
   where
     go : (b : Bool) → Keeps counting (cond b (breakMeaning due feeds p) (done p)) c OnPage
     go true = break-counts due feeds p c h

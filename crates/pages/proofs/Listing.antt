@@ -17,13 +17,13 @@ use Rattle.pages.specs.Text.{textMeaning}
 use Rattle.pages.specs.declared.page.Page.{Page}
 use Rattle.pages.specs.declared.heading.Heading.{Heading}
 use Rattle.pages.specs.Heading.{noHeading}
-use Rattle.pages.specs.Page.{brokenOf, advancedOf, on, sayMeaning, headLine, headFrom, headNumber, headMeaning, headsMeaning, highestOf, breakMeaning, turnMeaning, topMeaning, lineStep}
+use Rattle.pages.specs.Page.{brokenOf, advancedOf, on, sayMeaning, headLine, headFrom, headNumber, headMeaning, headsMeaning, highestDefined, breakMeaning, turnMeaning, topMeaning, lineStep}
 use Rattle.pages.specs.inner.Listing.{Due, saysOn, headsDue, shown, headsOn, topDue, textDue, linesDue, bytesOf, dueOf, linesOn, leadOf, headingDue, lineDue}
 use Rattle.pages.proofs.Highest.{highest-most, highest-inside, highest-over}
 
 -- the page behind the break, if there is one
 abbrev pub turned : Page → Page
-turned p = cond (ltb 60 (p .line)) (brokenOf p) p
+turned p = cond (ltb 60 (p .row)) (brokenOf p) p
 
 -- ---- a step is a break, if one is due, and these lines
 
@@ -58,16 +58,16 @@ module _ (m : Machine) where
     -- the headings where they are due, and the text line
     pub top-says : (hs : List Heading) (p : Page) → bind (topMeaning m t due hs p) (λ q. sayMeaning m l 0 due q) ≡ saysOn m (linesDue t due hs l p) p
     unfolding topMeaning
-    top-says hs p = go (eqb (p .line) 1) (eqb (highestOf hs 9) 0)
+    top-says hs p = go (eqb (p .row) 1) (eqb (highestDefined hs 9) 0)
       where
-        go : (a b : Bool) → bind (cond a (cond b (done p) (headsMeaning m t due (take (highestOf hs 9) hs) p)) (done p)) (λ q. sayMeaning m l 0 due q) ≡ saysOn m (cond (cond a (cond b false true) false) (shown t due hs) [] ++ (textDue due l ∷ [])) p
+        go : (a b : Bool) → bind (cond a (cond b (done p) (headsMeaning m t due (take (highestDefined hs 9) hs) p)) (done p)) (λ q. sayMeaning m l 0 due q) ≡ saysOn m (cond (cond a (cond b false true) false) (shown t due hs) [] ++ (textDue due l ∷ [])) p
         go true true = say-last l 0 due p
-        go true false = heads-say (take (highestOf hs 9) hs) p
+        go true false = heads-say (take (highestDefined hs 9) hs) p
         go false b = say-last l 0 due p
 
     pub step-says : (feeds : Bool) (hs : List Heading) (p : Page) → lineStep m t due feeds hs l p ≡ bind (turnMeaning due feeds p) (λ _. saysOn m (linesDue t due hs l (turned p)) (turned p))
     unfolding lineStep turnMeaning breakMeaning
-    step-says feeds hs p = go (ltb 60 (p .line))
+    step-says feeds hs p = go (ltb 60 (p .row))
       where
         go : (x : Bool) → bind (cond x (breakMeaning due feeds p) (done p)) (λ q. bind (topMeaning m t due hs q) (λ q′. sayMeaning m l 0 due q′)) ≡ bind (cond x (breakMeaning due feeds p) (done p)) (λ _. saysOn m (linesDue t due hs l (cond x (brokenOf p) p)) (cond x (brokenOf p) p))
         go true = ap (print (break (cond feeds (12 ∷ []) [])) due) (top-says hs (brokenOf p))
@@ -80,35 +80,35 @@ heads-few t due [] = refl
 heads-few t due (x ∷ hs) = omega (arith, heads-few t due hs)
 
 module _ (t : List ℕ) (due : ℕ) (hs : List Heading) where
-  shown-count : length (shown t due hs) ≡ highestOf hs 9 + 1
-  shown-count = omega (arith, heads-few t due (take (highestOf hs 9) hs), length-take-le (highestOf hs 9) hs (highest-inside hs 9))
+  shown-count : length (shown t due hs) ≡ highestDefined hs 9 + 1
+  shown-count = omega (arith, heads-few t due (take (highestDefined hs 9) hs), length-take-le (highestDefined hs 9) hs (highest-inside hs 9))
 
-  pub lines-by : (p : Page) (d : Due) (P : List Due → Type 0) → P (d ∷ []) → (p .line ≡ 1 → P (shown t due hs ++ (d ∷ []))) → P (topDue t due hs p ++ (d ∷ []))
-  lines-by p d P a b = go (eqb (p .line) 1) refl (eqb (highestOf hs 9) 0)
+  pub lines-by : (p : Page) (d : Due) (P : List Due → Type 0) → P (d ∷ []) → (p .row ≡ 1 → P (shown t due hs ++ (d ∷ []))) → P (topDue t due hs p ++ (d ∷ []))
+  lines-by p d P a b = go (eqb (p .row) 1) refl (eqb (highestDefined hs 9) 0)
     where
-      go : (x : Bool) → eqb (p .line) 1 ≡ x → (y : Bool) → P (cond (cond x (cond y false true) false) (shown t due hs) [] ++ (d ∷ []))
+      go : (x : Bool) → eqb (p .row) 1 ≡ x → (y : Bool) → P (cond (cond x (cond y false true) false) (shown t due hs) [] ++ (d ∷ []))
       go true e true = a
-      go true e false = b (eqb-true (p .line) 1 e)
+      go true e false = b (eqb-true (p .row) 1 e)
       go false e y = a
 
   -- at most nine headings, the blank line and the text line, and those only on a page without a line
-  pub lines-few : (p : Page) (d : Due) (n : ℕ) → p .line ≤ n → 11 ≤ n → p .line + length (topDue t due hs p ++ (d ∷ [])) ≤ n + 1
-  lines-few p d n h k = lines-by p d (λ ds. p .line + length ds ≤ n + 1) (omega arith) (λ e. omega (arith, e, length-append (shown t due hs) (d ∷ []), shown-count, highest-most hs 9))
+  pub lines-few : (p : Page) (d : Due) (n : ℕ) → p .row ≤ n → 11 ≤ n → p .row + length (topDue t due hs p ++ (d ∷ [])) ≤ n + 1
+  lines-few p d n h k = lines-by p d (λ ds. p .row + length ds ≤ n + 1) (omega arith) (λ e. omega (arith, e, length-append (shown t due hs) (d ∷ []), shown-count, highest-most hs 9))
 
 -- ---- how many come before the text line
 
 module _ (hs : List Heading) (p : Page) where
-  pub lead-not : (p .line ≡ 1 → ⊥) → 0 ≡ leadOf hs p
+  pub lead-not : (p .row ≡ 1 → ⊥) → 0 ≡ leadOf hs p
   unfolding leadOf
-  lead-not h = rw (ne-eqb (p .line) 1 h)
+  lead-not h = rw (ne-eqb (p .row) 1 h)
 
-  pub lead-none : p .line ≡ 1 → highestOf hs 9 ≡ 0 → 0 ≡ leadOf hs p
+  pub lead-none : p .row ≡ 1 → highestDefined hs 9 ≡ 0 → 0 ≡ leadOf hs p
   unfolding leadOf
-  lead-none h e = rw (eq-eqb (p .line) 1 h, eq-eqb (highestOf hs 9) 0 e)
+  lead-none h e = rw (eq-eqb (p .row) 1 h, eq-eqb (highestDefined hs 9) 0 e)
 
-  pub lead-some : (k : ℕ) → p .line ≡ 1 → highestOf hs 9 ≡ k → 0 < k → k + 1 ≡ leadOf hs p
+  pub lead-some : (k : ℕ) → p .row ≡ 1 → highestDefined hs 9 ≡ k → 0 < k → k + 1 ≡ leadOf hs p
   unfolding leadOf
-  lead-some k h e z = rw (eq-eqb (p .line) 1 h, e, ne-eqb k 0 (λ y. omega arith))
+  lead-some k h e z = rw (eq-eqb (p .row) 1 h, e, ne-eqb k 0 (λ y. omega arith))
 
 -- ---- the k-th line
 
@@ -131,7 +131,7 @@ heads-at t due (x ∷ hs) (suc n) (suc k) R d f e h = heads-at t due hs n k R d 
 
 module _ (t : List ℕ) (hs : List Heading) (line : Heading) (p : Page) where
   abbrev most : ℕ
-  most = highestOf hs 9
+  most = highestDefined hs 9
 
   abbrev heads : List Due
   heads = shown t (line .number) hs

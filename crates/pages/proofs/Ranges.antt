@@ -20,21 +20,21 @@ use Rattle.values.specs.Worth.{Worth, missing, wrong, number, string}
 use Rattle.values.specs.Meanings.{argumentMeaning}
 use Rattle.values.proofs.Ranges.{WorthWithin, MachineWithin, millionths-within, argument-within}
 use Rattle.pages.specs.declared.page.Page.{Page}
-use Rattle.pages.specs.Shown.{placesIn, valueOf, orStars, fieldBytes}
+use Rattle.pages.specs.Shown.{placesIn, shownValue, orStars, fieldBytes}
 use Rattle.pages.specs.Text.{fieldValues}
 use Rattle.pages.specs.Page.{on}
 use Rattle.pages.proofs.InRange.{number-shown}
 
 -- a field with this value has its bytes
 abbrev pub FieldShown : Field → Worth → Type 0
-FieldShown f w = fieldOf (f .width) (placesIn (f .places)) (valueOf w) ≡ some (fieldBytes (f .width) (f .places) w)
+FieldShown f w = fieldOf (f .width) (placesIn (f .places)) (shownValue w) ≡ some (fieldBytes (f .width) (f .places) w)
 
-bytes-are : (f : Field) (w : Worth) (s : List ℕ) → fieldOf (f .width) (placesIn (f .places)) (valueOf w) ≡ some s → FieldShown f w
+bytes-are : (f : Field) (w : Worth) (s : List ℕ) → fieldOf (f .width) (placesIn (f .places)) (shownValue w) ≡ some s → FieldShown f w
 unfolding fieldBytes orStars
 bytes-are f w s e = rw e
 
 pub field-shown : (l : List ℕ) (f : Field) (w : Worth) → Limited l f → WorthWithin w → FieldShown f w
-unfolding valueOf fieldBytes orStars fieldOf shown widthAllowed
+unfolding shownValue fieldBytes orStars fieldOf shown widthAllowed
 field-shown l f missing h k = rw (le-leb 1 (f .width) (h .least), le-leb (f .width) 32 (h .most))
 field-shown l f wrong h k = rw (le-leb 1 (f .width) (h .least), le-leb (f .width) 32 (h .most))
 field-shown l f (number q) h k = let e = number-shown l f q h (within-in decimalLimit (millionths q) (millionths-within q k)) in bytes-are f (number q) (e .0) (e .1)
@@ -60,5 +60,5 @@ module _ (m : Machine) (h : MachineWithin m) (l : List ℕ) (line : ℕ) where
   text-shown from = pieces-shown (piecesOf l from) (fields-limited l from)
 
 -- "Heading fields are worked out at that moment": the machine on a page in range is in range.
-pub on-within : (m : Machine) (p : Page) → MachineWithin m → p .number ≤ integerLimit → p .line ≤ integerLimit → MachineWithin (on m p)
+pub on-within : (m : Machine) (p : Page) → MachineWithin m → p .number ≤ integerLimit → p .row ≤ integerLimit → MachineWithin (on m p)
 on-within m p h a b = record { variables = h .variables; counter = h .counter; page = a; row = b }

@@ -36,18 +36,18 @@ text-keeps m l from n c h =
 
 -- LINENUM is one more than the lines on the page, and so within 1–61; PAGENUM is at most g
 pub record On (g : ℕ) (p : Page) (c : ℕ) : Type 0 where
-  pub next : p .line ≡ suc c
+  pub next : p .row ≡ suc c
   pub most : c ≤ 60
   pub number : p .number ≤ g
 
 -- the same, with room for a line
 record Open (g : ℕ) (p : Page) (c : ℕ) : Type 0 where
-  next : p .line ≡ suc c
+  next : p .row ≡ suc c
   room : c < 60
   number : p .number ≤ g
 
 -- so many lines behind one another
-says-keep : (g : ℕ) (m : Machine) (ds : List Due) (p : Page) (c : ℕ) → p .line ≡ suc c → p .number ≤ g → c + length ds ≤ 60 → Keeps (pageLimit 60) (saysOn m ds p) c (On g)
+says-keep : (g : ℕ) (m : Machine) (ds : List Due) (p : Page) (c : ℕ) → p .row ≡ suc c → p .number ≤ g → c + length ds ≤ 60 → Keeps (pageLimit 60) (saysOn m ds p) c (On g)
 unfolding sayMeaning
 says-keep g m [] p c e k h = record { next = e; most = omega arith; number = k }
 says-keep g m (d ∷ ds) p c e k h =
@@ -61,11 +61,11 @@ break-keeps due g feeds p c h = (tt, record { next = refl; most = omega arith; n
 
 turn-keeps : (due g : ℕ) (feeds : Bool) (p : Page) (c : ℕ) → On g p c → Keeps (pageLimit 60) (turnMeaning due feeds p) c (Open (g + 1))
 unfolding turnMeaning breakMeaning
-turn-keeps due g feeds p c i = go (ltb 60 (p .line)) refl
+turn-keeps due g feeds p c i = go (ltb 60 (p .row)) refl
   where
-    go : (b : Bool) → ltb 60 (p .line) ≡ b → Keeps (pageLimit 60) (cond b (breakMeaning due feeds p) (done p)) c (Open (g + 1))
+    go : (b : Bool) → ltb 60 (p .row) ≡ b → Keeps (pageLimit 60) (cond b (breakMeaning due feeds p) (done p)) c (Open (g + 1))
     go true q = (tt, record { next = refl; room = omega arith; number = omega (arith, i .number) })
-    go false q = record { next = i .next; room = omega (arith, ltb-false 60 (p .line) q, i .next); number = omega (arith, i .number) }
+    go false q = record { next = i .next; room = omega (arith, ltb-false 60 (p .row) q, i .next); number = omega (arith, i .number) }
 
 -- ---- the step
 

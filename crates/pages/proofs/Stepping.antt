@@ -48,7 +48,7 @@ pub record InLines (x : Lent) (s : Scene) (t : List ℕ) (hs : List Heading) (li
   pub here : Sourced x (λ source. Leads source (saysOn (machineOf x s source) (linesOn t hs line (pageOf s)) (pageOf s)) (filledTo text₀ log₀ c₀ (s .page)) (saysOn (machineOf x s source) (drop k (linesOn t hs line (pageOf s))) p) (filledTo text log c (p .number)))
   pub fit : AllFit (drop k (linesOn t hs line (pageOf s)))
   pub few : c .asked + fieldsIn (drop k (linesOn t hs line (pageOf s))) ≤ c₀ .asked + fieldsIn (linesOn t hs line (pageOf s))
-  pub row : p .line + length (drop k (linesOn t hs line (pageOf s))) ≤ 62
+  pub row : p .row + length (drop k (linesOn t hs line (pageOf s))) ≤ 62
   pub ready : LinesReady x s t (linesOn t hs line (pageOf s)) text₀ c₀
   pub led : lead ≡ leadOf hs (pageOf s)
   pub nine : length hs ≤ 9
@@ -87,7 +87,7 @@ module _ {x : Lent} {s : Scene} {t : List ℕ} {hs : List Heading} {line : Headi
     few′ : c .asked + (fieldCount (piecesOf (bytesOf t next) (next .from)) + fieldsIn (drop (k + 1) ds)) ≤ c₀ .asked + fieldsIn ds
     few′ = rw left at (i .few)
 
-    pub line-row : p .line + 1 + length (drop (k + 1) ds) ≤ 62
+    pub line-row : p .row + 1 + length (drop (k + 1) ds) ≤ 62
     line-row = omega (arith, i .row, ap length left)
 
     module _ {y : Scene} {body : List ℕ} (hy : y ≡ sceneOn s p (next .number)) (hb : body ≡ bytesOf t next) where

@@ -23,10 +23,10 @@ use Rattle.pages.specs.inner.Paging.{TurnReady, Breaks, Turns}
 -- ---- the break
 
 module _ (due : ℕ) (feeds : Bool) (p : Page) (text : List ℕ) (n : ℕ) (h : TurnReady p text n) where
-  pub turn-not : p .line ≤ 60 → Turns due feeds p text n text (record { end = Finished; page = p; printed = n })
+  pub turn-not : p .row ≤ 60 → Turns due feeds p text n text (record { end = Finished; page = p; printed = n })
   unfolding turnMeaning
   turn-not k = record {
-    does = λ o Q a l. rw (le-ltb 60 (p .line) k) (does-done o (at text n Q a l (p .number)) p);
+    does = λ o Q a l. rw (le-ltb 60 (p .row) k) (does-done o (at text n Q a l (p .number)) p);
     row = h .row;
     kept = refl;
     room = h .room;
@@ -59,10 +59,10 @@ module _ (due : ℕ) (feeds : Bool) (p : Page) (text : List ℕ) (n : ℕ) (h : 
     room = h .room;
   }
 
-  pub turn-breaks : (text′ : List ℕ) (r : Turned) → 60 < p .line → Breaks due feeds p text n text′ r → Turns due feeds p text n text′ r
+  pub turn-breaks : (text′ : List ℕ) (r : Turned) → 60 < p .row → Breaks due feeds p text n text′ r → Turns due feeds p text n text′ r
   unfolding turnMeaning
   turn-breaks text′ r k d = record {
-    does = λ o Q a l. rw (lt-ltb 60 (p .line) k) (d .does o Q a l);
+    does = λ o Q a l. rw (lt-ltb 60 (p .row) k) (d .does o Q a l);
     row = d .row;
     kept = d .kept;
     room = d .room;

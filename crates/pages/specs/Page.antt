@@ -15,19 +15,19 @@ use Rattle.pages.specs.Text.{textMeaning}
 
 -- "PAGENUM starts at 1"
 abbrev pub newPage : Page
-newPage = record { number = 1; line = 1 }
+newPage = record { number = 1; row = 1 }
 
 -- "adds 1 to PAGENUM, sets LINENUM to 1"
 abbrev pub brokenOf : Page → Page
-brokenOf p = record { number = p .number + 1; line = 1 }
+brokenOf p = record { number = p .number + 1; row = 1 }
 
 -- "LINENUM is the next line, 1–61"
 abbrev pub advancedOf : Page → Page
-advancedOf p = record { number = p .number; line = p .line + 1 }
+advancedOf p = record { number = p .number; row = p .row + 1 }
 
 -- the machine, with the page of this moment: "Heading fields are worked out at that moment"
 abbrev pub on : Machine → Page → Machine
-on m p = record { variables = m .variables; counter = m .counter; datasource = m .datasource; page = p .number; row = p .line }
+on m p = record { variables = m .variables; counter = m .counter; datasource = m .datasource; page = p .number; row = p .row }
 
 -- the line l on the page, whose text starts at `from`; refusals name `line`
 unfoldable pub sayMeaning : Machine → List ℕ → ℕ → ℕ → Page → Meaning Page
@@ -53,26 +53,26 @@ headsMeaning m t due [] p = sayMeaning m [] 0 due p
 headsMeaning m t due (h ∷ hs) p = bind (headMeaning m t due h p) (headsMeaning m t due hs)
 
 -- the highest defined of the first n, 0 if none is
-unfoldable pub highestOf : List Heading → ℕ → ℕ
-highestOf hs zero = 0
-highestOf hs (suc n) = cond (eqb (getD hs n noHeading .number) 0) (highestOf hs n) (suc n)
+unfoldable pub highestDefined : List Heading → ℕ → ℕ
+highestDefined hs zero = 0
+highestDefined hs (suc n) = cond (eqb (getD hs n noHeading .number) 0) (highestDefined hs n) (suc n)
 
--- "A break writes 0x0C (nothing under $NOFF)"; `feeds` is false under $NOFF
+-- "A break writes 0x0C (nothing under $NOFF)"; `formFeeds` is false under $NOFF
 unfoldable pub breakMeaning : ℕ → Bool → Page → Meaning Page
-breakMeaning due feeds p = print (break (cond feeds (12 ∷ []) [])) due (done (brokenOf p))
+breakMeaning due formFeeds p = print (break (cond formFeeds (12 ∷ []) [])) due (done (brokenOf p))
 
 -- "Before a text line, LINENUM 61 causes a break"
 unfoldable pub turnMeaning : ℕ → Bool → Page → Meaning Page
-turnMeaning due feeds p = cond (ltb 60 (p .line)) (breakMeaning due feeds p) (done p)
+turnMeaning due formFeeds p = cond (ltb 60 (p .row)) (breakMeaning due formFeeds p) (done p)
 
 -- "if the page has no line yet, headings 1 to the highest defined are printed .. none if none is defined"
 unfoldable pub topMeaning : Machine → List ℕ → ℕ → List Heading → Page → Meaning Page
 topMeaning m t due hs p =
-    cond (eqb (p .line) 1)
-    (cond (eqb (highestOf hs 9) 0) (done p) (headsMeaning m t due (take (highestOf hs 9) hs) p))
+    cond (eqb (p .row) 1)
+    (cond (eqb (highestDefined hs 9) 0) (done p) (headsMeaning m t due (take (highestDefined hs 9) hs) p))
     (done p)
 
 -- "A break, each heading and the text line itself do this one after another"
 unfoldable pub lineStep : Machine → List ℕ → ℕ → Bool → List Heading → List ℕ → Page → Meaning Page
-lineStep m t due feeds hs l p =
-    bind (turnMeaning due feeds p) (λ p₁. bind (topMeaning m t due hs p₁) (λ p₂. sayMeaning m l 0 due p₂))
+lineStep m t due formFeeds hs l p =
+    bind (turnMeaning due formFeeds p) (λ p₁. bind (topMeaning m t due hs p₁) (λ p₂. sayMeaning m l 0 due p₂))

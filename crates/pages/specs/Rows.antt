@@ -21,7 +21,7 @@ use Rattle.pages.specs.declared.heading.Heading.{Heading}
 use Rattle.pages.specs.Heading.{noHeading}
 use Rattle.texts.specs.Pieces.{read, piecesOf}
 use Rattle.pages.specs.Text.{textMeaning}
-use Rattle.pages.specs.Page.{newPage, sayMeaning, headLine, headFrom, headNumber, headMeaning, highestOf, breakMeaning, turnMeaning, topMeaning, lineStep}
+use Rattle.pages.specs.Page.{newPage, sayMeaning, headLine, headFrom, headNumber, headMeaning, highestDefined, breakMeaning, turnMeaning, topMeaning, lineStep}
 
 abbrev sample : Machine
 sample = record { variables = record { integers = []; decimals = []; strings = []; records = []; entries = [] }; counter = pos 0; datasource = 1; page = 1; row = 1 }
@@ -67,5 +67,5 @@ Rows =
 
 -- The rows hold.
 pub rows : Rows
-unfolding run pageFrom laterPages pages piecesWithin textPieces read piecesOf textMeaning sayMeaning headLine headFrom headNumber headMeaning highestOf breakMeaning turnMeaning topMeaning lineStep
+unfolding run pageFrom laterPages pages piecesWithin textPieces read piecesOf textMeaning sayMeaning headLine headFrom headNumber headMeaning highestDefined breakMeaning turnMeaning topMeaning lineStep
 rows = (refl, refl, refl, refl, refl, refl, refl)

@@ -10,7 +10,7 @@ ghost use Rattle.pages.specs.inner.Paging.{TurnReady, Breaks, Turns};
 // PAGENUM and LINENUM, which is the next line.
 pub struct Page {
     pub number: u32,
-    pub line: u32,
+    pub row: u32,
 }
 
 impl Page {
@@ -20,7 +20,7 @@ impl Page {
     pub fn new() -> Self
         ensures { λ r. ⌜ r ≡ newPage ⌝ }
     {
-        Self { number: 1, line: 1 }
+        Self { number: 1, row: 1 }
     }
 
     pub fn broken(self) -> Self
@@ -29,17 +29,17 @@ impl Page {
     {
         Self {
             number: self.number + 1,
-            line: 1,
+            row: 1,
         }
     }
 
     pub fn advanced(self) -> Self
-        requires { ⌜ self .line ≤ 61 ⌝ }
+        requires { ⌜ self .row ≤ 61 ⌝ }
         ensures { λ r. ⌜ r ≡ advancedOf self ⌝ }
     {
         Self {
             number: self.number,
-            line: self.line + 1,
+            row: self.row + 1,
         }
     }
 }
@@ -84,7 +84,7 @@ pub fn turn(page: Page, feeds: bool, number: u32, text: &mut [u8], printed: usiz
     requires { ⌜ TurnReady page (now text) printed ⌝ }
     ensures { λ r. ⌜ Turns number feeds page (now (text .entry)) printed (now (text .exit)) r ⌝ }
 {
-    if page.line <= Page::LIMIT {
+    if page.row <= Page::LIMIT {
         return Turned {
             end: Ended::Finished,
             page,

@@ -23,7 +23,7 @@ ghost use Rattle.pages.specs.inner.Paging.{pageOf, sceneOn, LinesReady, 
 fn leading(words: &Words, page: Page) -> usize
     ensures { λ r. ⌜ (r ≡ leadOf (headingsOf (headingsIn (now (words .entry)))) page) × (r ≤ 10) ⌝ }
 {
-    if page.line != 1 {
+    if page.row != 1 {
         return 0;
     }
     let mut k = 9;
@@ -69,7 +69,7 @@ fn scene_on(scene: Scene, page: Page, number: u32) -> Scene
     Scene {
         datasource: scene.datasource,
         page: page.number,
-        row: page.line,
+        row: page.row,
         number,
         turn: scene.turn,
     }
@@ -94,7 +94,7 @@ fn say_lines<'a>(
 {
     let mut top = Page {
         number: scene.page,
-        line: scene.row,
+        row: scene.row,
     };
     let lead = leading(words, top);
     let mut k = 0;
@@ -155,7 +155,7 @@ pub fn step<'a>(
 {
     let page = Page {
         number: scene.page,
-        line: scene.row,
+        row: scene.row,
     };
     let turned = page::turn(page, feeds, line.number, text, counts.printed);
     let end = turned.end;

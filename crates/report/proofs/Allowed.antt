@@ -11,7 +11,7 @@ use Rattle.template.specs.declared.Checked.{Checked}
 use Rattle.template.specs.declared.Checked.the-variants.{Accepted, Refused}
 use Rattle.template.specs.Order.{templateChecked}
 use Rattle.template.proofs.Accepted.{accepted-runs}
-use Rattle.cells.specs.Store.{held, isHeld}
+use Rattle.cells.specs.Store.{cellsHeld, holdsCells}
 use Rattle.cells.proofs.Limits.{AnswerWithin}
 use Rattle.meaning.specs.Each.{Each}
 use Rattle.meaning.specs.Tree.{done, stop, bind}
@@ -29,7 +29,7 @@ use Rattle.control.specs.Line.{lineMeaning}
 use Rattle.executed_line.proofs.Sounds.{On, line-keeps}
 use Rattle.executed_line.proofs.Ranges.{InRange, line-in-range}
 use Rattle.executed_line.proofs.Allowed.{line-asks}
-use Rattle.report.specs.Report.{runFrom, startOf, runMeaning, Outcome, refusedWith, checkedOutcome, reportOf}
+use Rattle.report.specs.Report.{runFrom, startOf, runMeaning, Outcome, refusedReport, checkedOutcome, reportOf}
 use Rattle.report.proofs.Sounding.{start-on}
 use Rattle.report.proofs.Ranges.{start-in-range}
 
@@ -55,12 +55,12 @@ EachAllowed o = Each Allowed (o .questions)
 -- Whatever the template, the section, the store, the read list and the output are.
 pub questions-allowed : (t name b : List ℕ) (n places room : ℕ) → EachAllowed (reportOf t name b n places room)
 unfolding reportOf checkedOutcome
-questions-allowed t name b n places room = by (isHeld (held b n))
+questions-allowed t name b n places room = by (holdsCells (cellsHeld b n))
   where
     checked : (k : Checked) → templateChecked t name ≡ k → EachAllowed (checkedOutcome t (answers b n) places room k)
     checked (Accepted r) e = asks-run AnswerWithin Allowed (answers b n) (answers-within b n) places room (runMeaning t r) (run-asks 50000 t (r .end) 1 (startOf r) 0 (accepted-runs t name r e .inside) (omega arith) (start-on t name r e) (start-in-range r))
     checked (Refused e l) i = tt
 
-    by : (f : Bool) → EachAllowed (cond f (checkedOutcome t (answers b n) places room (templateChecked t name)) (refusedWith BadStore 0))
+    by : (f : Bool) → EachAllowed (cond f (checkedOutcome t (answers b n) places room (templateChecked t name)) (refusedReport BadStore 0))
     by true = checked (templateChecked t name) refl
     by false = tt

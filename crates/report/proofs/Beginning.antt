@@ -8,7 +8,7 @@ use Rattle.template.specs.declared.Run.{Run}
 use Rattle.template.specs.declared.Checked.{Checked}
 use Rattle.template.specs.declared.Checked.the-variants.{Accepted, Refused}
 use Rattle.template.specs.Order.{templateChecked}
-use Rattle.cells.specs.Store.{held, isHeld}
+use Rattle.cells.specs.Store.{cellsHeld, holdsCells}
 use Rattle.cells.specs.inner.Index.{Indexes}
 use Rattle.cells.specs.declared.index.Indexed.{Indexed}
 use Rattle.cells.specs.declared.index.Indexed.the-variants.{Count, BadStore}
@@ -17,14 +17,14 @@ use Rattle.meaning.specs.Event.{joined}
 use Rattle.meaning.specs.declared.refusal.Refusal.{Refusal}
 use Rattle.meaning.specs.declared.refusal.Refusal.the-variants as refusal
 use Rattle.report.specs.declared.state.Stretch.{Stretch}
-use Rattle.report.specs.Report.{refusedWith, checkedOutcome, reportOf}
+use Rattle.report.specs.Report.{refusedReport, checkedOutcome, reportOf}
 use Rattle.report.specs.inner.Start.{startFlow, startSaved, refusedAt, startedAt}
 use Rattle.report.specs.inner.Begun.{Begun}
 use Rattle.report.proofs.Starting.{starts-at}
 use Rattle.report.proofs.Stored.{Serving, part-kept}
 
-module _ (t name b : List ℕ) (n places : ℕ) (p p′ : List ℕ) (x : Indexed) (y : Indexes p (held b n) p′ x) (r : Stretch) where
-  refused-begun : (e : Refusal) (l : ℕ) → ((room : ℕ) → reportOf t name b n places room ≡ refusedWith e l) → r ≡ refusedAt e l → Begun t name b n places p′ r
+module _ (t name b : List ℕ) (n places : ℕ) (p p′ : List ℕ) (x : Indexed) (y : Indexes p (cellsHeld b n) p′ x) (r : Stretch) where
+  refused-begun : (e : Refusal) (l : ℕ) → ((room : ℕ) → reportOf t name b n places room ≡ refusedReport e l) → r ≡ refusedAt e l → Begun t name b n places p′ r
   unfolding refusedAt joined
   refused-begun e l i j = subst (Begun t name b n places p′) (sym j) begun
     where
@@ -49,7 +49,7 @@ module _ (t name b : List ℕ) (n places : ℕ) (p p′ : List ℕ) (x : Indexed
 
   -- 1
   pub bad-store : x ≡ BadStore → r ≡ refusedAt refusal.BadStore 0 → Begun t name b n places p′ r
-  unfolding reportOf isHeld
+  unfolding reportOf holdsCells
   bad-store e j = refused-begun refusal.BadStore 0 (λ room. rw (not-held b n p p′ x y e)) j
 
   module _ (count : ℕ) (e : x ≡ Count count) (l : 5461 ≤ length p) (k : Checked) (c : k ≡ templateChecked t name) where
@@ -58,7 +58,7 @@ module _ (t name b : List ℕ) (n places : ℕ) (p p′ : List ℕ) (x : Indexed
 
     -- 2 to 6
     pub template-refused : (f : Refusal) (line : ℕ) → k ≡ Refused f line → r ≡ refusedAt f line → Begun t name b n places p′ r
-    unfolding reportOf isHeld checkedOutcome
+    unfolding reportOf holdsCells checkedOutcome
     template-refused f line i j = refused-begun f line (λ room. rw (indexed .holds, sym c ∙ i)) j
 
     pub may-start : (s : Run) → k ≡ Accepted s → r ≡ startedAt s n count places → Begun t name b n places p′ r

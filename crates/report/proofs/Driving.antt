@@ -7,11 +7,11 @@ use native.Mathlib.Omega.{arith}
 use native.Mathlib.Nat.{sub-zero}
 use lib.ListN.{length, take, replicate, length-map, length-replicate}
 use lib.Seq.{sets, length-sets}
-use Rattle.cells.specs.Store.{isHeld}
+use Rattle.cells.specs.Store.{holdsCells}
 use Rattle.meaning.specs.Answer.{Answer}
 use Rattle.meaning.specs.Tree.{End, finished, run}
 use Rattle.meaning.specs.Place.{Place, at, Does}
-use Rattle.meaning.specs.Number.{numberOf, lineOf, endOf}
+use Rattle.meaning.specs.Number.{numberOf, lineNamed, endOf}
 use Rattle.meaning.specs.Meaning.{Meaning}
 use Rattle.meaning.specs.declared.question.Question.{Question}
 use Rattle.meaning.specs.declared.refusal.Refusal.{Refusal}
@@ -63,7 +63,7 @@ end-number : (e : Ended) (s : State) → numberOf (endOf (tt {0}) e) ≡ numberO
 end-number Finished s = refl
 end-number (Halted h l) s = refl
 
-end-line : (e : Ended) (s : State) → lineOf (endOf (tt {0}) e) ≡ lineOf (endOf s e)
+end-line : (e : Ended) (s : State) → lineNamed (endOf (tt {0}) e) ≡ lineNamed (endOf s e)
 end-line Finished s = refl
 end-line (Halted h l) s = refl
 
@@ -71,12 +71,12 @@ report-same : {k k′ l l′ p p′ b b′ q q′ : ℕ} → k ≡ k′ → l �
 report-same x y z v w = rw (x, y, z, v, w)
 
 -- what a run from the start left behind
-handed : (source : Question → Answer) (tree : Meaning State) (T : List ℕ) (R : List Question) (T′ : List ℕ) (R′ : List Question) (r : Report) (s : State) (e : Ended) → r .number ≡ numberOf (endOf (tt {0}) e) → r .line ≡ lineOf (endOf (tt {0}) e)
+handed : (source : Question → Answer) (tree : Meaning State) (T : List ℕ) (R : List Question) (T′ : List ℕ) (R′ : List Question) (r : Report) (s : State) (e : Ended) → r .number ≡ numberOf (endOf (tt {0}) e) → r .line ≡ lineNamed (endOf (tt {0}) e)
     → Does source tree (at T 0 R 0 (length R) 1) (at T′ (r .bytes) R′ (r .questions) (length R) (r .pages)) (endOf s e) → HandsBack (ranTo (run source (length R) (length T) tree)) T R T′ R′ r
 handed source tree T R T′ R′ r s e i j d =
     let y = rw (sub-zero (length R), sub-zero (length T)) at (d .did) in
     record {
-      result = report-same (i ∙ end-number e s ∙ ap numberOf (y .end)) (j ∙ end-line e s ∙ ap lineOf (y .end)) (y .pages) (omega (arith, y .printed)) (omega (arith, y .asked));
+      result = report-same (i ∙ end-number e s ∙ ap numberOf (y .end)) (j ∙ end-line e s ∙ ap lineNamed (y .end)) (y .pages) (omega (arith, y .printed)) (omega (arith, y .asked));
       text = y .text;
       reads = y .log;
     }
@@ -97,7 +97,7 @@ module _ (t name b : List ℕ) (n : ℕ) (T₀ : List ℕ) (R₀ : List Question
       state-is = g .start m rows (sourceOf (storeOf (s .saved) b))
 
       accepted-as : reportOf t name b n (length R₀) (length T₀) ≡ ranTo (run source (length R₀) (length T₀) (runMeaning t (g .run m)))
-      unfolding reportOf isHeld checkedOutcome
+      unfolding reportOf holdsCells checkedOutcome
       accepted-as =
           let k = g .kept m in
           let h = sym (part-held b n (g .stored m)) ∙ k .ready .holds in

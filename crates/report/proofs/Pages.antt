@@ -12,7 +12,7 @@ use Rattle.template.specs.declared.Checked.{Checked}
 use Rattle.template.specs.declared.Checked.the-variants.{Accepted, Refused}
 use Rattle.template.specs.Order.{templateChecked}
 use Rattle.template.proofs.Accepted.{accepted-runs, Early, refused-early}
-use Rattle.cells.specs.Store.{held, isHeld}
+use Rattle.cells.specs.Store.{cellsHeld, holdsCells}
 use Rattle.meaning.specs.Answer.{Answer}
 use Rattle.meaning.specs.Each.{Each}
 use Rattle.meaning.specs.Event.{breaks, pageFrom, laterPages, pages}
@@ -29,7 +29,7 @@ use Rattle.control.specs.Line.{lineMeaning}
 use Rattle.pages.proofs.Counting.{counting, counted}
 use Rattle.executed_line.proofs.Sounds.{On, line-keeps}
 use Rattle.executed_line.proofs.Counting.{Counted, line-counts}
-use Rattle.report.specs.Report.{runFrom, startOf, runMeaning, Outcome, ranTo, refusedWith, checkedOutcome, reportOf}
+use Rattle.report.specs.Report.{runFrom, startOf, runMeaning, Outcome, ranTo, refusedReport, checkedOutcome, reportOf}
 use Rattle.report.specs.inner.Stretch.{stretch}
 use Rattle.report.proofs.Sounding.{start-on}
 
@@ -56,13 +56,13 @@ Sixty o = Each (λ page. length page ≤ 60) (pages (o .events))
 -- "A page holds 60 lines.": so for any template, section, store, read list and output
 pub pages-hold-60 : (t name b : List ℕ) (n places room : ℕ) → Sixty (reportOf t name b n places room)
 unfolding reportOf checkedOutcome pages pageFrom laterPages
-pages-hold-60 t name b n places room = by (isHeld (held b n))
+pages-hold-60 t name b n places room = by (holdsCells (cellsHeld b n))
   where
     checked : (k : Checked) → templateChecked t name ≡ k → Sixty (checkedOutcome t (answers b n) places room k)
     checked (Accepted r) e = keeps-pages 60 (answers b n) places room (runMeaning t r) Any (run-keeps 50000 t (r .end) 1 (startOf r) 0 (accepted-runs t name r e .inside) (start-on t name r e))
     checked (Refused e l) i = (omega arith, tt)
 
-    by : (f : Bool) → Sixty (cond f (checkedOutcome t (answers b n) places room (templateChecked t name)) (refusedWith BadStore 0))
+    by : (f : Bool) → Sixty (cond f (checkedOutcome t (answers b n) places room (templateChecked t name)) (refusedReport BadStore 0))
     by true = checked (templateChecked t name) refl
     by false = (omega arith, tt)
 
@@ -72,13 +72,13 @@ Paged o = (1 ≤ o .number → o .number ≤ 6 → ⊥) → o .pages ≡ length 
 -- where a report doesn't end in 1–6, the pages that it reports are those of its events
 pub pages-reported : (t name b : List ℕ) (n places room : ℕ) → Paged (reportOf t name b n places room)
 unfolding reportOf checkedOutcome
-pages-reported t name b n places room = by (isHeld (held b n))
+pages-reported t name b n places room = by (holdsCells (cellsHeld b n))
   where
     checked : (k : Checked) → Early k → Paged (checkedOutcome t (answers b n) places room k)
     checked (Accepted r) e h = sym (page-count (run (answers b n) places room (runMeaning t r) .events))
     checked (Refused e l) i h = absurd (h (omega (arith, i .0)) (i .1))
 
-    by : (f : Bool) → Paged (cond f (checkedOutcome t (answers b n) places room (templateChecked t name)) (refusedWith BadStore 0))
+    by : (f : Bool) → Paged (cond f (checkedOutcome t (answers b n) places room (templateChecked t name)) (refusedReport BadStore 0))
     by true h = checked (templateChecked t name) (refused-early t name) h
     by false h = absurd (h (omega arith) (omega arith))
 

@@ -8,8 +8,8 @@ use lib.ListN.{length, take}
 use Rattle.template.specs.declared.Checked.{Checked}
 use Rattle.template.specs.declared.Checked.the-variants.{Accepted, Refused}
 use Rattle.template.specs.Order.{templateChecked}
-use Rattle.history.specs.State as history
-use Rattle.history.specs.State.{inForm, answerIn, AsBefore}
+use Rattle.history.specs.LentStore as history
+use Rattle.history.specs.LentStore.{inForm, answerIn, AsBefore}
 use Rattle.history.specs.Change.{Change}
 use Rattle.history.specs.History.{after}
 use Rattle.history.proofs.Lists.{same-form}
@@ -21,16 +21,16 @@ use Rattle.meaning.proofs.Doing.{filled}
 use Rattle.meaning.proofs.Runs.{asked-fits, text-fits}
 use Rattle.values.specs.Source.{answers}
 use Rattle.report.specs.declared.Report.{Report}
-use Rattle.report.specs.Report.{runMeaning, Outcome, textIn, refusedWith, ranTo, checkedOutcome, reportOf, reportIn}
+use Rattle.report.specs.Report.{runMeaning, Outcome, textIn, refusedReport, ranTo, checkedOutcome, reportOf, reportIn}
 use Rattle.report.specs.Reported.{HandsBack, Reported}
 
 -- the report on a store
-abbrev pub reportOn : List ℕ → List ℕ → ℕ → ℕ → history.State → Outcome
+abbrev pub reportOn : List ℕ → List ℕ → ℕ → ℕ → history.LentStore → Outcome
 reportOn t name places room m = reportOf t name (m .buffer) (m .length) places room
 
 -- "one claim about the whole list of edits, the empty list included", from a store of any bytes: where each question of the
 -- first report's read list is answered as before, the second report is the first
-pub reprint : (t name : List ℕ) (places room : ℕ) (es : List Change) (m : history.State)
+pub reprint : (t name : List ℕ) (places room : ℕ) (es : List Change) (m : history.LentStore)
     → AsBefore m (after es m) (reportOn t name places room m .questions)
     → reportOn t name places room (after es m) ≡ reportOn t name places room m
 unfolding reportOf checkedOutcome
@@ -42,8 +42,8 @@ reprint t name places room es m h = by (inForm m) (inForm (after es m)) (same-fo
     checked (Accepted r) h = ap ranTo (sym (same-run es m places room (runMeaning t r) h))
     checked (Refused e l) h = refl
 
-    by : (f f′ : Bool) → f′ ≡ f → AsBefore m (after es m) (cond f (checkedOutcome t (answerIn m) places room (templateChecked t name)) (refusedWith BadStore 0) .questions)
-        → cond f′ (checkedOutcome t (answerIn (after es m)) places room (templateChecked t name)) (refusedWith BadStore 0) ≡ cond f (checkedOutcome t (answerIn m) places room (templateChecked t name)) (refusedWith BadStore 0)
+    by : (f f′ : Bool) → f′ ≡ f → AsBefore m (after es m) (cond f (checkedOutcome t (answerIn m) places room (templateChecked t name)) (refusedReport BadStore 0) .questions)
+        → cond f′ (checkedOutcome t (answerIn (after es m)) places room (templateChecked t name)) (refusedReport BadStore 0) ≡ cond f (checkedOutcome t (answerIn m) places room (templateChecked t name)) (refusedReport BadStore 0)
     by true f′ e h = rw e (checked (templateChecked t name) h)
     by false f′ e h = rw e
 
@@ -62,7 +62,7 @@ report-fits t name b n places room = by (inForm (record { buffer = b; length = n
     checked (Accepted r) = record { asked = asked-fits (answers b n) places room (runMeaning t r); printed = text-fits (answers b n) places room (runMeaning t r) }
     checked (Refused e l) = record { asked = omega arith; printed = omega arith }
 
-    by : (f : Bool) → Fits (cond f (checkedOutcome t (answers b n) places room (templateChecked t name)) (refusedWith BadStore 0)) places room
+    by : (f : Bool) → Fits (cond f (checkedOutcome t (answers b n) places room (templateChecked t name)) (refusedReport BadStore 0)) places room
     by true = checked (templateChecked t name)
     by false = record { asked = omega arith; printed = omega arith }
 
@@ -97,7 +97,7 @@ same-outcome o o′ e T R T′ R′ r h f S Q T″ R″ r′ h′ f′ = record 
 -- "the first run, every edit and the second run are handed one store in the same buffer, at the length last handed back";
 -- "Both runs are lent text buffers equally long and read lists with equally many places, whatever these held"; each question
 -- that the first call listed is answered as before
-pub reprinted : (t name : List ℕ) (es : List Change) (m : history.State)
+pub reprinted : (t name : List ℕ) (es : List Change) (m : history.LentStore)
     (T : List ℕ) (R : List Question) (T′ : List ℕ) (R′ : List Question) (r : Report) → Reported t name (m .buffer) (m .length) T R T′ R′ r
     → AsBefore m (after es m) (take (r .questions) R′)
     → (S : List ℕ) (Q : List Question) (T″ : List ℕ) (R″ : List Question) (r′ : Report) → length S ≡ length T → length Q ≡ length R

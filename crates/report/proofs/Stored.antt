@@ -8,7 +8,7 @@ use borrow.Author.Tests.{le-leb}
 use lib.ListN.{length, take}
 use lib.Seq.{take-all, length-take-le, getD-take}
 use Rattle.cells.specs.Cell.{Cell}
-use Rattle.cells.specs.Store.{held, cells}
+use Rattle.cells.specs.Store.{cellsHeld, cells}
 use Rattle.cells.specs.Asking.{replied, askOf}
 use Rattle.cells.specs.inner.Index as I
 use Rattle.cells.specs.declared.index.Indexed.{Indexed}
@@ -24,8 +24,8 @@ module _ (b : List ℕ) (n : ℕ) (h : n ≤ length b) where
   part-long : length (take n b) ≡ n
   part-long = length-take-le n b h
 
-  pub part-held : held (take n b) (length (take n b)) ≡ held b n
-  unfolding held
+  pub part-held : cellsHeld (take n b) (length (take n b)) ≡ cellsHeld b n
+  unfolding cellsHeld
   part-held = rw (part-long, take-all n (take n b) (omega (arith, part-long)), le-leb n n (omega arith), le-leb n (length b) h)
 
   pub part-answers : _≡_ {A = Question → Answer} (sourceOf (take n b)) (answers b n)
@@ -39,15 +39,15 @@ pub record Serving (b : List ℕ) (n : ℕ) (index : List ℕ) (count : ℕ) : T
   pub stored : n ≤ length b
   pub short : n ≤ 65536
   pub cells : List Cell
-  pub holds : held b n ≡ some cells
+  pub holds : cellsHeld b n ≡ some cells
 
-pub part-kept : (b : List ℕ) (n : ℕ) (p p′ : List ℕ) (r : Indexed) → I.Indexes p (held b n) p′ r → (count : ℕ) → r ≡ Count count → 5461 ≤ length p → Serving b n p′ count
+pub part-kept : (b : List ℕ) (n : ℕ) (p p′ : List ℕ) (r : Indexed) → I.Indexes p (cellsHeld b n) p′ r → (count : ℕ) → r ≡ Count count → 5461 ≤ length p → Serving b n p′ count
 part-kept b n p p′ r i count e l =
     let g = index-ready b n p p′ r i count e l in
     let x = held-some b n (g .0) (g .1 .holds) in
     let m : length (take count p′) ≡ count = length-take-le count p′ (g .1 .room) in
     record {
-      kept = record { cells = g .0; ready = record { holds = part-held b n (x .inside) ∙ g .1 .holds; tally = m ∙ g .1 .tally; room = omega arith; places = λ j q. let w : j < count = omega (arith, m) in getD-take count p′ j 0 w ∙ g .1 .places j w } };
+      kept = record { cells = g .0; ready = record { holds = part-held b n (x .inside) ∙ g .1 .holds; tally = m ∙ g .1 .tally; room = omega arith; starts = λ j q. let w : j < count = omega (arith, m) in getD-take count p′ j 0 w ∙ g .1 .starts j w } };
       counted = g .1 .room;
       stored = x .inside;
       short = x .most;

@@ -253,11 +253,11 @@ module _ (t b index T : List ℕ) (rows : List (List ℕ)) (s : Stretch) (r : Ru
           line-done : Does source (lineMeaning t (stateAt (storeOf v b) h f)) here there (finished (stateAt (storeOf v b) h′ (o .flow)))
           line-done = rw y at (d .does)
 
-          on-now : On t (50001 - left) (stateAt (storeOf v b) h f) (f .page .line - 1)
+          on-now : On t (50001 - left) (stateAt (storeOf v b) h f) (f .page .row - 1)
           on-now = record { sound = g .standing .sound; next = omega (arith, g .standing .sound .first-row) }
 
           on-next : (c : ℕ) × On t (50001 - left + 1) (stateAt (storeOf v b) h′ (o .flow)) c
-          on-next = yields (pageLimit 60) (f .page .line - 1) (On t (50001 - left + 1)) line-done (line-keeps on-now within)
+          on-next = yields (pageLimit 60) (f .page .row - 1) (On t (50001 - left + 1)) line-done (line-keeps on-now within)
 
           stands : Standing t (left - 1) (stateAt (storeOf v b) h′ (o .flow))
           stands =

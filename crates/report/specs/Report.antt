@@ -8,12 +8,12 @@ use Rattle.template.specs.declared.Run.{Run}
 use Rattle.template.specs.declared.Checked.{Checked}
 use Rattle.template.specs.declared.Checked.the-variants.{Accepted, Refused}
 use Rattle.template.specs.Order.{templateChecked}
-use Rattle.cells.specs.Store.{held, isHeld}
+use Rattle.cells.specs.Store.{cellsHeld, holdsCells}
 use Rattle.meaning.specs.Answer.{Answer}
 use Rattle.meaning.specs.Event.{Event, joined, breaks}
 use Rattle.meaning.specs.Tree as tree
 use Rattle.meaning.specs.Tree.{done, stop, bind, run}
-use Rattle.meaning.specs.Number.{refusalNumber, numberOf, lineOf}
+use Rattle.meaning.specs.Number.{refusalNumber, numberOf, lineNamed}
 use Rattle.meaning.specs.Meaning.{Meaning}
 use Rattle.meaning.specs.declared.question.Question.{Question}
 use Rattle.meaning.specs.declared.refusal.Refusal.{Refusal}
@@ -59,24 +59,24 @@ abbrev pub textIn : Outcome → List ℕ
 textIn o = joined (o .events)
 
 -- "A report ending in 1–6 gives pages, text bytes and questions 0"
-abbrev pub refusedWith : Refusal → ℕ → Outcome
-refusedWith e l = record { number = refusalNumber e; line = l; pages = 0; events = []; questions = [] }
+abbrev pub refusedReport : Refusal → ℕ → Outcome
+refusedReport e l = record { number = refusalNumber e; line = l; pages = 0; events = []; questions = [] }
 
 -- "Otherwise text printed, questions asked and pages (PAGENUM at the end) stand": PAGENUM starts at 1, and a break adds 1
--- (report/proofs/Pages:pages-are-pagenum)
+-- (demands/proofs/Ending:pages-at-the-end)
 abbrev pub ranTo : {A : Type 0} → tree.Run Question Refusal ℕ A → Outcome
-ranTo x = record { number = numberOf (x .end); line = lineOf (x .end); pages = 1 + breaks (x .events); events = x .events; questions = x .asked }
+ranTo x = record { number = numberOf (x .end); line = lineNamed (x .end); pages = 1 + breaks (x .events); events = x .events; questions = x .asked }
 
 -- checks 2 to 6, then the run
 unfoldable pub checkedOutcome : List ℕ → (Question → Answer) → ℕ → ℕ → Checked → Outcome
 checkedOutcome t source places room (Accepted r) = ranTo (run source places room (runMeaning t r))
-checkedOutcome t source places room (Refused e l) = refusedWith e l
+checkedOutcome t source places room (Refused e l) = refusedReport e l
 
 -- the report of template t and the caller's section name on the first n bytes of b, with so many places on the read list and
 -- so many bytes of text; check 1 comes first
 unfoldable pub reportOf : List ℕ → List ℕ → List ℕ → ℕ → ℕ → ℕ → Outcome
 reportOf t name b n places room =
-    cond (isHeld (held b n)) (checkedOutcome t (answers b n) places room (templateChecked t name)) (refusedWith BadStore 0)
+    cond (holdsCells (cellsHeld b n)) (checkedOutcome t (answers b n) places room (templateChecked t name)) (refusedReport BadStore 0)
 
 -- what the code hands back
 abbrev pub reportIn : Outcome → Report

@@ -30,34 +30,34 @@ use Rattle.lines.specs.readers.Compare.{compareAt}
 use Rattle.lines.specs.readers.Set.{stringTarget, targetOf, setAt}
 use Rattle.lines.specs.readers.Title.{nameAt, sectionAt}
 use Rattle.lines.specs.readers.Command.{commands, parseLine}
-use Rattle.nesting.specs.Nest.{allClosed, inSection, sectionBegun, tableEnded as nestingTableEnded, tables, testEnded, testTurned, tests, behind}
+use Rattle.nesting.specs.Nest.{allClosed, inSection, sectionBegun, tableEnded, tables, testEnded, testTurned, tests, behind}
 use Rattle.template.specs.Name.{nameOf}
-use Rattle.cells.specs.Store.{above, rising, ordered, before as cellsBefore, cellRun as cellsRun, cells, held, isHeld}
+use Rattle.cells.specs.Store.{above, rising, ordered, before as cellsBefore, cellRun, cells, cellsHeld, holdsCells}
 use Rattle.meaning.specs.Event.{breaks, joined}
 use Rattle.meaning.specs.Tree.{run as meaningRun}
-use Rattle.template.specs.Seek.{atMost, orSkip, past, amongTables, amongTests, atElse, roleOf, skipFrom, skipped}
+use Rattle.template.specs.Seek.{cutTo, orSkip, wayPast, amongTables, amongTests, atElse, roleOf, skipFrom, skipped}
 use Rattle.template.specs.Lines.{linesWithin, linesOf}
 use Rattle.template.specs.Shape.{shapeWords, wordShape, hasForm, shapeIn, shapeOf, isFormed}
 use Rattle.template.specs.Verdicts.{firstFault, lineAllowed, bytesCheck}
 use Rattle.template.specs.Checks.{formCheck, nameEnd, hasName, cameBefore, nameStep, nameCheck, nestEnd, nestStep, nestCheck}
 use Rattle.template.specs.Walk.{orElse, walk}
 use Rattle.template.specs.Order.{acceptedRun, sectionChecked, unlessFault, namesChecked, nestingChecked, formsChecked, templateChecked}
-use Rattle.template.specs.Sections.{endAt, selects, sectionFrom, sectionEnd, runFrom as templateRunFrom, selected}
+use Rattle.template.specs.Sections.{endAt, selects, sectionFrom, sectionEnd, selectionFrom, selected}
 use Rattle.template.specs.Rows.{lines}
 use Rattle.values.specs.Letters.{upper, alike}
 use Rattle.values.specs.Machine.{numbered, setNumbered}
-use Rattle.values.specs.Worth.{ranged, absolute, filteredNumber, filteredString, filtered, kindOf as valuesKindOf}
+use Rattle.values.specs.Worth.{ranged, absolute, filteredNumber, filteredString, filtered, questionKind}
 use Rattle.values.specs.Meanings.{operandMeaning, argumentMeaning}
 use Rattle.commands.specs.Looping.{begun, beginMeaning, exceeds, counting, counted, endMeaning, loop}
 use Rattle.commands.specs.Settling.{integerFrom, integerMeaning, resultOf, millionthsOf, quantityFrom, decimalFrom, stringFrom}
-use Rattle.commands.specs.Setting.{decimalOutcome, newFrom, integerOutcome, stored, stringNew, setOf, setMeaning}
+use Rattle.commands.specs.Setting.{decimalResult, newFrom, integerResult, asVariable, stringNew, setOf, setMeaning}
 use Rattle.commands.specs.Testing.{isMissing, ofNumbers, ofStrings, compared, testMeaning, zeroTest, zeroJudged, zeroMeaning, judged}
 use Rattle.texts.specs.Pieces.{read, piecesOf}
 use Rattle.pages.specs.Text.{textMeaning}
-use Rattle.pages.specs.Shown.{orStars, placesIn, valueOf as pagesValueOf, fieldBytes}
-use Rattle.pages.specs.Page.{sayMeaning, highestOf as pagesHighestOf, topMeaning, breakMeaning, turnMeaning, lineStep}
-use Rattle.control.specs.Line.{breaking, breakingFor, newPageMeaning, tableBegun, tableEnded as executionTableEnded, branched, formMeaning, lineMeaning}
-use Rattle.report.specs.Report.{runFrom as reportRunFrom, checkedOutcome, reportOf, Outcome, textIn, reportIn}
+use Rattle.pages.specs.Shown.{orStars, placesIn, shownValue, fieldBytes}
+use Rattle.pages.specs.Page.{sayMeaning, highestDefined, topMeaning, breakMeaning, turnMeaning, lineStep}
+use Rattle.control.specs.Line.{breaking, breakingFor, newPageMeaning, tableBegun, tableCounted, branched, formMeaning, lineMeaning}
+use Rattle.report.specs.Report.{runFrom, checkedOutcome, reportOf, Outcome, textIn, reportIn}
 use Rattle.report.specs.declared.Report.{Report}
 
 -- what a report hands back, and its text
@@ -123,5 +123,5 @@ rows =
     ∷ []
 
 pub rows-hold : map (λ (r : Row). r .computed) rows ≡ map (λ (r : Row). r .expected) rows
-unfolding rows above rising ordered cellsBefore cellsRun cells held within breaks meaningRun begun beginMeaning exceeds counting counted endMeaning loop checked absoluteOf numbersInMillionths operands decimalProduct dividedBy decimalQuotient integerProduct integerQuotient ranged absolute filteredNumber filteredString filtered valuesKindOf upper alike operandMeaning argumentMeaning numbered integerFrom integerMeaning resultOf millionthsOf quantityFrom decimalFrom stringFrom setNumbered decimalOutcome newFrom integerOutcome stored stringNew setOf setMeaning atMost orSkip past amongTables amongTests atElse roleOf skipFrom skipped belongs span linesWithin linesOf byteAt allAllowed scanBegins standsAt scanFirstOf shapeWords wordShape hasForm shapeIn shapeOf isFormed read piecesOf textMeaning textsBefore placesAt textsPlacesOf widthNext textsFieldOf fieldAt placed pieceAt piecesWithin textPieces widthOf totalWidth fitsBehind textFits admits filteredAt filters argumentOf argumentAt valueFrom digitsAt numberAt argumentsInMillionths fractionAt unsignedAt literalAt numberedOf numberedAt wholeAt names namedAt numberOr stringAt operandAt leftIn negative fieldsPlacesOf minus rightIn fraction fieldsUnsigned roundedField shown widthAllowed fieldsFieldOf countWithin digitCount digits rounded roundedTo orStars placesIn pagesValueOf fieldBytes sayMeaning pagesHighestOf topMeaning breakMeaning turnMeaning lineStep breaking breakingFor newPageMeaning tableBegun executionTableEnded branched formMeaning lineMeaning opposed isMissing ofNumbers ofStrings compared testMeaning zeroTest zeroJudged zeroMeaning bareAt optionalAt singleAt behindSpace compareAt stringTarget targetOf setAt nameAt sectionAt commands parseLine reportRunFrom checkedOutcome reportOf isHeld firstFault lineAllowed bytesCheck formCheck nameEnd hasName cameBefore nameStep nameCheck nestEnd nestStep nestCheck nameOf orElse walk acceptedRun sectionChecked unlessFault namesChecked nestingChecked formsChecked templateChecked endAt selects sectionFrom sectionEnd templateRunFrom selected allClosed inSection sectionBegun nestingTableEnded tables testEnded testTurned tests behind joined lines judged
+unfolding rows above rising ordered cellsBefore cellRun cells cellsHeld within breaks meaningRun begun beginMeaning exceeds counting counted endMeaning loop checked absoluteOf numbersInMillionths operands decimalProduct dividedBy decimalQuotient integerProduct integerQuotient ranged absolute filteredNumber filteredString filtered questionKind upper alike operandMeaning argumentMeaning numbered integerFrom integerMeaning resultOf millionthsOf quantityFrom decimalFrom stringFrom setNumbered decimalResult newFrom integerResult asVariable stringNew setOf setMeaning cutTo orSkip wayPast amongTables amongTests atElse roleOf skipFrom skipped belongs span linesWithin linesOf byteAt allAllowed scanBegins standsAt scanFirstOf shapeWords wordShape hasForm shapeIn shapeOf isFormed read piecesOf textMeaning textsBefore placesAt textsPlacesOf widthNext textsFieldOf fieldAt placed pieceAt piecesWithin textPieces widthOf totalWidth fitsBehind textFits admits filteredAt filters argumentOf argumentAt valueFrom digitsAt numberAt argumentsInMillionths fractionAt unsignedAt literalAt numberedOf numberedAt wholeAt names namedAt numberOr stringAt operandAt leftIn negative fieldsPlacesOf minus rightIn fraction fieldsUnsigned roundedField shown widthAllowed fieldsFieldOf countWithin digitCount digits rounded roundedTo orStars placesIn shownValue fieldBytes sayMeaning highestDefined topMeaning breakMeaning turnMeaning lineStep breaking breakingFor newPageMeaning tableBegun tableCounted branched formMeaning lineMeaning opposed isMissing ofNumbers ofStrings compared testMeaning zeroTest zeroJudged zeroMeaning bareAt optionalAt singleAt behindSpace compareAt stringTarget targetOf setAt nameAt sectionAt commands parseLine runFrom checkedOutcome reportOf holdsCells firstFault lineAllowed bytesCheck formCheck nameEnd hasName cameBefore nameStep nameCheck nestEnd nestStep nestCheck nameOf orElse walk acceptedRun sectionChecked unlessFault namesChecked nestingChecked formsChecked templateChecked endAt selects sectionFrom sectionEnd selectionFrom selected allClosed inSection sectionBegun tableEnded tables testEnded testTurned tests behind joined lines judged
 rows-hold = refl

@@ -18,10 +18,10 @@ use Rattle.station.specs.Answers.{ToldParts}
 pub record Listing : Type 0 where
   pub number : ℕ
   pub count : ℕ
-  pub places : List ℕ
+  pub starts : List ℕ
 
 abbrev pub listing : ℕ → ℕ → List ℕ → Listing
-listing r n i = record { number = r; count = n; places = i }
+listing r n i = record { number = r; count = n; starts = i }
 
 -- 1 for a store out of form, 16 for fewer places than cells, and then all is left as it was; else 0, the number of the cells, and
 -- the place of each
@@ -30,5 +30,5 @@ listed i n none = listing 1 n i
 listed i n (some cs) = cond (ltb (length i) (length cs)) (listing 16 n i) (listing 0 (length cs) (sets i 0 (offsets 0 cs)))
 
 -- over the index of a store in form, the answer of its cells
-pub record ToldLookUp (b places : List ℕ) (count : ℕ) (q : Question) (k : ℕ) (v : ℤ) (i n : ℕ) : Type 0 where
-  pub answer : (len : ℕ) (cs : List Cell) → Ready b len places count cs → ToldParts (handed (stringStart q (some cs)) (cond (questionAllowed q) (answer q cs) missing)) k v i n
+pub record ToldLookUp (b starts : List ℕ) (count : ℕ) (q : Question) (k : ℕ) (v : ℤ) (i n : ℕ) : Type 0 where
+  pub answer : (len : ℕ) (cs : List Cell) → Ready b len starts count cs → ToldParts (handed (stringStart q (some cs)) (cond (questionAllowed q) (answer q cs) missing)) k v i n

@@ -3,14 +3,14 @@ use numbers::Number;
 use numbers::Quantity;
 use numbers::Rounded;
 ghost use mathlib.Core.Path.{_≡_};
-ghost use Rattle.numbers.specs.Outcome.{outcome};
+ghost use Rattle.numbers.specs.Result.{resultIn};
 ghost use Rattle.numbers.specs.Parts.{wholeOf};
 ghost use Rattle.numbers.specs.Places.{roundedTo};
-ghost use Rattle.station_testing.specs.Codes.{onIntegers, onDecimals, onOne, quantityOf, compared, Told, ToldUnits};
+ghost use Rattle.station_testing.specs.Codes.{onIntegers, onDecimals, onOne, quantityOf, comparedBy, Told, ToldUnits};
 
 // The number of a calculation; its value, where there is one, goes to `result`.
 fn hand_back(n: Number, result: &mut i64) -> u32
-    ensures { λ r. ⌜ Told (outcome n) (now (result .entry)) (now (result .exit)) r ⌝ }
+    ensures { λ r. ⌜ Told (resultIn n) (now (result .entry)) (now (result .exit)) r ⌝ }
 {
     match n {
         Number::Value(z) => {
@@ -23,7 +23,7 @@ fn hand_back(n: Number, result: &mut i64) -> u32
 }
 
 fn of_integers(operation: u32, a: i64, b: i64) -> Number
-    ensures { λ r. ⌜ outcome r ≡ onIntegers operation a b ⌝ }
+    ensures { λ r. ⌜ resultIn r ≡ onIntegers operation a b ⌝ }
 {
     if operation == 0 {
         return numbers::integer::add(a, b);
@@ -38,7 +38,7 @@ fn of_integers(operation: u32, a: i64, b: i64) -> Number
 }
 
 fn of_decimals(operation: u32, a: i64, b: i64) -> Number
-    ensures { λ r. ⌜ outcome r ≡ onDecimals operation a b ⌝ }
+    ensures { λ r. ⌜ resultIn r ≡ onDecimals operation a b ⌝ }
 {
     if operation == 0 {
         return numbers::decimal::add(a, b);
@@ -53,7 +53,7 @@ fn of_decimals(operation: u32, a: i64, b: i64) -> Number
 }
 
 fn of_one(operation: u32, a: i64) -> Number
-    ensures { λ r. ⌜ outcome r ≡ onOne operation a ⌝ }
+    ensures { λ r. ⌜ resultIn r ≡ onOne operation a ⌝ }
 {
     if operation == 0 {
         return numbers::integer::absolute(a);
@@ -96,7 +96,7 @@ pub fn quantity(kind: u8, n: i64) -> Quantity
 }
 
 fn compare(test: u32, p: Quantity, q: Quantity) -> bool
-    ensures { λ r. ⌜ r ≡ compared test p q ⌝ }
+    ensures { λ r. ⌜ r ≡ comparedBy test p q ⌝ }
 {
     if test == 0 {
         return numbers::order::less(p, q);
@@ -109,7 +109,7 @@ fn compare(test: u32, p: Quantity, q: Quantity) -> bool
 
 #[no_mangle]
 pub extern "C" fn station_compare(test: u32, kind: u8, a: i64, other: u8, b: i64) -> bool
-    ensures { λ r. ⌜ r ≡ compared test (quantityOf kind a) (quantityOf other b) ⌝ }
+    ensures { λ r. ⌜ r ≡ comparedBy test (quantityOf kind a) (quantityOf other b) ⌝ }
 {
     compare(test, quantity(kind, a), quantity(other, b))
 }

@@ -6,17 +6,17 @@ ghost use mathlib.Core.Path.{_≡_};
 ghost use Prim.Native.Nat.{_≤_};
 ghost use lib.ListN.{length};
 ghost use lib.Seq.{sets};
-ghost use Rattle.cells.specs.Store.{held};
+ghost use Rattle.cells.specs.Store.{cellsHeld};
 ghost use Rattle.station.specs.Answers.{questionOf};
 ghost use Rattle.station_testing.specs.Index.{listing, listed, ToldLookUp};
 
-fn copy_in(places: &mut [u16], found: &[u16])
-    requires { ⌜ length (now found) ≤ length (now places) ⌝ }
-    ensures { λ _. ⌜ now (places .exit) ≡ sets (now (places .entry)) 0 (now (found .entry)) ⌝ }
+fn copy_in(starts: &mut [u16], found: &[u16])
+    requires { ⌜ length (now found) ≤ length (now starts) ⌝ }
+    ensures { λ _. ⌜ now (starts .exit) ≡ sets (now (starts .entry)) 0 (now (found .entry)) ⌝ }
 {
     let mut j = 0;
     while j < found.len() {
-        places[j] = found[j];
+        starts[j] = found[j];
         j += 1;
     }
 }
@@ -26,19 +26,19 @@ fn copy_in(places: &mut [u16], found: &[u16])
 pub extern "C" fn station_index(
     buffer: &[u8],
     length: usize,
-    places: &mut [u16],
+    starts: &mut [u16],
     count: &mut usize,
 ) -> u32
-    ensures { λ r. ⌜ listing r (now (count .exit)) (now (places .exit)) ≡ listed (now (places .entry)) (now (count .entry)) (held (now (buffer .entry)) length) ⌝ }
+    ensures { λ r. ⌜ listing r (now (count .exit)) (now (starts .exit)) ≡ listed (now (starts .entry)) (now (count .entry)) (cellsHeld (now (buffer .entry)) length) ⌝ }
 {
     let mut found = [0u16; 5461];
     let Indexed::Count(n) = cells::index::build(buffer, length, &mut found) else {
         return 1;
     };
-    if places.len() < n {
+    if starts.len() < n {
         return 16;
     }
-    copy_in(places, &found[0..n]);
+    copy_in(starts, &found[0..n]);
     *count = n;
     0
 }
@@ -47,7 +47,7 @@ pub extern "C" fn station_index(
 #[no_mangle]
 pub extern "C" fn station_look_up(
     buffer: &[u8],
-    places: &[u16],
+    starts: &[u16],
     known: usize,
     kind: u32,
     datasource: u32,
@@ -59,7 +59,7 @@ pub extern "C" fn station_look_up(
     place: &mut usize,
     count: &mut usize,
 )
-    ensures { λ _. ⌜ ToldLookUp (now (buffer .entry)) (now (places .entry)) known (questionOf kind datasource parameter item entry) (now (answered .exit)) (now (value .exit)) (now (place .exit)) (now (count .exit)) ⌝ }
+    ensures { λ _. ⌜ ToldLookUp (now (buffer .entry)) (now (starts .entry)) known (questionOf kind datasource parameter item entry) (now (answered .exit)) (now (value .exit)) (now (place .exit)) (now (count .exit)) ⌝ }
 {
     let question = Question {
         kind: kind,
@@ -68,6 +68,6 @@ pub extern "C" fn station_look_up(
         record: item,
         entry: entry,
     };
-    let answer = cells::question::answer(buffer, places, known, question);
+    let answer = cells::question::answer(buffer, starts, known, question);
     question::hand_answer(answer, answered, value, place, count);
 }

@@ -16,7 +16,7 @@ use Rattle.cells.specs.declared.index.Indexed.the-variants.{Count, BadStore}
 use Rattle.cells.specs.declared.request.Request.{Request}
 use Rattle.cells.specs.declared.request.Request.the-variants as R
 use Rattle.cells.specs.Cell.{Key, Cell, number, keyNumber, cellBytes, wholeCell, wholeKey}
-use Rattle.cells.specs.Store.{encode, held}
+use Rattle.cells.specs.Store.{encode, cellsHeld}
 use Rattle.cells.specs.Asking.{lookup}
 use Rattle.cells.specs.inner.Index.{Indexes}
 use Rattle.cells.specs.inner.Request.{requested, requestedKey, CellAsked, KeyAsked}
@@ -92,7 +92,7 @@ encode-without k cs = encode-append (lower k cs) (higher k cs)
 pub record Putting (b : List ℕ) (n : ℕ) (s : List ℕ) (at size : ℕ) : Type 0 where
   pub cells : List Cell
   pub cell : Cell
-  pub holds : held b n ≡ some cells
+  pub holds : cellsHeld b n ≡ some cells
   pub whole : wholeCell s ≡ some cell
   pub inside : at + size ≤ n
   pub short : length s ≤ 25
@@ -101,7 +101,7 @@ pub record Putting (b : List ℕ) (n : ℕ) (s : List ℕ) (at size : ℕ) : Typ
   pub size-is : length (encode (with cell cells)) ≡ n - size + length s
   pub bytes : replaced b n at size s ≡ sets b 0 (encode (with cell cells) ++ replicate (n - length (encode (with cell cells))) 0)
 
-module _ (b : List ℕ) (n : ℕ) (p p′ : List ℕ) (r : Indexed) (i : Indexes p (held b n) p′ r) (s : List ℕ) where
+module _ (b : List ℕ) (n : ℕ) (p p′ : List ℕ) (r : Indexed) (i : Indexes p (cellsHeld b n) p′ r) (s : List ℕ) where
   pub put-bad-store : r ≡ BadStore → refusedEdit b n F.BadStore ≡ putOf b n s
   unfolding putOf checkedEdit
   put-bad-store e = rw (not-held b n p p′ r i e)

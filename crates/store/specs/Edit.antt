@@ -11,7 +11,7 @@ use Rattle.meaning.specs.declared.refusal.Refusal.the-variants.{BadStore, BadRe
 use Rattle.meaning.specs.declared.end.Ended.{Ended}
 use Rattle.meaning.specs.declared.end.Ended.the-variants.{Finished, Halted}
 use Rattle.cells.specs.Cell.{Key, Cell, number, keyNumber, wholeCell, wholeKey}
-use Rattle.cells.specs.Store.{capacity, encode, held}
+use Rattle.cells.specs.Store.{capacity, encode, cellsHeld}
 use Rattle.cells.specs.Asking.{refusedWith, lookup}
 use Rattle.store.specs.declared.Edited.{Edited}
 
@@ -95,10 +95,10 @@ checkedEdit b n f (some cs) = writtenOut b n (f cs)
 
 -- put and remove, on a buffer and a length, with the bytes of a cell or a key
 unfoldable pub putOf : List ℕ → ℕ → List ℕ → Edit
-putOf b n s = checkedEdit b n (putOn (length b) (wholeCell s)) (held b n)
+putOf b n s = checkedEdit b n (putOn (length b) (wholeCell s)) (cellsHeld b n)
 
 unfoldable pub removeOf : List ℕ → ℕ → List ℕ → Edit
-removeOf b n s = checkedEdit b n (removeOn (wholeKey s)) (held b n)
+removeOf b n s = checkedEdit b n (removeOn (wholeKey s)) (cellsHeld b n)
 
 -- what a call handed back, as an edit
 abbrev pub edit : Edited → List ℕ → Edit

@@ -7,8 +7,8 @@ use Rattle.meaning.specs.declared.refusal.Refusal.the-variants.{BadStore, BadRe
 use Rattle.meaning.specs.declared.end.Ended.the-variants.{Finished}
 use Rattle.numbers.specs.Range.{within}
 use Rattle.cells.specs.Bytes.{pair, quad, octet, pairAt, quadAt, octetAt, inComplement, fromComplement, begins, equalBytes}
-use Rattle.cells.specs.Cell.{between, keyAllowed, keyBytes, number, each, valueAllowed, cellAllowed, kindOf, valueBytes, cellBytes, keyAt, cellBy, cellOf, passing, front, wholeCell, wholeKey}
-use Rattle.cells.specs.Store.{encode, above, rising, before, cellRun, ordered, cells, held}
+use Rattle.cells.specs.Cell.{between, keyAllowed, keyBytes, number, each, valueAllowed, cellAllowed, kindByte, valueBytes, cellBytes, keyAt, cellBy, cellOf, passing, front, wholeCell, wholeKey}
+use Rattle.cells.specs.Store.{encode, above, rising, before, cellRun, ordered, cells, cellsHeld}
 use Rattle.cells.specs.Asking.{lookup}
 use Rattle.store.specs.Edit.{lower, higher, with, without, refusedEdit, written, fits, putOn, takenOut, removeOn, writtenBy, checkedEdit, putOf, removeOf}
 
@@ -62,7 +62,7 @@ unfolding
     each
     valueAllowed
     cellAllowed
-    kindOf
+    kindByte
     valueBytes
     cellBytes
     keyAt
@@ -79,7 +79,7 @@ unfolding
     cellRun
     ordered
     cells
-    held
+    cellsHeld
     lookup
     lower
     higher

@@ -31,14 +31,14 @@ pub struct Slot {
     pub size: usize,
 }
 
-fn locate(store: &[u8], len: usize, places: &[u16], count: usize, key: u64) -> Slot
-    ensures { λ r. ⌜ SlotOf (now (store .entry)) len (now (places .entry)) count key r ⌝ }
+fn locate(store: &[u8], len: usize, starts: &[u16], count: usize, key: u64) -> Slot
+    ensures { λ r. ⌜ SlotOf (now (store .entry)) len (now (starts .entry)) count key r ⌝ }
 {
-    let i = find::position(store, places, count, key);
+    let i = find::position(store, starts, count, key);
     if count <= i {
         return Slot { at: len, size: 0 };
     }
-    let at = find::place_of(places, i);
+    let at = find::place_of(starts, i);
     if find::has_key(store, at, key) {
         return Slot {
             at: at,
@@ -52,8 +52,8 @@ fn locate(store: &[u8], len: usize, places: &[u16], count: usize, key: u64) -> S
 pub fn put(store: &mut [u8], len: usize, cell: &[u8]) -> Edited
     ensures { λ r. ⌜ edit r (now (store .exit)) ≡ putOf (now (store .entry)) len (now (cell .entry)) ⌝ }
 {
-    let mut places = [0u16; 5461];
-    let Indexed::Count(count) = index::build(store, len, &mut places) else {
+    let mut starts = [0u16; 5461];
+    let Indexed::Count(count) = index::build(store, len, &mut starts) else {
         return Edited {
             length: len,
             end: Ended::Halted(Halt::Refused(Refusal::BadStore), 0),
@@ -65,7 +65,7 @@ pub fn put(store: &mut [u8], len: usize, cell: &[u8]) -> Edited
             end: Ended::Halted(Halt::Refused(Refusal::BadRequest), 0),
         };
     };
-    let found = locate(store, len, &places, count, key);
+    let found = locate(store, len, &starts, count, key);
     let at = found.at;
     let size = found.size;
     let end = len - size + cell.len();
@@ -92,8 +92,8 @@ pub fn put(store: &mut [u8], len: usize, cell: &[u8]) -> Edited
 pub fn remove(store: &mut [u8], len: usize, key: &[u8]) -> Edited
     ensures { λ r. ⌜ edit r (now (store .exit)) ≡ removeOf (now (store .entry)) len (now (key .entry)) ⌝ }
 {
-    let mut places = [0u16; 5461];
-    let Indexed::Count(count) = index::build(store, len, &mut places) else {
+    let mut starts = [0u16; 5461];
+    let Indexed::Count(count) = index::build(store, len, &mut starts) else {
         return Edited {
             length: len,
             end: Ended::Halted(Halt::Refused(Refusal::BadStore), 0),
@@ -105,7 +105,7 @@ pub fn remove(store: &mut [u8], len: usize, key: &[u8]) -> Edited
             end: Ended::Halted(Halt::Refused(Refusal::BadRequest), 0),
         };
     };
-    let found = locate(store, len, &places, count, number);
+    let found = locate(store, len, &starts, count, number);
     let at = found.at;
     let size = found.size;
     if size < 1 {

@@ -16,7 +16,7 @@ use Rattle.template.specs.declared.seek.Way.{Way}
 use Rattle.template.specs.declared.seek.Skip.{Skip}
 use Rattle.template.specs.Lines.{linesOf}
 use Rattle.template.specs.Checks.{nestStep}
-use Rattle.template.specs.Seek.{orSkip, skipFrom, atMost, skipped}
+use Rattle.template.specs.Seek.{orSkip, skipFrom, cutTo, skipped}
 use Rattle.template.specs.Opening.{Opens, Checks}
 use Rattle.template.proofs.LineLaws.{lines-more}
 use Rattle.template.proofs.Opening.{checks-short, opens-line, opens-next, open-inside, line-turn}
@@ -104,7 +104,7 @@ pub record Passes (q : Sought) (M W : List Mark) (s : List ℕ) (k : Skip) : Typ
 
 -- The same of the search as a run makes it, in the part of the template that starts there.
 pub skipped-is-match : {t : List ℕ} {M : List Mark} {at n : ℕ} → Checks t → (q : Sought) → Opens t at n (topOf q ∷ M) → Passes q M (topOf q ∷ M) (drop at t) (skipped (drop at t) q)
-unfolding skipped atMost
+unfolding skipped cutTo
 skipped-is-match {t} {M} {at} c q o =
     rw (le-ltb 32768 (length (drop at t)) (omega (arith, checks-short c, length-drop at t)))
     (cut (skipFrom q 0 0 0 (linesOf (drop at t))) (search-is-match c q o))

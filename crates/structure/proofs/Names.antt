@@ -13,7 +13,7 @@ use Rattle.meaning.specs.Each.{Each}
 use Rattle.scan.specs.Line.{lineAt, nextLine, window}
 use Rattle.scan.specs.Words.{begins}
 use Rattle.lines.specs.declared.command.Line.{Line}
-use Rattle.lines.specs.declared.command.Line.the-variants.{NoForm, Text, Section, Set, IfZero, IfNonZero, Compare, Else, EndIf, BeginTable, EndTable, Records, Entries, Datasource, NoFormFeed, NewPage, Heading, NoHeading, Remark}
+use Rattle.lines.specs.declared.command.Line.the-variants.{NoForm, Text, Section, Set, IfNot, If, Compare, Else, EndIf, BeginTable, EndTable, Records, Entries, Datasource, NoFormFeed, NewPage, Heading, NoHeading, Remark}
 use Rattle.lines.specs.readers.Command.{parseLine}
 use Rattle.lines.proofs.SectionLaws.{section-begins, begins-section}
 use Rattle.template.specs.Name as name
@@ -26,12 +26,12 @@ use Rattle.template.specs.Shape.{isFormed}
 use Rattle.template.specs.Verdicts.{firstFault}
 use Rattle.template.specs.Walk.{orElse, walk}
 use Rattle.template.specs.Checks.{formCheck, hasName, cameBefore, nameStep, nameEnd, nameCheck}
-use Rattle.template.specs.Sections.{selects, sectionFrom, sectionEnd, runFrom, selected}
+use Rattle.template.specs.Sections.{selects, sectionFrom, sectionEnd, selectionFrom, selected}
 use Rattle.template.proofs.LineLaws.{lines-none, lines-more}
 use Rattle.template.proofs.NameForm.{formed}
 use Rattle.grammar.specs.Line.{Spells, section}
 use Rattle.grammar.proofs.Lines.{reads-what-is-spelled}
-use Rattle.structure.specs.Sections.{nameIn, nameOf, isIn, repeatedFrom, isSection, isNamed, chooses, chosenFrom, chosenEnd, runOf, chosenRun}
+use Rattle.structure.specs.Sections.{nameIn, nameSpelled, isIn, repeatedFrom, isSection, isNamed, chooses, chosenFrom, chosenEnd, runOf, chosenRun}
 
 -- ---- one line
 
@@ -46,8 +46,8 @@ not-section l (Section a e) h = absurd (h a e refl)
 not-section l NoForm h = refl
 not-section l Text h = refl
 not-section l (Set o t a) h = refl
-not-section l (IfZero a) h = refl
-not-section l (IfNonZero a) h = refl
+not-section l (IfNot a) h = refl
+not-section l (If a) h = refl
 not-section l (Compare c a b) h = refl
 not-section l Else h = refl
 not-section l EndIf h = refl
@@ -68,19 +68,19 @@ section-long a e l (section n w) = omega (arith, w .enough)
 no-section : {a e : ℕ} → Section a e ≡ NoForm → ⊥
 no-section q = let z : _≡_ {A = ℕ} 0 1 = cc in omega arith
 
-named : (l : List ℕ) → parseLine l ≡ Section 5 (length l) → nameOf l ≡ some (window l 5 8)
+named : (l : List ℕ) → parseLine l ≡ Section 5 (length l) → nameSpelled l ≡ some (window l 5 8)
 unfolding nameIn
 named l p = ap (nameIn l) p ∙ ap (λ (x : List ℕ). some (take 8 x)) (take-all (length l - 5) (drop 5 l) (omega (arith, length-drop 5 l)))
 
-name-agrees : (l : List ℕ) → isFormed l ≡ true → Agrees (nameOf l) (name.nameOf l)
+name-agrees : (l : List ℕ) → isFormed l ≡ true → Agrees (nameSpelled l) (name.nameOf l)
 unfolding name.nameOf
 name-agrees l h = go (begins sectionWord l) refl
   where
-    go : (t : Bool) → begins sectionWord l ≡ t → Agrees (nameOf l) (cond t (window l 5 8) [])
+    go : (t : Bool) → begins sectionWord l ≡ t → Agrees (nameSpelled l) (cond t (window l 5 8) [])
     go true b =
         let p : parseLine l ≡ Section 5 (length l) = begins-section l b (formed l h) in
         let g = section-long 5 (length l) l (reads-what-is-spelled (Section 5 (length l)) l no-section .0 p) in
-        let n : nameOf l ≡ some (window l 5 8) = named l p in
+        let n : nameSpelled l ≡ some (window l 5 8) = named l p in
         subst (λ (o : Option (List ℕ)). Agrees o (window l 5 8)) (sym n) (refl, omega (arith, length-take 8 (drop 5 l), length-drop 5 l))
     go false b = subst (λ (o : Option (List ℕ)). Agrees o []) (sym (not-section l (parseLine l) (λ a e q. true≢false (sym (section-begins l a e q) ∙ b)))) refl
 
@@ -103,7 +103,7 @@ module _ (caller : List ℕ) where
   -- a line with a form is chosen by its form just where it is by its front
   pub chooses-selects : (l : List ℕ) → isFormed l ≡ true → chooses caller l ≡ selects caller l
   unfolding chooses selects
-  chooses-selects l h = chooses-by (nameOf l) (name.nameOf l) (name-agrees l h)
+  chooses-selects l h = chooses-by (nameSpelled l) (name.nameOf l) (name-agrees l h)
 
   chosen-by-form : (at n : ℕ) (ls : List (List ℕ)) → Each (λ l. isFormed l ≡ true) ls → chosenFrom caller at n ls ≡ sectionFrom caller at n ls
   unfolding chosenFrom sectionFrom
@@ -150,8 +150,8 @@ formed-behind t caller (suc f) at n h e = go (leb (length t) at) refl (formed-be
         let l : at + (length (lineAt t at) + 1) ≡ nextLine t at = omega arith in
         rw (lines-more t at k, l) (by (selects caller (lineAt t at)) (sectionFrom caller (nextLine t at) (suc n) (linesOf (drop (nextLine t at) t))) (x .1) (more (x .1)))
 
-end-by-form : (caller t : List ℕ) (g : Found) → FormedBehind t g → runFrom t caller g ≡ runOf t caller g
-unfolding runFrom runOf sectionEnd chosenEnd
+end-by-form : (caller t : List ℕ) (g : Found) → FormedBehind t g → selectionFrom t caller g ≡ runOf t caller g
+unfolding selectionFrom runOf sectionEnd chosenEnd
 end-by-form caller t (At at n) h = rw (chosen-by-form [] (nextLine t at) n (linesOf (drop (nextLine t at) t)) h)
 end-by-form caller t Nowhere h = refl
 
@@ -184,13 +184,13 @@ module _ (t : List ℕ) where
   unfolding walk nameEnd nameStep repeatedFrom orElse cameBefore Seen isIn
   names-walk [] ps seen s n e h k v f = refl
   names-walk (l ∷ ls) ps seen s n e h k v f =
-      by (nameOf l) (name.nameOf l) refl refl (name-agrees l (f .0))
+      by (nameSpelled l) (name.nameOf l) refl refl (name-agrees l (f .0))
       (λ seen w. names-walk ls (ps ++ (l ∷ [])) seen (s + 1) (suc n) (append-assoc ps (l ∷ []) ls ∙ e) (omega (arith, length-append ps (l ∷ []))) (omega (arith, length-append ps (l ∷ []))) w (f .1))
     where
       before : take s (linesOf t) ≡ ps
       before = ap (take s) (sym e) ∙ ap (λ (i : ℕ). take i (ps ++ (l ∷ ls))) h ∙ take-append-seam ps (l ∷ ls)
 
-      by : (o : Option (List ℕ)) (x : List ℕ) → nameOf l ≡ o → name.nameOf l ≡ x → Agrees o x → ((seen′ : List (List ℕ)) → ((y : List ℕ) → (length y ≡ 0 → ⊥) → isIn y seen′ ≡ hasName y (ps ++ (l ∷ []))) → walk (nameStep t) nameEnd (s + 1) (suc n) ls ≡ repeatedFrom (suc (suc n)) seen′ ls) → orElse (cond (cond (eqb (length (name.nameOf l)) 0) false (hasName (name.nameOf l) (take s (linesOf t)))) none (some (s + 1))) (λ s′. walk (nameStep t) nameEnd s′ (suc n) ls) (Fault (suc n)) ≡ elim (nameOf l) [ none ↦ repeatedFrom (suc (suc n)) seen ls | some y ↦ cond (isIn y seen) (Fault (suc n)) (repeatedFrom (suc (suc n)) (y ∷ seen) ls) ]
+      by : (o : Option (List ℕ)) (x : List ℕ) → nameSpelled l ≡ o → name.nameOf l ≡ x → Agrees o x → ((seen′ : List (List ℕ)) → ((y : List ℕ) → (length y ≡ 0 → ⊥) → isIn y seen′ ≡ hasName y (ps ++ (l ∷ []))) → walk (nameStep t) nameEnd (s + 1) (suc n) ls ≡ repeatedFrom (suc (suc n)) seen′ ls) → orElse (cond (cond (eqb (length (name.nameOf l)) 0) false (hasName (name.nameOf l) (take s (linesOf t)))) none (some (s + 1))) (λ s′. walk (nameStep t) nameEnd s′ (suc n) ls) (Fault (suc n)) ≡ elim (nameSpelled l) [ none ↦ repeatedFrom (suc (suc n)) seen ls | some y ↦ cond (isIn y seen) (Fault (suc n)) (repeatedFrom (suc (suc n)) (y ∷ seen) ls) ]
       by none x p q a more =
           rw (p, q, a) (more seen (λ y z. v y z ∙ sym (has-append y ps l ∙ ap (λ (b : Bool). cond b true (hasName y ps)) (ap (sameBytes y) (q ∙ a) ∙ same-empty y z))))
       by (some y) x p q a more =

@@ -6,7 +6,7 @@ use Prim.Native.Nat.{ℕ, suc, _+_, _-_}
 use lib.Dec.{eqb}
 use lib.ListN.{length, take, drop}
 use Rattle.lines.specs.declared.command.Line.{Line}
-use Rattle.lines.specs.declared.command.Line.the-variants.{NoForm, Text, Section, Set, IfZero, IfNonZero, Compare, Else, EndIf, BeginTable, EndTable, Records, Entries, Datasource, NoFormFeed, NewPage, Heading, NoHeading, Remark}
+use Rattle.lines.specs.declared.command.Line.the-variants.{NoForm, Text, Section, Set, IfNot, If, Compare, Else, EndIf, BeginTable, EndTable, Records, Entries, Datasource, NoFormFeed, NewPage, Heading, NoHeading, Remark}
 use Rattle.lines.specs.readers.Command.{parseLine}
 use Rattle.scan.specs.Line.{nextLine}
 use Rattle.template.specs.Name.{sameBytes}
@@ -25,8 +25,8 @@ nameIn l (Section start end) = some (take 8 (take (end - start) (drop start l)))
 nameIn l NoForm = none
 nameIn l Text = none
 nameIn l (Set o t a) = none
-nameIn l (IfZero a) = none
-nameIn l (IfNonZero a) = none
+nameIn l (IfNot a) = none
+nameIn l (If a) = none
 nameIn l (Compare c a b) = none
 nameIn l Else = none
 nameIn l EndIf = none
@@ -41,8 +41,8 @@ nameIn l (Heading n at) = none
 nameIn l (NoHeading n) = none
 nameIn l Remark = none
 
-abbrev pub nameOf : List ℕ → Option (List ℕ)
-nameOf l = nameIn l (parseLine l)
+abbrev pub nameSpelled : List ℕ → Option (List ℕ)
+nameSpelled l = nameIn l (parseLine l)
 
 unfoldable pub isIn : List ℕ → List (List ℕ) → Bool
 isIn name [] = false
@@ -52,7 +52,7 @@ isIn name (x ∷ xs) = cond (sameBytes name x) true (isIn name xs)
 unfoldable pub repeatedFrom : ℕ → List (List ℕ) → List (List ℕ) → Verdict
 repeatedFrom n seen [] = Fine
 repeatedFrom n seen (l ∷ ls) =
-    elim (nameOf l) [
+    elim (nameSpelled l) [
       | none ↦ repeatedFrom (suc n) seen ls
       | some name ↦ cond (isIn name seen) (Fault n) (repeatedFrom (suc n) (name ∷ seen) ls)
     ]
@@ -67,7 +67,7 @@ isNamed caller none = false
 isNamed caller (some name) = sameBytes (take 8 caller) name
 
 unfoldable pub chooses : List ℕ → List ℕ → Bool
-chooses caller l = cond (eqb (length caller) 0) (isSection (nameOf l)) (isNamed caller (nameOf l))
+chooses caller l = cond (eqb (length caller) 0) (isSection (nameSpelled l)) (isNamed caller (nameSpelled l))
 
 -- 6: the first of some lines that is chosen: where it starts, and its number; the first line starts at `at` behind n lines
 unfoldable pub chosenFrom : List ℕ → ℕ → ℕ → List (List ℕ) → Found

@@ -31,7 +31,7 @@ use Rattle.template.specs.Lines.{linesOf}
 use Rattle.template.specs.Verdicts.{bytesCheck}
 use Rattle.template.specs.Shape.{shapeIn, shapeOf, isFormed}
 use Rattle.template.specs.Checks.{formCheck, nestCheck, nameCheck}
-use Rattle.template.specs.Sections.{selects, sectionFrom, endAt, sectionEnd, runFrom, selected}
+use Rattle.template.specs.Sections.{selects, sectionFrom, endAt, sectionEnd, selectionFrom, selected}
 use Rattle.template.specs.Order.{unlessFault, acceptedRun, sectionChecked, namesChecked, nestingChecked, formsChecked, templateChecked}
 use Rattle.template.specs.Opening.{Opens, first, Checks}
 use Rattle.template.proofs.LineLaws.{lines-none, lines-more}
@@ -147,8 +147,8 @@ unfolding unlessFault
 unless e Fine next r h = (refl, h)
 unless e (Fault l) next r h = absurd (let z : _≡_ {A = ℕ} 0 1 = cc in omega arith)
 
-run-found : {t : List ℕ} → Checks t → (name : List ℕ) (f : Found) (r : Run) → Ends t 0 f → acceptedRun (runFrom t name f) ≡ Accepted r → Runs t r
-unfolding runFrom acceptedRun Ends
+run-found : {t : List ℕ} → Checks t → (name : List ℕ) (f : Found) (r : Run) → Ends t 0 f → acceptedRun (selectionFrom t name f) ≡ Accepted r → Runs t r
+unfolding selectionFrom acceptedRun Ends
 run-found {t} c name (At a k) r (s, h) e =
     let x : record { start = a; line = k; end = sectionEnd t name a k } ≡ r = cc in
     let w = run-end c name a k s in

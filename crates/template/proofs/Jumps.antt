@@ -18,7 +18,7 @@ use Rattle.template.specs.declared.seek.Way.{Way}
 use Rattle.template.specs.declared.seek.Skip.{Skip}
 use Rattle.template.specs.Lines.{linesOf}
 use Rattle.template.specs.Shape.{shapeOf}
-use Rattle.template.specs.Seek.{orSkip, skipFrom, atMost, skipped}
+use Rattle.template.specs.Seek.{orSkip, skipFrom, cutTo, skipped}
 use Rattle.template.specs.Opening.{Opens, Checks}
 use Rattle.template.proofs.LineLaws.{lines-more}
 use Rattle.template.proofs.Reach.{Inside, skip-inside, part-skip}
@@ -101,13 +101,13 @@ depth-none Branch = refl
 depth-none TestEnd = refl
 depth-none TableEnd = refl
 
-whole : (s : List ℕ) (q : Sought) → length s ≤ 32768 → skipped s q ≡ atMost (length s) (skipFrom q 0 0 0 (linesOf s))
+whole : (s : List ℕ) (q : Sought) → length s ≤ 32768 → skipped s q ≡ cutTo (length s) (skipFrom q 0 0 0 (linesOf s))
 unfolding skipped
 whole s q h = rw (le-ltb 32768 (length s) h)
 
 -- the skip, held to the part that the search is handed
-held : {t : List ℕ} {q : Sought} {M : List Mark} {at n : ℕ} (k : Skip) → Landing t q M at n at k → at < length t → Inside (length (drop at t)) (atMost (length (drop at t)) k) → Jump t q M at n (atMost (length (drop at t)) k)
-unfolding atMost
+held : {t : List ℕ} {q : Sought} {M : List Mark} {at n : ℕ} (k : Skip) → Landing t q M at n at k → at < length t → Inside (length (drop at t)) (cutTo (length (drop at t)) k) → Jump t q M at n (cutTo (length (drop at t)) k)
+unfolding cutTo
 held {t} {q} {M} {at} {n} k i h = by (ltb (length (drop at t)) (k .bytes)) refl
   where
     by : (b : Bool) → ltb (length (drop at t)) (k .bytes) ≡ b → Inside (length (drop at t)) (cond b (record { bytes = length (drop at t); lines = k .lines }) k) → Jump t q M at n (cond b (record { bytes = length (drop at t); lines = k .lines }) k)

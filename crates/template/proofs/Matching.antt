@@ -14,7 +14,7 @@ use Rattle.template.specs.declared.seek.Sought.the-variants.{Branch, Tes
 use Rattle.template.specs.declared.seek.Role.the-variants.{Opens, Closes}
 use Rattle.template.specs.declared.seek.Way.{Way}
 use Rattle.template.specs.declared.seek.Way.the-variants.{On, Match}
-use Rattle.template.specs.Seek.{amongTests, amongTables, atElse, roleOf, past}
+use Rattle.template.specs.Seek.{amongTests, amongTables, atElse, roleOf, wayPast}
 use Rattle.template.proofs.Turns.{Turn, first-section, next-section, remark, test-begun, test-turned, test-ended, other-ended, table-begun, table-ended, plain, no-form}
 
 -- what is open over `top` and M, of which a are tests and b tables
@@ -65,52 +65,52 @@ module _ {M : List Mark} where
   over-open q (a-table o) = (refl, refl)
 
   -- a test or a table opens inside
-  test-inside : (q : Sought) {a b : ℕ} {W : List Mark} → Over (topOf q) M a b W → Went q M (past (amongTests q Opens) (depthOf q a b)) (test ∷ W)
-  unfolding past amongTests depthOf
+  test-inside : (q : Sought) {a b : ℕ} {W : List Mark} → Over (topOf q) M a b W → Went q M (wayPast (amongTests q Opens) (depthOf q a b)) (test ∷ W)
+  unfolding wayPast amongTests depthOf
   test-inside Branch o = on (a-test o)
   test-inside TestEnd o = on (a-test o)
   test-inside TableEnd o = on (a-test o)
 
-  table-inside : (q : Sought) {a b : ℕ} {W : List Mark} → Over (topOf q) M a b W → Went q M (past (amongTables q Opens) (depthOf q a b)) (table ∷ W)
-  unfolding past amongTables depthOf
+  table-inside : (q : Sought) {a b : ℕ} {W : List Mark} → Over (topOf q) M a b W → Went q M (wayPast (amongTables q Opens) (depthOf q a b)) (table ∷ W)
+  unfolding wayPast amongTables depthOf
   table-inside Branch o = on (a-table o)
   table-inside TestEnd o = on (a-table o)
   table-inside TableEnd o = on (a-table o)
 
   -- a $ELSE
-  else-met : (q : Sought) {a b : ℕ} {W : List Mark} → Over (topOf q) M a b (test ∷ W) → Went q M (past (atElse q) (depthOf q a b)) (other ∷ W)
-  unfolding past atElse depthOf
+  else-met : (q : Sought) {a b : ℕ} {W : List Mark} → Over (topOf q) M a b (test ∷ W) → Went q M (wayPast (atElse q) (depthOf q a b)) (other ∷ W)
+  unfolding wayPast atElse depthOf
   else-met Branch here = landed behind-else
   else-met Branch (a-test o) = on (an-other o)
   else-met TestEnd (a-test o) = on (an-other o)
   else-met TableEnd (a-test o) = on (an-other o)
 
   -- a $ENDIF, of a test or of one in its $ELSE part
-  test-met : (q : Sought) {a b : ℕ} {W : List Mark} → Over (topOf q) M a b (test ∷ W) → Went q M (past (amongTests q Closes) (depthOf q a b)) W
-  unfolding past amongTests depthOf
+  test-met : (q : Sought) {a b : ℕ} {W : List Mark} → Over (topOf q) M a b (test ∷ W) → Went q M (wayPast (amongTests q Closes) (depthOf q a b)) W
+  unfolding wayPast amongTests depthOf
   test-met Branch here = landed behind-end
   test-met Branch (a-test o) = on o
   test-met TestEnd (a-test o) = on o
   test-met TableEnd (a-test o) = on o
 
-  other-met : (q : Sought) {a b : ℕ} {W : List Mark} → Over (topOf q) M a b (other ∷ W) → Went q M (past (amongTests q Closes) (depthOf q a b)) W
-  unfolding past amongTests depthOf
+  other-met : (q : Sought) {a b : ℕ} {W : List Mark} → Over (topOf q) M a b (other ∷ W) → Went q M (wayPast (amongTests q Closes) (depthOf q a b)) W
+  unfolding wayPast amongTests depthOf
   other-met Branch (an-other o) = on o
   other-met TestEnd here = landed behind-end
   other-met TestEnd (an-other o) = on o
   other-met TableEnd (an-other o) = on o
 
   -- a $ET
-  table-met : (q : Sought) {a b : ℕ} {W : List Mark} → Over (topOf q) M a b (table ∷ W) → Went q M (past (amongTables q Closes) (depthOf q a b)) W
-  unfolding past amongTables depthOf
+  table-met : (q : Sought) {a b : ℕ} {W : List Mark} → Over (topOf q) M a b (table ∷ W) → Went q M (wayPast (amongTables q Closes) (depthOf q a b)) W
+  unfolding wayPast amongTables depthOf
   table-met Branch (a-table o) = on o
   table-met TestEnd (a-table o) = on o
   table-met TableEnd here = landed behind-end
   table-met TableEnd (a-table o) = on o
 
   -- Each line whose nesting isn't at fault: the search goes on, or is at its match.
-  pub search-step : (q : Sought) {x : Shape} {a b : ℕ} {W W′ : List Mark} → Turn x W W′ → Over (topOf q) M a b W → Went q M (past (roleOf q x) (depthOf q a b)) W′
-  unfolding roleOf past sectionBegun
+  pub search-step : (q : Sought) {x : Shape} {a b : ℕ} {W W′ : List Mark} → Turn x W W′ → Over (topOf q) M a b W → Went q M (wayPast (roleOf q x) (depthOf q a b)) W′
+  unfolding roleOf wayPast sectionBegun
   search-step q first-section o = no-section (over-open q o .0)
   search-step q next-section o = no-section (over-open q o .0)
   search-step q remark o = on o

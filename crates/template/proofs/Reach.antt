@@ -15,7 +15,7 @@ use Rattle.template.specs.declared.seek.Way.the-variants.{On, Match}
 use Rattle.template.specs.declared.seek.Skip.{Skip}
 use Rattle.template.specs.Lines.{linesWithin, linesOf}
 use Rattle.template.specs.Shape.{wordShape}
-use Rattle.template.specs.Seek.{roleOf, past, orSkip, skipFrom, atMost, skipped}
+use Rattle.template.specs.Seek.{roleOf, wayPast, orSkip, skipFrom, cutTo, skipped}
 
 -- a template has no more lines than bytes
 lines-few : (k : ℕ) (s : List ℕ) → length (linesWithin k s) ≤ k
@@ -32,7 +32,7 @@ record Passed (at n there : ℕ) (k : Skip) : Type 0 where
 skip-passed : (q : Sought) (d at n : ℕ) (ls : List (List ℕ)) → Passed at n (length ls) (skipFrom q d at n ls)
 unfolding skipFrom orSkip
 skip-passed q d at n [] = record { few = omega arith; lines = omega arith }
-skip-passed q d at n (l ∷ ls) = go (λ k. skip-passed q k (at + length l + 1) (suc n) ls) (past (roleOf q (wordShape l)) d)
+skip-passed q d at n (l ∷ ls) = go (λ k. skip-passed q k (at + length l + 1) (suc n) ls) (wayPast (roleOf q (wordShape l)) d)
   where
     go : ((k : ℕ) → Passed (at + length l + 1) (suc n) (length ls) (skipFrom q k (at + length l + 1) (suc n) ls)) → (w : Way) → Passed at n (length (l ∷ ls)) (orSkip w (λ k. skipFrom q k (at + length l + 1) (suc n) ls) (record { bytes = at + length l + 1; lines = suc n }))
     go more (On k) =
@@ -45,8 +45,8 @@ pub record Inside (most : ℕ) (k : Skip) : Type 0 where
   pub bytes : k .bytes ≤ most
   pub lines : k .lines ≤ k .bytes
 
-at-most : (most : ℕ) (k : Skip) → k .lines ≤ k .bytes → k .lines ≤ most → Inside most (atMost most k)
-unfolding atMost
+at-most : (most : ℕ) (k : Skip) → k .lines ≤ k .bytes → k .lines ≤ most → Inside most (cutTo most k)
+unfolding cutTo
 at-most most k h l = go (ltb most (k .bytes)) refl
   where
     go : (b : Bool) → ltb most (k .bytes) ≡ b → Inside most (cond b (record { bytes = most; lines = k .lines }) k)
@@ -58,7 +58,7 @@ pub skip-inside : (t : List ℕ) (q : Sought) → Inside (length t) (skipped t q
 unfolding skipped linesOf
 skip-inside t q = go (ltb 32768 (length t))
   where
-    go : (b : Bool) → Inside (length t) (cond b (record { bytes = 0; lines = 0 }) (atMost (length t) (skipFrom q 0 0 0 (linesWithin (length t) t))))
+    go : (b : Bool) → Inside (length t) (cond b (record { bytes = 0; lines = 0 }) (cutTo (length t) (skipFrom q 0 0 0 (linesWithin (length t) t))))
     go true = record { bytes = omega arith; lines = omega arith }
     go false =
         let i = skip-passed q 0 0 0 (linesWithin (length t) t) in

@@ -12,7 +12,7 @@ use Rattle.template.specs.declared.sections.Selection.the-variants.{Line
 use Rattle.template.specs.declared.sections.Found.{Found}
 use Rattle.template.specs.declared.sections.Found.the-variants.{At, Nowhere}
 use Rattle.template.specs.Lines.{linesOf}
-use Rattle.template.specs.Sections.{selects, sectionFrom, endAt, sectionEnd, runFrom, selected}
+use Rattle.template.specs.Sections.{selects, sectionFrom, endAt, sectionEnd, selectionFrom, selected}
 use Rattle.template.specs.inner.Within.{Within}
 use Rattle.template.proofs.LineLaws.{lines-none, lines-more}
 
@@ -56,9 +56,9 @@ within-at t f a n w k = rw k at w
 
 module _ (t name : List ℕ) (f : Found) (q : f ≡ sectionFrom name 0 0 (linesOf t)) where
   pub selected-none : f ≡ Nowhere → NotThere ≡ selected t name
-  unfolding selected runFrom
+  unfolding selected selectionFrom
   selected-none k = rw (← q, k)
 
   pub selected-run : (a n e : ℕ) → f ≡ At a n → e ≡ sectionEnd t name a n → Lines (record { start = a; line = n; end = e }) ≡ selected t name
-  unfolding selected runFrom
+  unfolding selected selectionFrom
   selected-run a n e k h = rw (← q, k, ← h)

@@ -37,9 +37,9 @@ use Rattle.template.specs.Verdicts.{firstFault, lineAllowed, bytesCheck}
 use Rattle.template.specs.Walk.{orElse, walk}
 use Rattle.template.specs.Shape.{shapeIn, shapeOf, hasForm, isFormed, shapeWords, wordShape}
 use Rattle.template.specs.Checks.{formCheck, nestStep, nestEnd, nestCheck, hasName, cameBefore, nameStep, nameEnd, nameCheck}
-use Rattle.template.specs.Sections.{selects, sectionFrom, endAt, sectionEnd, runFrom, selected}
+use Rattle.template.specs.Sections.{selects, sectionFrom, endAt, sectionEnd, selectionFrom, selected}
 use Rattle.template.specs.Order.{unlessFault, acceptedRun, sectionChecked, namesChecked, nestingChecked, formsChecked, templateChecked}
-use Rattle.template.specs.Seek.{amongTests, amongTables, atElse, roleOf, past, orSkip, skipFrom, atMost, skipped}
+use Rattle.template.specs.Seek.{amongTests, amongTables, atElse, roleOf, wayPast, orSkip, skipFrom, cutTo, skipped}
 
 -- lines, each with its line end
 unfoldable pub lines : List String → List ℕ
@@ -113,5 +113,5 @@ rows =
     ∷ []
 
 pub rows-hold : map (λ (r : Row). r .computed) rows ≡ map (λ (r : Row). r .expected) rows
-unfolding rows belongs span byteAt valueFrom digitsAt numberAt begins standsAt firstOf inMillionths fractionAt unsignedAt literalAt variableIndex indexAt stringAt entryOf recordOf cellOf cellAt wholeAt numberedOf numberedAt names namedAt numberOr operandAt countOf admits filteredAt filters argumentOf argumentAt placesAt placesOf widthNext fieldOf fieldAt placed pieceAt widthOf totalWidth before piecesWithin textPieces fitsBehind textFits behindSpace stringTarget targetOf setAt datasourceAt compareAt singleAt bareAt optionalAt parameterAt fetchedAt fetchAt nameAt sectionAt headingOf headingAt remarkAt commands parseLine lines bytesCheck firstFault lineAllowed allAllowed linesWithin linesOf shapeIn shapeOf hasForm isFormed shapeWords wordShape walk orElse nestStep nestEnd nestCheck formCheck nameOf hasName cameBefore nameStep nameEnd nameCheck selects sectionFrom endAt sectionEnd runFrom selected unlessFault acceptedRun sectionChecked namesChecked nestingChecked formsChecked templateChecked amongTests amongTables atElse roleOf past orSkip skipFrom atMost skipped tests tables sectionBegun testTurned testEnded tableEnded inSection behind allClosed
+unfolding rows belongs span byteAt valueFrom digitsAt numberAt begins standsAt firstOf inMillionths fractionAt unsignedAt literalAt variableIndex indexAt stringAt entryOf recordOf cellOf cellAt wholeAt numberedOf numberedAt names namedAt numberOr operandAt countOf admits filteredAt filters argumentOf argumentAt placesAt placesOf widthNext fieldOf fieldAt placed pieceAt widthOf totalWidth before piecesWithin textPieces fitsBehind textFits behindSpace stringTarget targetOf setAt datasourceAt compareAt singleAt bareAt optionalAt parameterAt fetchedAt fetchAt nameAt sectionAt headingOf headingAt remarkAt commands parseLine lines bytesCheck firstFault lineAllowed allAllowed linesWithin linesOf shapeIn shapeOf hasForm isFormed shapeWords wordShape walk orElse nestStep nestEnd nestCheck formCheck nameOf hasName cameBefore nameStep nameEnd nameCheck selects sectionFrom endAt sectionEnd selectionFrom selected unlessFault acceptedRun sectionChecked namesChecked nestingChecked formsChecked templateChecked amongTests amongTables atElse roleOf wayPast orSkip skipFrom cutTo skipped tests tables sectionBegun testTurned testEnded tableEnded inSection behind allClosed
 rows-hold = refl

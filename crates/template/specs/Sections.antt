@@ -32,9 +32,9 @@ sectionEnd t name at n =
     cond (eqb (length name) 0) (length t) (endAt t (sectionFrom [] (nextLine t at) n (linesOf (drop (nextLine t at) t))))
 
 -- "from the selected (or first) $SEC line"
-unfoldable pub runFrom : List ℕ → List ℕ → Found → Selection
-runFrom t name (At at n) = Lines (record { start = at; line = n; end = sectionEnd t name at n })
-runFrom t name Nowhere = NotThere
+unfoldable pub selectionFrom : List ℕ → List ℕ → Found → Selection
+selectionFrom t name (At at n) = Lines (record { start = at; line = n; end = sectionEnd t name at n })
+selectionFrom t name Nowhere = NotThere
 
 unfoldable pub selected : List ℕ → List ℕ → Selection
-selected t name = runFrom t name (sectionFrom name 0 0 (linesOf t))
+selected t name = selectionFrom t name (sectionFrom name 0 0 (linesOf t))

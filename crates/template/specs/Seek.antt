@@ -45,13 +45,13 @@ roleOf q Plain = Passes
 roleOf q NoForm = Passes
 
 -- behind a line, with d tests or tables open inside: "matching" is what closes or divides none of these
-unfoldable pub past : Role → ℕ → Way
-past Opens d = On (suc d)
-past Closes zero = Match
-past Closes (suc d) = On d
-past Divides zero = Match
-past Divides (suc d) = On (suc d)
-past Passes d = On d
+unfoldable pub wayPast : Role → ℕ → Way
+wayPast Opens d = On (suc d)
+wayPast Closes zero = Match
+wayPast Closes (suc d) = On d
+wayPast Divides zero = Match
+wayPast Divides (suc d) = On (suc d)
+wayPast Passes d = On d
 
 unfoldable pub orSkip : Way → (ℕ → Skip) → Skip → Skip
 orSkip (On d) next skip = next d
@@ -61,12 +61,12 @@ orSkip Match next skip = skip
 unfoldable pub skipFrom : Sought → ℕ → ℕ → ℕ → List (List ℕ) → Skip
 skipFrom q d at n [] = record { bytes = at; lines = n }
 skipFrom q d at n (l ∷ ls) =
-    orSkip (past (roleOf q (wordShape l)) d) (λ k. skipFrom q k (at + length l + 1) (suc n) ls) (record { bytes = at + length l + 1; lines = suc n })
+    orSkip (wayPast (roleOf q (wordShape l)) d) (λ k. skipFrom q k (at + length l + 1) (suc n) ls) (record { bytes = at + length l + 1; lines = suc n })
 
 -- "the last may lack it": no more bytes than the part has
-unfoldable pub atMost : ℕ → Skip → Skip
-atMost most k = cond (ltb most (k .bytes)) (record { bytes = most; lines = k .lines }) k
+unfoldable pub cutTo : ℕ → Skip → Skip
+cutTo most k = cond (ltb most (k .bytes)) (record { bytes = most; lines = k .lines }) k
 
 -- "A template has at most 32,768 bytes"; nothing of a longer part is passed over
 unfoldable pub skipped : List ℕ → Sought → Skip
-skipped t q = cond (ltb 32768 (length t)) (record { bytes = 0; lines = 0 }) (atMost (length t) (skipFrom q 0 0 0 (linesOf t)))
+skipped t q = cond (ltb 32768 (length t)) (record { bytes = 0; lines = 0 }) (cutTo (length t) (skipFrom q 0 0 0 (linesOf t)))

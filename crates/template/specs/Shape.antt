@@ -15,8 +15,8 @@ shapeIn form.NoForm = NoForm
 shapeIn form.Text = Plain
 shapeIn (form.Section a b) = Section
 shapeIn (form.Set a b c) = Plain
-shapeIn (form.IfZero a) = Test
-shapeIn (form.IfNonZero a) = Test
+shapeIn (form.IfNot a) = Test
+shapeIn (form.If a) = Test
 shapeIn (form.Compare a b c) = Test
 shapeIn form.Else = Else
 shapeIn form.EndIf = EndTest
@@ -31,6 +31,7 @@ shapeIn (form.Heading a b) = Plain
 shapeIn (form.NoHeading a) = Plain
 shapeIn form.Remark = Remark
 
+-- by the form that the line spells (grammar/proofs/Lines:reads-what-is-spelled)
 unfoldable pub shapeOf : List ℕ → Shape
 shapeOf l = shapeIn (parseLine l)
 

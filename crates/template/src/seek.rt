@@ -6,7 +6,7 @@ ghost use mathlib.Core.Path.{_≡_};
 ghost use Prim.Native.Nat.{_≤_};
 ghost use lib.ListN.{length};
 ghost use Rattle.template.specs.Lines.{linesOf};
-ghost use Rattle.template.specs.Seek.{amongTests, amongTables, atElse, roleOf, past, skipFrom, skipped};
+ghost use Rattle.template.specs.Seek.{amongTests, amongTables, atElse, roleOf, wayPast, skipFrom, skipped};
 
 pub enum Sought {
     // a failed test: "the line after its matching `$ELSE`, or `$ENDIF` if there is none"
@@ -88,7 +88,7 @@ fn role_of(sought: Sought, shape: Shape) -> Role
 
 fn way_past(role: Role, depth: u32) -> Way
     requires { ⌜ depth ≤ 32768 ⌝ }
-    ensures { λ r. ⌜ r ≡ past role depth ⌝ }
+    ensures { λ r. ⌜ r ≡ wayPast role depth ⌝ }
 {
     match role {
         Role::Opens => Way::On(depth + 1),

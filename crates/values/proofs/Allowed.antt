@@ -33,8 +33,8 @@ use Rattle.values.specs.declared.fetch.Along.the-variants.{Records, Entr
 use Rattle.values.specs.Machine.{Machine}
 use Rattle.values.specs.Indexes.{indexNumber, limited, indexValue}
 use Rattle.values.specs.Asking.{question, asks, cellMeaning}
-use Rattle.values.specs.Fetching.{elementQuestion, elementQuestions, countValue, firstOf, asksElements, fetchMeaning}
-use Rattle.values.specs.Worth.{answered, filtered, kindOf}
+use Rattle.values.specs.Fetching.{elementQuestion, elementQuestions, countValue, firstAlong, asksElements, fetchMeaning}
+use Rattle.values.specs.Worth.{answered, filtered, questionKind}
 use Rattle.values.specs.Meanings.{worthOf, operandMeaning, argumentMeaning}
 
 -- a question that `ask` doesn't refuse with 15
@@ -44,13 +44,13 @@ Allowed q = questionAllowed q ≡ true
 abbrev pub AsksAllowed : {A : Type 0} → Meaning A → Type 0
 AsksAllowed t = Asks AnswerWithin Allowed t
 
-question-allowed : (d kind p r e : ℕ) → Between 1 35 d → Between 1 65535 p → r ≤ 999 → e ≤ 999 → unusedZero (question d kind p r e) ≡ true → Allowed (question d kind p r e)
+question-allowed : (d kind p r e : ℕ) → Between 1 35 d → Between 1 65535 p → r ≤ 999 → e ≤ 999 → unusedZero (question kind d p r e) ≡ true → Allowed (question kind d p r e)
 unfolding keyAllowed between
-question-allowed d kind p r e a b i j u = rw (by-numbers (question d kind p r e), le-leb 1 d (a .least), le-leb d 35 (a .most), le-leb 1 p (b .least), le-leb p 65535 (b .most), le-leb r 999 i, le-leb e 999 j) u
+question-allowed d kind p r e a b i j u = rw (by-numbers (question kind d p r e), le-leb 1 d (a .least), le-leb d 35 (a .most), le-leb 1 p (b .least), le-leb p 65535 (b .most), le-leb r 999 i, le-leb e 999 j) u
 
 -- "Unused numbers are 0.": kinds 2 and 3 are asked where |RECCNT and |ENTCNT may stand
-of-parameter : (d p : ℕ) (f : Filter) → unusedZero (question d (kindOf f) p 0 0) ≡ true
-unfolding unusedZero kindOf
+of-parameter : (d p : ℕ) (f : Filter) → unusedZero (question (questionKind f) d p 0 0) ≡ true
+unfolding unusedZero questionKind
 of-parameter d p Unfiltered = refl
 of-parameter d p Absolute = refl
 of-parameter d p Truncated = refl
@@ -59,8 +59,8 @@ of-parameter d p Length = refl
 of-parameter d p RecordCount = refl
 of-parameter d p EntryCount = refl
 
-of-record : (d p r : ℕ) (f : Filter) → admits f entries ≡ true → unusedZero (question d (kindOf f) p r 0) ≡ true
-unfolding unusedZero kindOf admits
+of-record : (d p r : ℕ) (f : Filter) → admits f entries ≡ true → unusedZero (question (questionKind f) d p r 0) ≡ true
+unfolding unusedZero questionKind admits
 of-record d p r Unfiltered a = refl
 of-record d p r Absolute a = refl
 of-record d p r Truncated a = refl
@@ -69,8 +69,8 @@ of-record d p r Length a = refl
 of-record d p r RecordCount a = absurd (false≢true a)
 of-record d p r EntryCount a = refl
 
-of-entry : (d p r e : ℕ) (f : Filter) → admits f neither ≡ true → unusedZero (question d (kindOf f) p r e) ≡ true
-unfolding unusedZero kindOf admits
+of-entry : (d p r e : ℕ) (f : Filter) → admits f neither ≡ true → unusedZero (question (questionKind f) d p r e) ≡ true
+unfolding unusedZero questionKind admits
 of-entry d p r e Unfiltered a = refl
 of-entry d p r e Absolute a = refl
 of-entry d p r e Truncated a = refl
@@ -109,16 +109,16 @@ module _ (m : Machine) (line : ℕ) where
 
   -- ---- arguments
 
-  cell-asks : (kind p : ℕ) (i j : Index) (Φ Ψ : ℕ → Type 0) → Yields AnswerWithin (indexValue m line i) Φ → Yields AnswerWithin (indexValue m line j) Ψ → ((r e : ℕ) → Φ r → Ψ e → Allowed (question (m .datasource) kind p r e)) → AsksAllowed (worthOf (cellMeaning m line kind p i j))
+  cell-asks : (kind p : ℕ) (i j : Index) (Φ Ψ : ℕ → Type 0) → Yields AnswerWithin (indexValue m line i) Φ → Yields AnswerWithin (indexValue m line j) Ψ → ((r e : ℕ) → Φ r → Ψ e → Allowed (question kind (m .datasource) p r e)) → AsksAllowed (worthOf (cellMeaning m line kind p i j))
   unfolding worthOf cellMeaning asks
   cell-asks kind p i j Φ Ψ x y h =
       asks-then AnswerWithin Allowed (cellMeaning m line kind p i j) (λ a. done (answered a))
-      (asks-bind AnswerWithin Allowed (indexValue m line i) (λ r. bind (indexValue m line j) (λ e. ask (question (m .datasource) kind p r e) line (λ a. done a))) Φ (index-asks i) x (λ r k.
-      asks-bind AnswerWithin Allowed (indexValue m line j) (λ e. ask (question (m .datasource) kind p r e) line (λ a. done a)) Ψ (index-asks j) y (λ e l. (h r e k l, λ a w. tt))))
+      (asks-bind AnswerWithin Allowed (indexValue m line i) (λ r. bind (indexValue m line j) (λ e. ask (question kind (m .datasource) p r e) line (λ a. done a))) Φ (index-asks i) x (λ r k.
+      asks-bind AnswerWithin Allowed (indexValue m line j) (λ e. ask (question kind (m .datasource) p r e) line (λ a. done a)) Ψ (index-asks j) y (λ e l. (h r e k l, λ a w. tt))))
       (λ a. tt)
 
   module _ (d : Between 1 35 (m .datasource)) (s : List ℕ) where
-    operand-asks : (f : Filter) (o : Operand) → OperandWithin s o → admits f (countOf o) ≡ true → AsksAllowed (operandMeaning m s line (kindOf f) o)
+    operand-asks : (f : Filter) (o : Operand) → OperandWithin s o → admits f (countOf o) ≡ true → AsksAllowed (operandMeaning m s line (questionKind f) o)
     unfolding operandMeaning countOf
     operand-asks f (Number q) b a = tt
     operand-asks f (Text x y) b a = tt
@@ -131,17 +131,17 @@ module _ (m : Machine) (line : ℕ) where
     operand-asks f (RecordElement n) b a = tt
     operand-asks f (EntryElement n) b a = tt
     operand-asks f (Parameter p) b a =
-        cell-asks (kindOf f) p (Fixed 0) (Fixed 0) (λ k. k ≡ 0) (λ k. k ≡ 0) absent absent (λ r e x y. rw (x, y) (question-allowed (m .datasource) (kindOf f) p 0 0 d b (omega arith) (omega arith) (of-parameter (m .datasource) p f)))
+        cell-asks (questionKind f) p (Fixed 0) (Fixed 0) (λ k. k ≡ 0) (λ k. k ≡ 0) absent absent (λ r e x y. rw (x, y) (question-allowed (m .datasource) (questionKind f) p 0 0 d b (omega arith) (omega arith) (of-parameter (m .datasource) p f)))
     operand-asks f (Record p i) b a =
-        cell-asks (kindOf f) p i (Fixed 0) Low (λ k. k ≡ 0) (index-low i) absent (λ r e x y. rw y (question-allowed (m .datasource) (kindOf f) p r 0 d (b .0) x (omega arith) (of-record (m .datasource) p r f a)))
+        cell-asks (questionKind f) p i (Fixed 0) Low (λ k. k ≡ 0) (index-low i) absent (λ r e x y. rw y (question-allowed (m .datasource) (questionKind f) p r 0 d (b .0) x (omega arith) (of-record (m .datasource) p r f a)))
     operand-asks f (Entry p i j) b a =
-        cell-asks (kindOf f) p i j Low Low (index-low i) (index-low j) (λ r e x y. question-allowed (m .datasource) (kindOf f) p r e d (b .0) x y (of-entry (m .datasource) p r e f a))
+        cell-asks (questionKind f) p i j Low Low (index-low i) (index-low j) (λ r e x y. question-allowed (m .datasource) (questionKind f) p r e d (b .0) x y (of-entry (m .datasource) p r e f a))
 
     -- An argument within its limits asks only questions within theirs.
     pub argument-asks : (a : Argument) → ArgumentWithin s a → AsksAllowed (argumentMeaning m s line a)
     unfolding argumentMeaning
     argument-asks a b =
-        asks-then AnswerWithin Allowed (operandMeaning m s line (kindOf (a .filter)) (a .operand)) (λ w. done (filtered (a .filter) w)) (operand-asks (a .filter) (a .operand) (b .operand) (b .filter)) (λ w. tt)
+        asks-then AnswerWithin Allowed (operandMeaning m s line (questionKind (a .filter)) (a .operand)) (λ w. done (filtered (a .filter) w)) (operand-asks (a .filter) (a .operand) (b .operand) (b .filter)) (λ w. tt)
 
 -- ---- $REC and $TBL
 
@@ -151,8 +151,8 @@ each-asks line q k zero h = tt
 each-asks line q k (suc n) h =
     (h k (omega arith), λ r p. asks-then AnswerWithin Allowed (asksEach line (elementQuestions q (suc k) n)) (λ rest. done (r ∷ rest)) (each-asks line q (suc k) n (λ j l. h j (omega arith))) (λ l. tt))
 
-element-allowed : (d : ℕ) (along : Along) (p r e n j : ℕ) → Between 1 35 d → Between 1 65535 p → r ≤ 999 → e ≤ 999 → firstOf along r e + n ≤ 1000 → j < n → Allowed (elementQuestion d along p r e j)
-unfolding elementQuestion firstOf admits kindOf
+element-allowed : (d : ℕ) (along : Along) (p r e n j : ℕ) → Between 1 35 d → Between 1 65535 p → r ≤ 999 → e ≤ 999 → firstAlong along r e + n ≤ 1000 → j < n → Allowed (elementQuestion d along p r e j)
+unfolding elementQuestion firstAlong admits questionKind
 element-allowed d Records p r e n j a b x y l k = question-allowed d 1 p (r + j) e a b (omega arith) y (of-entry d p (r + j) e Unfiltered refl)
 element-allowed d Entries p r e n j a b x y l k = question-allowed d 1 p r (e + j) a b x (omega arith) (of-entry d p r (e + j) Unfiltered refl)
 
@@ -171,8 +171,8 @@ fetch-asks m line along p i j c d b =
     asks-bind AnswerWithin Allowed (indexValue m line i) _ Low (index-asks m line i) (index-low m line i) (λ r x.
     asks-bind AnswerWithin Allowed (indexValue m line j) _ Low (index-asks m line j) (index-low m line j) (λ e y.
     asks-then AnswerWithin Allowed (countValue line (indexNumber (m .variables .integers) (m .counter) c)) _ (count-asks line (indexNumber (m .variables .integers) (m .counter) c)) (λ n.
-    by r e n x y (leb (firstOf along r e + n) 1000) refl)))
+    by r e n x y (leb (firstAlong along r e + n) 1000) refl)))
   where
-    by : (r e n : ℕ) → r ≤ 999 → e ≤ 999 → (t : Bool) → leb (firstOf along r e + n) 1000 ≡ t → AsksAllowed (cond {A = Meaning (List Answer)} t (asksEach line (elementQuestions (elementQuestion (m .datasource) along p r e) 0 n)) (stop BadIndex line))
-    by r e n x y true q = each-asks line (elementQuestion (m .datasource) along p r e) 0 n (λ k l. element-allowed (m .datasource) along p r e n k d b x y (leb-true (firstOf along r e + n) 1000 q) (omega arith))
+    by : (r e n : ℕ) → r ≤ 999 → e ≤ 999 → (t : Bool) → leb (firstAlong along r e + n) 1000 ≡ t → AsksAllowed (cond {A = Meaning (List Answer)} t (asksEach line (elementQuestions (elementQuestion (m .datasource) along p r e) 0 n)) (stop BadIndex line))
+    by r e n x y true q = each-asks line (elementQuestion (m .datasource) along p r e) 0 n (λ k l. element-allowed (m .datasource) along p r e n k d b x y (leb-true (firstAlong along r e + n) 1000 q) (omega arith))
     by r e n x y false q = tt

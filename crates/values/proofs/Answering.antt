@@ -15,7 +15,7 @@ use Rattle.values.specs.declared.fetch.Along.{Along}
 use Rattle.values.specs.Machine.{Machine}
 use Rattle.values.specs.Indexes.{indexNumber, indexValue}
 use Rattle.values.specs.Asking.{question, asks, cellMeaning}
-use Rattle.values.specs.Fetching.{elementQuestion, elementQuestions, countValue, firstOf, asksElements, fetchMeaning}
+use Rattle.values.specs.Fetching.{elementQuestion, elementQuestions, countValue, firstAlong, asksElements, fetchMeaning}
 use Rattle.values.specs.Worth.{Worth, answered}
 use Rattle.values.specs.Meanings.{worthOf}
 
@@ -24,8 +24,8 @@ module _ (P : Answer → Type 0) where
   unfolding worthOf cellMeaning asks
   cell-has W g m line kind p i j =
       yields-bind P (cellMeaning m line kind p i j) (λ a. done (answered a)) P W
-      (yields-bind P (indexValue m line i) (λ r. bind (indexValue m line j) (λ e. ask (question (m .datasource) kind p r e) line (λ a. done a))) (λ _. Unit {0}) P (yields-any P (indexValue m line i)) (λ r h.
-      yields-bind P (indexValue m line j) (λ e. ask (question (m .datasource) kind p r e) line (λ a. done a)) (λ _. Unit {0}) P (yields-any P (indexValue m line j)) (λ e k a w. w)))
+      (yields-bind P (indexValue m line i) (λ r. bind (indexValue m line j) (λ e. ask (question kind (m .datasource) p r e) line (λ a. done a))) (λ _. Unit {0}) P (yields-any P (indexValue m line i)) (λ r h.
+      yields-bind P (indexValue m line j) (λ e. ask (question kind (m .datasource) p r e) line (λ a. done a)) (λ _. Unit {0}) P (yields-any P (indexValue m line j)) (λ e k a w. w)))
       (λ a h. g a h)
 
   each-has : (line : ℕ) (qs : List Question) → Yields P (asksEach line qs) (Each P)
@@ -40,7 +40,7 @@ module _ (P : Answer → Type 0) where
       yields-bind P (indexValue m line i) _ (λ _. Unit {0}) (Each P) (yields-any P (indexValue m line i)) (λ r h.
       yields-bind P (indexValue m line j) _ (λ _. Unit {0}) (Each P) (yields-any P (indexValue m line j)) (λ e k.
       yields-bind P (countValue line (indexNumber (m .variables .integers) (m .counter) c)) _ (λ _. Unit {0}) (Each P) (yields-any P (countValue line (indexNumber (m .variables .integers) (m .counter) c))) (λ n l.
-      by (leb (firstOf along r e + n) 1000) (asksEach line (elementQuestions (elementQuestion (m .datasource) along p r e) 0 n)) (each-has line _))))
+      by (leb (firstAlong along r e + n) 1000) (asksEach line (elementQuestions (elementQuestion (m .datasource) along p r e) 0 n)) (each-has line _))))
     where
       by : (b : Bool) (t : Meaning (List Answer)) → Yields P t (Each P) → Yields P (cond b t (stop BadIndex line)) (Each P)
       by true t h = h

@@ -23,8 +23,8 @@ use Rattle.values.specs.declared.fetch.Along.{Along}
 use Rattle.values.specs.Machine.{Machine}
 use Rattle.values.specs.Indexes.{indexNumber, limited, indexValue}
 use Rattle.values.specs.Asking.{asks, cellMeaning}
-use Rattle.values.specs.Fetching.{firstOf, countValue, asksElements, elementQuestion, elementQuestions, fetchMeaning}
-use Rattle.values.specs.Worth.{answered, filtered, kindOf}
+use Rattle.values.specs.Fetching.{firstAlong, countValue, asksElements, elementQuestion, elementQuestions, fetchMeaning}
+use Rattle.values.specs.Worth.{answered, filtered, questionKind}
 use Rattle.values.specs.Meanings.{worthOf, operandMeaning, argumentMeaning}
 
 -- The tree prints nothing, and where it is done with a, Φ a holds.
@@ -100,7 +100,7 @@ operand-gives m s line kind (Entry p r e) = cell-gives m line kind p r e
 pub argument-gives : (m : Machine) (s : List ℕ) (line : ℕ) (a : Argument) → Gives (argumentMeaning m s line a) Anything
 unfolding argumentMeaning
 argument-gives m s line a =
-    gives-bind (operandMeaning m s line (kindOf (a .filter)) (a .operand)) (λ w. done (filtered (a .filter) w)) Anything Anything (operand-gives m s line (kindOf (a .filter)) (a .operand)) (λ w h. tt)
+    gives-bind (operandMeaning m s line (questionKind (a .filter)) (a .operand)) (λ w. done (filtered (a .filter) w)) Anything Anything (operand-gives m s line (questionKind (a .filter)) (a .operand)) (λ w h. tt)
 
 -- ---- $REC and $TBL
 
@@ -120,4 +120,4 @@ fetch-gives m line along p i j c =
     gives-bind (indexValue m line i) _ Anything Anything (index-gives m line i) (λ r h.
     gives-bind (indexValue m line j) _ Anything Anything (index-gives m line j) (λ e k.
     gives-bind (countValue line (indexNumber (m .variables .integers) (m .counter) c)) _ Anything Anything (count-gives line (indexNumber (m .variables .integers) (m .counter) c)) (λ n l.
-    stops-or (leb (firstOf along r e + n) 1000) (asksEach line (elementQuestions (elementQuestion (m .datasource) along p r e) 0 n)) BadIndex line Anything (each-gives line _))))
+    stops-or (leb (firstAlong along r e + n) 1000) (asksEach line (elementQuestions (elementQuestion (m .datasource) along p r e) 0 n)) BadIndex line Anything (each-gives line _))))

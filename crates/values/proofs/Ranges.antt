@@ -31,7 +31,7 @@ use Rattle.values.specs.Machine.{Variables, Machine, numbered}
 use Rattle.values.specs.Asking.{cellMeaning}
 use Rattle.values.specs.Fetching.{element, fetchMeaning}
 use Rattle.values.specs.Source.{answers}
-use Rattle.values.specs.Worth.{Worth, missing, wrong, number, string, answered, absolute, filteredNumber, filteredString, filtered, kindOf}
+use Rattle.values.specs.Worth.{Worth, missing, wrong, number, string, answered, absolute, filteredNumber, filteredString, filtered, questionKind}
 use Rattle.values.specs.Meanings.{worthOf, operandMeaning, argumentMeaning}
 use Rattle.values.proofs.Keeping.{absolute-integer, absolute-decimal}
 use Rattle.values.proofs.Answering.{cell-has, fetch-has}
@@ -202,7 +202,7 @@ module _ (m : Machine) (line : ℕ) where
     pub argument-within : (a : Argument) → ArgumentWithin s a → Yields AnswerWithin (argumentMeaning m s line a) WorthWithin
     unfolding argumentMeaning
     argument-within a b =
-        yields-bind AnswerWithin (operandMeaning m s line (kindOf (a .filter)) (a .operand)) (λ w. done (filtered (a .filter) w)) WorthWithin WorthWithin (operand-within (kindOf (a .filter)) (a .operand) (b .operand)) (λ w k. filtered-within (a .filter) w k)
+        yields-bind AnswerWithin (operandMeaning m s line (questionKind (a .filter)) (a .operand)) (λ w. done (filtered (a .filter) w)) WorthWithin WorthWithin (operand-within (questionKind (a .filter)) (a .operand) (b .operand)) (λ w k. filtered-within (a .filter) w k)
 
 -- ---- variables that are named
 

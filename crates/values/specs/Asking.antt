@@ -10,7 +10,7 @@ use Rattle.values.specs.Indexes.{indexValue}
 
 -- "Cells ask in the selected datasource"
 abbrev pub question : ℕ → ℕ → ℕ → ℕ → ℕ → Question
-question d kind p r e = record { kind = kind; datasource = d; parameter = p; «record» = r; entry = e }
+question kind d p r e = record { kind = kind; datasource = d; parameter = p; «record» = r; entry = e }
 
 unfoldable pub asks : ℕ → Question → Meaning Answer
 asks line q = ask q line (λ a. done a)
@@ -18,4 +18,4 @@ asks line q = ask q line (λ a. done a)
 -- "8 then 9": both indexes, then the question
 unfoldable pub cellMeaning : Machine → ℕ → ℕ → ℕ → Index → Index → Meaning Answer
 cellMeaning m line kind p i j =
-    bind (indexValue m line i) (λ r. bind (indexValue m line j) (λ e. asks line (question (m .datasource) kind p r e)))
+    bind (indexValue m line i) (λ r. bind (indexValue m line j) (λ e. asks line (question kind (m .datasource) p r e)))

@@ -16,7 +16,7 @@ use Rattle.cells.specs.declared.index.Indexed.{Indexed}
 use Rattle.cells.specs.declared.index.Indexed.the-variants.{Count, BadStore}
 use Rattle.cells.specs.Bytes.{pairAt}
 use Rattle.cells.specs.Cell.{Cell, number, keyNumber, keyAt, cellAllowed, cellBytes}
-use Rattle.cells.specs.Store.{held}
+use Rattle.cells.specs.Store.{cellsHeld}
 use Rattle.cells.specs.Asking.{questionAllowed, lookup, found, answer, cellStart, stringStart, meant}
 
 -- the places of the cells of a run that begins at a place
@@ -40,10 +40,10 @@ pub record Indexes (i : List ℕ) (store : Option (List Cell)) (j : List ℕ) (r
 
 -- the first n bytes of b hold the cells cs, and index has the place of each
 pub record Ready (b : List ℕ) (n : ℕ) (index : List ℕ) (count : ℕ) (cs : List Cell) : Type 0 where
-  pub holds : held b n ≡ some cs
+  pub holds : cellsHeld b n ≡ some cs
   pub tally : count ≡ length cs
   pub room : count ≤ length index
-  pub places : (i : ℕ) → i < count → getD index i 0 ≡ getD (offsets 0 cs) i 0
+  pub starts : (i : ℕ) → i < count → getD index i 0 ≡ getD (offsets 0 cs) i 0
 
 -- a string that is answered begins at i and lies in the store, the first n bytes of b
 unfoldable pub InStore : List ℕ → ℕ → ℕ → Answered → Type 0
@@ -55,23 +55,23 @@ InStore b n i (A.Highest m) = Unit {0}
 
 -- the number of the key of the i-th cell
 abbrev pub keyIn : List ℕ → List ℕ → ℕ → ℕ
-keyIn b places i = number (keyAt b (getD places i 0 + 1))
+keyIn b starts i = number (keyAt b (getD starts i 0 + 1))
 
 -- the keys of the cells rise, are within their limits, and lie in b with a byte behind each
-pub record Sorted (b places : List ℕ) (count : ℕ) : Type 0 where
-  pub room : count ≤ length places
-  pub inside : (i : ℕ) → i < count → getD places i 0 + 9 ≤ length b
-  pub small : (i : ℕ) → i < count → keyIn b places i < 18014398509481984
-  pub rises : (i j : ℕ) → i < j → j < count → keyIn b places i < keyIn b places j
+pub record Sorted (b starts : List ℕ) (count : ℕ) : Type 0 where
+  pub room : count ≤ length starts
+  pub inside : (i : ℕ) → i < count → getD starts i 0 + 9 ≤ length b
+  pub small : (i : ℕ) → i < count → keyIn b starts i < 18014398509481984
+  pub rises : (i j : ℕ) → i < j → j < count → keyIn b starts i < keyIn b starts j
 
 -- r is the first of the cells whose keys are not below k
-pub record First (b places : List ℕ) (count k r : ℕ) : Type 0 where
+pub record First (b starts : List ℕ) (count k r : ℕ) : Type 0 where
   pub few : r ≤ count
-  pub lower : (i : ℕ) → i < r → keyIn b places i < k
-  pub higher : (i : ℕ) → r ≤ i → i < count → k ≤ keyIn b places i
+  pub lower : (i : ℕ) → i < r → keyIn b starts i < k
+  pub higher : (i : ℕ) → r ≤ i → i < count → k ≤ keyIn b starts i
 
-pub record Position (b places : List ℕ) (count k r : ℕ) : Type 0 where
-  pub first : Sorted b places count → First b places count k r
+pub record Position (b starts : List ℕ) (count k r : ℕ) : Type 0 where
+  pub first : Sorted b starts count → First b starts count k r
 
 -- r is the value of the cell at a place of b
 pub record ValueAt (b : List ℕ) (at : ℕ) (r : Answered) : Type 0 where
@@ -79,17 +79,17 @@ pub record ValueAt (b : List ℕ) (at : ℕ) (r : Answered) : Type 0 where
   pub inside : (c : Cell) (rest : List ℕ) → cellAllowed c ≡ true → drop at b ≡ cellBytes c ++ rest → InStore b (at + length (cellBytes c)) (at + 9) r
 
 -- r answers kind 1 for the key k
-pub record CellAnswer (b places : List ℕ) (count k : ℕ) (r : Answered) : Type 0 where
-  pub found : (n : ℕ) (cs : List Cell) → Ready b n places count cs → meant b r ≡ found (lookup k cs)
-  pub inside : (n : ℕ) (cs : List Cell) → Ready b n places count cs → InStore b n (cellStart k cs + 9) r
+pub record CellAnswer (b starts : List ℕ) (count k : ℕ) (r : Answered) : Type 0 where
+  pub found : (n : ℕ) (cs : List Cell) → Ready b n starts count cs → meant b r ≡ found (lookup k cs)
+  pub inside : (n : ℕ) (cs : List Cell) → Ready b n starts count cs → InStore b n (cellStart k cs + 9) r
 
 -- r is the number that a cell has at an offset: the last of cs whose key lies from low up to end, or 0 if none does
 pub data LastOf (cs : List Cell) (low end offset : ℕ) : ℕ → Type 0 where
   nothing : ((xs : List Cell) (c : Cell) (ys : List Cell) → cs ≡ xs ++ (c ∷ ys) → low ≤ keyNumber c → keyNumber c < end → ⊥) → LastOf cs low end offset 0
   last : {r : ℕ} (xs : List Cell) (c : Cell) (ys : List Cell) → cs ≡ xs ++ (c ∷ ys) → low ≤ keyNumber c → keyNumber c < end → r ≡ pairAt (cellBytes c) offset → ((vs : List Cell) (d : Cell) (ws : List Cell) → cs ≡ vs ++ (d ∷ ws) → keyNumber d < end → keyNumber d ≤ keyNumber c) → LastOf cs low end offset r
 
-pub record Highest (b places : List ℕ) (count low end offset r : ℕ) : Type 0 where
-  pub last : (n : ℕ) (cs : List Cell) → Ready b n places count cs → LastOf cs low end offset r
+pub record Highest (b starts : List ℕ) (count low end offset r : ℕ) : Type 0 where
+  pub last : (n : ℕ) (cs : List Cell) → Ready b n starts count cs → LastOf cs low end offset r
 
 -- kind 2 speaks of the records of a parameter, kind 3 of the entries of a record: so far their keys reach, and there the
 -- number stands in a cell
@@ -100,9 +100,9 @@ unfoldable pub offsetOf : ℕ → ℕ
 offsetOf kind = cond (eqb kind 2) 4 6
 
 -- r answers a question
-pub record Answers (b places : List ℕ) (count : ℕ) (q : Question) (r : Answered) : Type 0 where
-  pub answer : (n : ℕ) (cs : List Cell) → Ready b n places count cs → meant b r ≡ cond (questionAllowed q) (answer q cs) missing
-  pub inside : (n : ℕ) (cs : List Cell) → Ready b n places count cs → InStore b n (stringStart q (some cs)) r
+pub record Answers (b starts : List ℕ) (count : ℕ) (q : Question) (r : Answered) : Type 0 where
+  pub answer : (n : ℕ) (cs : List Cell) → Ready b n starts count cs → meant b r ≡ cond (questionAllowed q) (answer q cs) missing
+  pub inside : (n : ℕ) (cs : List Cell) → Ready b n starts count cs → InStore b n (stringStart q (some cs)) r
 
 -- r is the size of the cell at a place of b
 pub record SizeAt (b : List ℕ) (at r : ℕ) : Type 0 where

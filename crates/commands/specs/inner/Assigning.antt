@@ -16,7 +16,7 @@ use Rattle.values.specs.inner.Yielding.{meant}
 use Rattle.commands.specs.declared.settle.Taken.{Taken}
 use Rattle.commands.specs.declared.settle.Verdict.{Verdict}
 use Rattle.commands.specs.inner.Taking.{takenOf, verdictOf, mapped}
-use Rattle.commands.specs.Setting.{stored, stringNew, setOf}
+use Rattle.commands.specs.Setting.{asVariable, stringNew, setOf}
 
 -- "SV1–SV99": a row for each
 pub record Rowed (rows : List (List ℕ)) : Type 0 where
@@ -24,7 +24,7 @@ pub record Rowed (rows : List (List ℕ)) : Type 0 where
 
 -- a result as the n-th of IV or FV, or the refusal
 pub record StoresNumber (numbers : List ℤ) (from n : ℕ) (t : Taken) (numbers′ : List ℤ) (r : Verdict) : Type 0 where
-  pub same : stored (bank from 99 numbers) n (takenOf t) ≡ mapped (λ _. bank from 99 numbers′) (verdictOf r)
+  pub same : asVariable (bank from 99 numbers) n (takenOf t) ≡ mapped (λ _. bank from 99 numbers′) (verdictOf r)
   pub below : (i k : ℕ) → i + k ≤ from → bank i k numbers′ ≡ bank i k numbers
   pub above : (i k : ℕ) → from + 99 ≤ i → bank i k numbers′ ≡ bank i k numbers
 
@@ -36,7 +36,7 @@ pub record PutsString (rows : List (List ℕ)) (words : List ℕ) (n : ℕ) (s :
 
 -- the string of a value as SVn, or the refusal
 pub record StoresString (line store : List ℕ) (rows : List (List ℕ)) (words : List ℕ) (n : ℕ) (w : W.Worth) (rows′ : List (List ℕ)) (words′ : List ℕ) (r : Verdict) : Type 0 where
-  pub same : stored (texts rows 0 (lengthsIn words)) n (stringNew (meant (strings line store rows) w)) ≡ mapped (λ _. texts rows′ 0 (lengthsIn words′)) (verdictOf r)
+  pub same : asVariable (texts rows 0 (lengthsIn words)) n (stringNew (meant (strings line store rows) w)) ≡ mapped (λ _. texts rows′ 0 (lengthsIn words′)) (verdictOf r)
   pub held : Rowed rows′
   pub above : (i k : ℕ) → 99 ≤ i → bank i k words′ ≡ bank i k words
 

@@ -91,6 +91,6 @@ pub record BreaksLine (l : ℕ) (f : Flow) (T : List ℕ) (u a : ℕ) (T′ : Li
 -- `$NP n` with its value
 pub record PagesLine (t : Taken) (l : ℕ) (f : Flow) (T : List ℕ) (u a : ℕ) (T′ : List ℕ) (r : Lined) : Type 0 where
   pub refused : (e : Refusal) → t ≡ K.Refused e → (r ≡ endedIn (Halted (Refused e) l) f u a) × (T′ ≡ T)
-  pub stays : (z : ℤ) → t ≡ K.Value z → ltZ (pos (61 - f .page .line)) z ≡ false → (r ≡ endedIn Finished f u a) × (T′ ≡ T)
-  pub breaks : (z : ℤ) → t ≡ K.Value z → ltZ (pos (61 - f .page .line)) z ≡ true → BreaksLine l f T u a T′ r
+  pub stays : (z : ℤ) → t ≡ K.Value z → ltZ (pos (61 - f .page .row)) z ≡ false → (r ≡ endedIn Finished f u a) × (T′ ≡ T)
+  pub breaks : (z : ℤ) → t ≡ K.Value z → ltZ (pos (61 - f .page .row)) z ≡ true → BreaksLine l f T u a T′ r
   pub kept : length T′ ≡ length T

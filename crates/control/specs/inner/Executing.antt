@@ -83,7 +83,7 @@ pub record FormReady (body b index : List ℕ) (t : List ℕ) (h : Held) (scene 
   pub tables : f .depth ≤ 5
   pub room-for-table : (x : Argument) → form ≡ BeginTable x → f .depth ≤ 4
   pub page : f .page .number ≤ 50001
-  pub row : f .page .line ≤ 61
+  pub row : f .page .row ≤ 61
   pub decimals : length (decimalsIn (h .numbers)) ≡ 99
   pub rows : length (h .rows) ≡ 99
   pub table-words : length (tablesIn (h .words)) ≡ 20

@@ -18,7 +18,7 @@ use Rattle.commands.specs.Setting.{setOf}
 use Rattle.commands.specs.Testing.{zeroJudged, compared}
 use Rattle.commands.specs.inner.Open.{beginFrom, endFrom}
 use Rattle.control.specs.State.{State, withVariables}
-use Rattle.control.specs.Line.{branched, tableBegun, tableEnded, breakingFor, formMeaning}
+use Rattle.control.specs.Line.{branched, tableBegun, tableCounted, breakingFor, formMeaning}
 
 unfoldable pub optionalInput : Optional → Inputs
 optionalInput Absent = None
@@ -30,8 +30,8 @@ inputsOf form.NoForm = None
 inputsOf form.Text = None
 inputsOf (form.Section a e) = None
 inputsOf (form.Set o v a) = One a
-inputsOf (form.IfZero a) = One a
-inputsOf (form.IfNonZero a) = One a
+inputsOf (form.IfNot a) = One a
+inputsOf (form.If a) = One a
 inputsOf (form.Compare c a b) = Two a b
 inputsOf form.Else = None
 inputsOf form.EndIf = None
@@ -56,15 +56,15 @@ formWith t start l body s form.NoForm v = formMeaning t start l body s form.NoFo
 formWith t start l body s form.Text v = formMeaning t start l body s form.Text
 formWith t start l body s (form.Section a e) v = formMeaning t start l body s (form.Section a e)
 formWith t start l body s (form.Set o x a) v = settling l (setOf (s .variables) o x (v .first)) (withVariables s)
-formWith t start l body s (form.IfZero a) v = settling l (zeroJudged true (v .first)) (branched t s)
-formWith t start l body s (form.IfNonZero a) v = settling l (zeroJudged false (v .first)) (branched t s)
+formWith t start l body s (form.IfNot a) v = settling l (zeroJudged true (v .first)) (branched t s)
+formWith t start l body s (form.If a) v = settling l (zeroJudged false (v .first)) (branched t s)
 formWith t start l body s (form.Compare c a b) v = settling l (compared c (v .first) (v .second)) (branched t s)
 formWith t start l body s form.Else v = formMeaning t start l body s form.Else
 formWith t start l body s form.EndIf v = formMeaning t start l body s form.EndIf
 formWith t start l body s (form.BeginTable a) v =
     settling l (beginFrom (s .tables) (s .position .at) (s .position .line) (integerFrom (v .first))) (tableBegun t s)
 formWith t start l body s (form.EndTable k) v =
-    settling l (endFrom (s .tables) (integerOr (pos 1) k (v .first))) (tableEnded s)
+    settling l (endFrom (s .tables) (integerOr (pos 1) k (v .first))) (tableCounted s)
 formWith t start l body s (form.Records f) v = formMeaning t start l body s (form.Records f)
 formWith t start l body s (form.Entries f) v = formMeaning t start l body s (form.Entries f)
 formWith t start l body s (form.Datasource i) v = formMeaning t start l body s (form.Datasource i)

@@ -19,7 +19,7 @@ endedIn e f u a = record { end = e; flow = f; printed = u; asked = a }
 
 -- what a line with a number is executed in; ws are the words of the open tables
 abbrev pub sceneOf : List ℕ → Flow → ℕ → Scene
-sceneOf ws f l = record { datasource = f .datasource; page = f .page .number; row = f .page .line; number = l; turn = pos (loop (opened ws (f .depth))) }
+sceneOf ws f l = record { datasource = f .datasource; page = f .page .number; row = f .page .row; number = l; turn = pos (loop (opened ws (f .depth))) }
 
 abbrev pub placedAt : Flow → ℕ → ℕ → Flow
 placedAt f at line = record { at = at; line = line; datasource = f .datasource; feeds = f .feeds; page = f .page; depth = f .depth }

@@ -15,6 +15,6 @@ stateOf source h f =
       variables = variablesOf source h;
       datasource = f .datasource;
       tables = opened (tablesIn (h .words)) (f .depth);
-      layout = record { headings = headingsOf (headingsIn (h .words)); feeds = f .feeds };
+      layout = record { headings = headingsOf (headingsIn (h .words)); formFeeds = f .feeds };
       page = f .page;
     }

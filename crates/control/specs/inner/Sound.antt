@@ -49,8 +49,8 @@ pub record Sound (t : List ℕ) (g : ℕ) (s : State) : Type 0 where
   pub checks : Checks t
   pub nested : s .position .at < length t → Nested t (s .position .at) (s .position .line) (s .tables)
   pub number : s .page .number ≤ g
-  pub first-row : 1 ≤ s .page .line
-  pub last-row : s .page .line ≤ 61
+  pub first-row : 1 ≤ s .page .row
+  pub last-row : s .page .row ≤ 61
   pub datasource : s .datasource ≤ 35
   pub variables : Full (s .variables)
   pub headings : length (s .layout .headings) ≡ 9

@@ -14,7 +14,7 @@ use Rattle.lines.specs.declared.command.Comparison.the-variants.{SameStr
 use Rattle.lines.specs.declared.command.Optional.{Optional}
 use Rattle.lines.specs.declared.command.Fetch.{Fetch}
 use Rattle.lines.specs.declared.command.Line.{Line}
-use Rattle.lines.specs.declared.command.Line.the-variants.{IfZero, IfNonZero, Else, EndIf, BeginTable, EndTable, Records, Entries, NoFormFeed, NewPage}
+use Rattle.lines.specs.declared.command.Line.the-variants.{IfNot, If, Else, EndIf, BeginTable, EndTable, Records, Entries, NoFormFeed, NewPage}
 use Rattle.lines.specs.readers.Set.{setAt, datasourceAt}
 use Rattle.lines.specs.readers.Compare.{compareAt}
 use Rattle.lines.specs.readers.Simple.{singleAt, bareAt, optionalAt}
@@ -46,7 +46,7 @@ comparisonOf k =
     AtLeast))))))
 
 unfoldable pub singleOf : ℕ → Argument → Line
-singleOf k a = cond (eqb k 14) (IfZero a) (cond (eqb k 15) (IfNonZero a) (BeginTable a))
+singleOf k a = cond (eqb k 14) (IfNot a) (cond (eqb k 15) (If a) (BeginTable a))
 
 unfoldable pub bareOf : ℕ → Line
 bareOf k = cond (eqb k 17) Else (cond (eqb k 18) EndIf NoFormFeed)

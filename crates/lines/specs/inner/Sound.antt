@@ -10,7 +10,7 @@ use Rattle.texts.specs.readers.Text.{textFits}
 use Rattle.lines.specs.declared.command.Optional.{Optional}
 use Rattle.lines.specs.declared.command.Optional.the-variants.{Given, Absent}
 use Rattle.lines.specs.declared.command.Line.{Line}
-use Rattle.lines.specs.declared.command.Line.the-variants.{NoForm, Text, Section, Set, IfZero, IfNonZero, Compare, Else, EndIf, BeginTable, EndTable, Records, Entries, Datasource, NoFormFeed, NewPage, Heading, NoHeading, Remark}
+use Rattle.lines.specs.declared.command.Line.the-variants.{NoForm, Text, Section, Set, IfNot, If, Compare, Else, EndIf, BeginTable, EndTable, Records, Entries, Datasource, NoFormFeed, NewPage, Heading, NoHeading, Remark}
 
 abbrev pub Small : Argument → Type 0
 Small a = parameterOf (a .operand) ≤ 65535
@@ -24,8 +24,8 @@ Sound l NoForm = Unit {0}
 Sound l Text = textFits l 0 ≡ true
 Sound l (Section a e) = Unit {0}
 Sound l (Set o t a) = Small a
-Sound l (IfZero a) = Small a
-Sound l (IfNonZero a) = Small a
+Sound l (IfNot a) = Small a
+Sound l (If a) = Small a
 Sound l (Compare c a b) = Small a × Small b
 Sound l Else = Unit {0}
 Sound l EndIf = Unit {0}

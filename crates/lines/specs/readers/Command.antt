@@ -8,7 +8,7 @@ use Rattle.texts.specs.readers.Text.{textFits}
 use Rattle.lines.specs.declared.command.Operation.the-variants.{Assign, Add, Subtract, Multiply, Divide}
 use Rattle.lines.specs.declared.command.Comparison.the-variants.{SameString, SameLetters, Equal, NotEqual, Less, AtMost, Greater, AtLeast}
 use Rattle.lines.specs.declared.command.Line.{Line}
-use Rattle.lines.specs.declared.command.Line.the-variants.{NoForm, Text, IfZero, IfNonZero, Else, EndIf, BeginTable, EndTable, Records, Entries, NoFormFeed, NewPage}
+use Rattle.lines.specs.declared.command.Line.the-variants.{NoForm, Text, IfNot, If, Else, EndIf, BeginTable, EndTable, Records, Entries, NoFormFeed, NewPage}
 use Rattle.lines.specs.readers.Set.{setAt, datasourceAt}
 use Rattle.lines.specs.readers.Compare.{compareAt}
 use Rattle.lines.specs.readers.Simple.{singleAt, bareAt, optionalAt}
@@ -32,8 +32,8 @@ commands =
     ∷ "IFLE" takes compareAt AtMost
     ∷ "IFGT" takes compareAt Greater
     ∷ "IFGE" takes compareAt AtLeast
-    ∷ "IFNOT" takes singleAt IfZero
-    ∷ "IF" takes singleAt IfNonZero
+    ∷ "IFNOT" takes singleAt IfNot
+    ∷ "IF" takes singleAt If
     ∷ "BT" takes singleAt BeginTable
     ∷ "ELSE" takes bareAt Else
     ∷ "ENDIF" takes bareAt EndIf

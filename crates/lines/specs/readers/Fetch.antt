@@ -25,7 +25,7 @@ fetchedAt l at n m =
     indexOr NoFetch (indexAt l (behindSpace l at)) (λ r next.
     indexOr NoFetch (indexAt l (behindSpace l next)) (λ e after.
     indexOr NoFetch (indexAt l (behindSpace l after)) (λ c end.
-    FetchTo (record { number = n; parameter = m; first = r; second = e; count = c }) end)))
+    FetchTo (record { number = n; parameter = m; «record» = r; entry = e; count = c }) end)))
 
 abbrev pub fetchOr : FetchRead → (Fetch → ℕ → Line) → Line
 fetchOr (FetchTo f end) found = found f end

@@ -11,7 +11,7 @@ use Rattle.values.specs.Machine.{Machine}
 use Rattle.pages.specs.declared.page.Page.{Page}
 use Rattle.pages.specs.declared.heading.Heading.{Heading}
 use Rattle.pages.specs.Heading.{noHeading}
-use Rattle.pages.specs.Page.{advancedOf, sayMeaning, headLine, headFrom, headNumber, highestOf}
+use Rattle.pages.specs.Page.{advancedOf, sayMeaning, headLine, headFrom, headNumber, highestDefined}
 
 -- a line due: its bytes, where its text starts, and the line that its refusal names
 pub record Due : Type 0 where
@@ -31,11 +31,11 @@ headsDue t due (h ∷ hs) = record { bytes = headLine t h; from = headFrom h; nu
 
 -- up to the highest defined
 abbrev pub shown : List ℕ → ℕ → List Heading → List Due
-shown t due hs = headsDue t due (take (highestOf hs 9) hs)
+shown t due hs = headsDue t due (take (highestDefined hs 9) hs)
 
 -- whether they are due: on a page that has no line yet, where one is defined
 abbrev pub headsOn : List Heading → Page → Bool
-headsOn hs p = cond (eqb (p .line) 1) (cond (eqb (highestOf hs 9) 0) false true) false
+headsOn hs p = cond (eqb (p .row) 1) (cond (eqb (highestDefined hs 9) 0) false true) false
 
 abbrev pub topDue : List ℕ → ℕ → List Heading → Page → List Due
 topDue t due hs p = cond (headsOn hs p) (shown t due hs) []
@@ -60,7 +60,7 @@ linesOn t hs line p = topDue t (line .number) hs p ++ (dueOf t line ∷ [])
 
 -- how many lines come before the text line
 unfoldable pub leadOf : List Heading → Page → ℕ
-leadOf hs p = cond (headsOn hs p) (highestOf hs 9 + 1) 0
+leadOf hs p = cond (headsOn hs p) (highestDefined hs 9 + 1) 0
 
 -- a heading, or the blank line that stands for it
 unfoldable pub headingDue : ℕ → Heading → Heading

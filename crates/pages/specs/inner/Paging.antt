@@ -22,27 +22,27 @@ use Rattle.pages.specs.inner.Listing.{Due, saysOn, shown, bytesOf}
 
 -- PAGENUM and LINENUM of a scene
 abbrev pub pageOf : Scene → Page
-pageOf s = record { number = s .page; line = s .row }
+pageOf s = record { number = s .page; row = s .row }
 
 -- what a line is executed in on a page, where it names line k
 abbrev pub sceneOn : Scene → Page → ℕ → Scene
-sceneOn s p k = record { datasource = s .datasource; page = p .number; row = p .line; number = k; turn = s .turn }
+sceneOn s p k = record { datasource = s .datasource; page = p .number; row = p .row; number = k; turn = s .turn }
 
 -- a break asks nothing, so that its contract speaks of any answers
 pub record TurnReady (p : Page) (text : List ℕ) (n : ℕ) : Type 0 where
   pub room : n ≤ length text
   pub number : p .number < 4294967295
-  pub row : p .line ≤ 61
+  pub row : p .row ≤ 61
 
 pub record Breaks (due : ℕ) (feeds : Bool) (p : Page) (text : List ℕ) (n : ℕ) (text′ : List ℕ) (r : Turned) : Type 0 where
   pub does : (source : Question → Answer) (log : List Question) (a places : ℕ) → Does source (breakMeaning due feeds p) (at text n log a places (p .number)) (at text′ (r .printed) log a places (r .page .number)) (endOf (r .page) (r .end))
-  pub row : r .page .line ≤ 61
+  pub row : r .page .row ≤ 61
   pub kept : length text′ ≡ length text
   pub room : r .printed ≤ length text
 
 pub record Turns (due : ℕ) (feeds : Bool) (p : Page) (text : List ℕ) (n : ℕ) (text′ : List ℕ) (r : Turned) : Type 0 where
   pub does : (source : Question → Answer) (log : List Question) (a places : ℕ) → Does source (turnMeaning due feeds p) (at text n log a places (p .number)) (at text′ (r .printed) log a places (r .page .number)) (endOf (r .page) (r .end))
-  pub row : r .page .line ≤ 61
+  pub row : r .page .row ≤ 61
   pub kept : length text′ ≡ length text
   pub room : r .printed ≤ length text
 

@@ -5,7 +5,7 @@ use Prim.Native.Nat.{ℕ, _+_}
 use lib.IntN.{pos}
 use lib.ListN.{replicate}
 use Rattle.template.specs.declared.Run.{Run}
-use Rattle.meaning.specs.Number.{refusalNumber, numberOf, lineOf, endOf}
+use Rattle.meaning.specs.Number.{refusalNumber, numberOf, lineNamed, endOf}
 use Rattle.meaning.specs.declared.refusal.Refusal.{Refusal}
 use Rattle.meaning.specs.declared.end.Ended.{Ended}
 use Rattle.pages.specs.Page.{newPage}
@@ -68,7 +68,7 @@ overAt e page printed at words n =
       report =
           record {
             number = numberOf (endOf (tt {0}) e);
-            line = lineOf (endOf (tt {0}) e);
+            line = lineNamed (endOf (tt {0}) e);
             pages = page;
             bytes = printed;
             questions = at + n;

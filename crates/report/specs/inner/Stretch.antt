@@ -7,7 +7,7 @@ use lib.Dec.{ltb}
 use lib.ListN.{length, take, replicate}
 use Rattle.meaning.specs.Tree.{done, bind, finished}
 use Rattle.meaning.specs.Place.{Place, at, Does}
-use Rattle.meaning.specs.Number.{numberOf, lineOf, endOf}
+use Rattle.meaning.specs.Number.{numberOf, lineNamed, endOf}
 use Rattle.meaning.specs.Meaning.{Meaning}
 use Rattle.meaning.specs.declared.question.Question.{Question}
 use Rattle.meaning.specs.declared.end.Ended.{Ended}
@@ -63,7 +63,7 @@ pub record Over (t b T : List ℕ) (rows : List (List ℕ)) (v : Saved) (T′ : 
   pub last : State
   pub does : Does (sourceOf (storeOf v b)) (runFrom (v .left) t (v .end) (stateIn v rows b)) (fresh T v) (at T′ (r .bytes) (questions (log .words)) (log .n) (v .places - v .asked) (r .pages)) (endOf last ended)
   pub number : r .number ≡ numberOf (endOf (tt {0}) ended)
-  pub line : r .line ≡ lineOf (endOf (tt {0}) ended)
+  pub line : r .line ≡ lineNamed (endOf (tt {0}) ended)
   pub questions : r .questions ≡ v .asked + log .n
 
 -- a stretch from s on led to r

@@ -25,5 +25,5 @@ pub record Stretch (b : List ℕ) (n : ℕ) (cs : List Cell) (k at size : ℕ) :
   pub missing : size ≡ 0 → lookup k cs ≡ none
   pub found : 1 ≤ size → (c : Cell) × (lookup k cs ≡ some c)
 
-pub record SlotOf (b : List ℕ) (n : ℕ) (places : List ℕ) (count k : ℕ) (r : Slot) : Type 0 where
-  pub stretch : (cs : List Cell) → Ready b n places count cs → Stretch b n cs k (r .at) (r .size)
+pub record SlotOf (b : List ℕ) (n : ℕ) (starts : List ℕ) (count k : ℕ) (r : Slot) : Type 0 where
+  pub stretch : (cs : List Cell) → Ready b n starts count cs → Stretch b n cs k (r .at) (r .size)

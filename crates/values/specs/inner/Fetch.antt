@@ -24,11 +24,11 @@ use Rattle.values.specs.declared.scene.Scene.{Scene}
 use Rattle.values.specs.inner.Word.{questions}
 use Rattle.values.specs.inner.State.{fetched, held, machine}
 use Rattle.values.specs.Source.{answers}
-use Rattle.values.specs.Fetching.{elementQuestion, elementQuestions, firstOf, fetchMeaning, element}
+use Rattle.values.specs.Fetching.{elementQuestion, elementQuestions, firstAlong, fetchMeaning, element}
 
 -- The same for the code, by the record, entry and count that it worked out: each is within its limits, or 1000.
 unfoldable pub fetchAllowed : Along → ℕ → ℕ → ℕ → Bool
-fetchAllowed along r e n = leb r 999 && (leb e 999 && (leb n 64 && leb (firstOf along r e + n) 1000))
+fetchAllowed along r e n = leb r 999 && (leb e 999 && (leb n 64 && leb (firstAlong along r e + n) 1000))
 
 -- the elements from a question on
 unfoldable pub fetchAt : ℕ → Along → Question → ℕ → Meaning (List Answer)
@@ -45,7 +45,7 @@ pub record FetchAt (line : ℕ) (along : Along) (q : Question) (n : ℕ) (log : 
   pub fetches : Fetches (λ source. fetchAt line along q n) along log a p log′ v
 
 pub record FetchValue (numbers : List ℤ) (scene : Scene) (along : Along) (f : Fetch) (log : List ℕ) (a p : ℕ) (log′ : List ℕ) (v : Fetched) : Type 0 where
-  pub fetches : (rows : List (List ℕ)) (words : List ℕ) → Fetches (λ source. fetchMeaning (machine source (held numbers rows words) scene) (scene .number) along (f .parameter) (f .first) (f .second) (f .count)) along log a p log′ v
+  pub fetches : (rows : List (List ℕ)) (words : List ℕ) → Fetches (λ source. fetchMeaning (machine source (held numbers rows words) scene) (scene .number) along (f .parameter) (f .«record») (f .entry) (f .count)) along log a p log′ v
 
 -- What such a call requires: a datasource and a parameter within their limits, and 64 places in the log.
 pub record Fetchable (d c a : ℕ) : Type 0 where

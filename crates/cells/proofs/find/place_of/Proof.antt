@@ -19,7 +19,7 @@ returns : tie.Need-returns
 returns c = search needs
 
 returns-2 : tie.Need-returns-2
-returns-2 c = sym (List·getD-eq-default (now (c .before .before .args .places)) 0 (c .if1 .left))
+returns-2 c = sym (List·getD-eq-default (now (c .before .before .args .starts)) 0 (c .if1 .left))
 
 pub place-of-spec : {M : Type 1} → statement M
 place-of-spec =

@@ -7,10 +7,10 @@ use Rattle.cells.proofs.find.position.Statement.{statement}
 use Rattle.cells.proofs.find.position.Tie as tie
 
 abbrev Inv-loop : tie.InvT-loop
-Inv-loop store places count key bound low₀ size₀ low size = Halved store places count key low size
+Inv-loop store starts count key bound low₀ size₀ low size = Halved store starts count key low size
 
 abbrev μ-loop : tie.MeasureT-loop
-μ-loop store places count key bound low₀ size₀ low size = size
+μ-loop store starts count key bound low₀ size₀ low size = size
 
 returns : tie.Need-returns Inv-loop μ-loop
 returns c = no-room _ _ _ _ (c .if1 .taken)

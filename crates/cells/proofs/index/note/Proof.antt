@@ -5,14 +5,14 @@ use borrow.Author.Needs.{needs}
 use Rattle.cells.proofs.index.note.Statement.{statement}
 use Rattle.cells.proofs.index.note.Tie as tie
 
-cast-places : tie.Need-cast-places
-cast-places c = search needs
+cast-starts : tie.Need-cast-starts
+cast-starts c = search needs
 
-mul-places : tie.Need-mul-places
-mul-places c = search needs
+mul-starts : tie.Need-mul-starts
+mul-starts c = search needs
 
-slice-write-places : tie.Need-slice-write-places
-slice-write-places c = search needs
+slice-write-starts : tie.Need-slice-write-starts
+slice-write-starts c = search needs
 
 same-length : tie.Need-same-length
 same-length c = search needs
@@ -25,4 +25,4 @@ returns-2 c = sym (set-out _ _ _ (c .if1 .left))
 
 pub note-spec : {M : Type 1} → statement M
 note-spec =
-    tie.close (tie.spec cast-places mul-places slice-write-places same-length returns returns-2)
+    tie.close (tie.spec cast-starts mul-starts slice-write-starts same-length returns returns-2)

@@ -8,10 +8,10 @@ use Rattle.cells.proofs.index.walk.Statement.{statement}
 use Rattle.cells.proofs.index.walk.Tie as tie
 
 abbrev Inv-loop : tie.InvT-loop
-Inv-loop run places₀ at₀ count₀ least₀ places at count least = Walked run places₀ at count least places
+Inv-loop run places₀ at₀ count₀ least₀ starts at count least = Walked run places₀ at count least starts
 
 abbrev μ-loop : tie.MeasureT-loop
-μ-loop run places₀ at₀ count₀ least₀ places at count least = length run - at
+μ-loop run places₀ at₀ count₀ least₀ starts at count least = length run - at
 
 loop-holds : tie.Need-loop-holds Inv-loop μ-loop
 loop-holds c = walk-start _ _

@@ -13,7 +13,7 @@ returns : tie.Need-returns
 returns c = answers-refused _ _ _ _ _ (c .before .allowed .ensures) (c .if1 .taken)
 
 number-of-requires : tie.Need-number-of-requires
-number-of-requires c κs = key-inside (now (c .before .before .before .before .args .store)) (now (c .before .before .before .before .args .places)) (c .before .before .before .before .args .count) _ _ (c .before .allowed .ensures) (c .if1 .left)
+number-of-requires c κs = key-inside (now (c .before .before .before .before .args .store)) (now (c .before .before .before .before .args .starts)) (c .before .before .before .before .args .count) _ _ (c .before .allowed .ensures) (c .if1 .left)
 
 cell-answer-requires : tie.Need-cell-answer-requires
 cell-answer-requires c κs = search needs

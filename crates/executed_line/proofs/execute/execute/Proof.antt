@@ -70,8 +70,8 @@ branched-requires-3 c κs = jumpable (c .before .before .before .before .before 
 enum-told-6 : tie.Need-enum-told-6
 enum-told-6 c = search needs
 
-turned-away-requires : tie.Need-turned-away-requires
-turned-away-requires c κs = jumpable (c .before .before .before .before .before .before .before .before .pre)
+else-line-requires : tie.Need-else-line-requires
+else-line-requires c κs = jumpable (c .before .before .before .before .before .before .before .before .pre)
 
 enum-told-7 : tie.Need-enum-told-7
 enum-told-7 c = search needs
@@ -189,7 +189,7 @@ returns-7 : tie.Need-returns-7
 returns-7 c = record { executes = compare-line (c .before .before .before .before .before .before .before .before .before .before .before .before .pre) _ _ _ _ _ (c .before .compare .result) _ _ _ (c .before .before .before .before .form2 .given .1) (c .before .compare .ensures) (c .branched3 .ensures) }
 
 returns-8 : tie.Need-returns-8
-returns-8 c = record { executes = else-line (c .before .before .before .before .before .before .before .before .before .pre) _ _ _ _ (c .before .enum-told6 .given .1) (c .turned-away .ensures) }
+returns-8 c = record { executes = else-line (c .before .before .before .before .before .before .before .before .before .pre) _ _ _ _ (c .before .enum-told6 .given .1) (c .else-line .ensures) }
 
 returns-9 : tie.Need-returns-9
 unfolding formWith formMeaning
@@ -256,7 +256,7 @@ execute-spec =
     compare-requires
     branched-requires-3
     enum-told-6
-    turned-away-requires
+    else-line-requires
     enum-told-7
     went-requires-2
     enum-told-8

@@ -10,7 +10,7 @@ use mir.Syntax.{w64}
 use mir.Val.{SFits}
 use mir.ValLaws.{toZ-ofZ}
 use Rattle.numbers.specs.Range.{integerLimit}
-use Rattle.numbers.specs.Outcome.{success}
+use Rattle.numbers.specs.Result.{success}
 use Rattle.numbers.specs.Arithmetic.{integerQuotient}
 use Rattle.numbers.proofs.Machine.{back, abs-quot, abs-fits, zero-bits, nonzero-bits}
 use Rattle.numbers.proofs.Laws.{Inside, inside, outside, operands-in, checked-in, by-zero, by-other}

@@ -9,7 +9,7 @@ use mir.Syntax.{w64}
 use mir.Val.{SFits}
 use mir.ValLaws.{toZ-ofZ}
 use Rattle.numbers.specs.Range.{integerLimit, decimalLimit, within}
-use Rattle.numbers.specs.Outcome.{success}
+use Rattle.numbers.specs.Result.{success}
 use Rattle.numbers.specs.Arithmetic.{inMillionths}
 use Rattle.numbers.proofs.Machine.{read, abs-mul, abs-fits}
 use Rattle.numbers.proofs.Laws.{within-true, within-false, checked-in, checked-out}

@@ -4,7 +4,7 @@ use mathlib.Core.Path.{_≡_, sym, ap, _∙_}
 use mir.Syntax.{w64}
 use mir.ValLaws.{toZ-ofZ}
 use Rattle.numbers.specs.Range.{within}
-use Rattle.numbers.specs.Outcome.{success}
+use Rattle.numbers.specs.Result.{success}
 use Rattle.numbers.specs.Arithmetic.{checked}
 use Rattle.numbers.proofs.Machine.{read}
 use Rattle.numbers.proofs.range.check.Statement.{statement}

@@ -9,7 +9,7 @@ use mir.Syntax.{w64}
 use mir.Val.{SFits, toZ}
 use mir.ValLaws.{toZ-ofZ, toZ-pos}
 use Rattle.numbers.specs.Sign.{signed}
-use Rattle.numbers.specs.Outcome.{success}
+use Rattle.numbers.specs.Result.{success}
 use Rattle.numbers.proofs.Machine.{abs-signed, abs-fits}
 use Rattle.numbers.proofs.Laws.{checked-in, checked-out}
 use Rattle.numbers.proofs.range.check_signed.Statement.{statement}

@@ -2,7 +2,7 @@
 use Rattle.pages.proofs.Highest.{highest-here, highest-below, highest-none}
 use Rattle.pages.proofs.Listing.{lead-not, lead-none, lead-some}
 use Rattle.pages.specs.inner.Packed.{headingsOf}
-use Rattle.pages.specs.Page.{highestOf}
+use Rattle.pages.specs.Page.{highestDefined}
 use native.Mathlib.Omega.{arith}
 use Prim.Native.Nat.{_≤_}
 use mathlib.Core.Path.{_≡_, refl, _∙_}
@@ -12,7 +12,7 @@ use Rattle.pages.proofs.step.leading.Statement.{statement}
 use Rattle.pages.proofs.step.leading.Tie as tie
 
 abbrev Inv-loop : tie.InvT-loop
-Inv-loop words k₀ k = (highestOf (headingsOf (headingsIn words)) 9 ≡ highestOf (headingsOf (headingsIn words)) k) × (k ≤ 9)
+Inv-loop words k₀ k = (highestDefined (headingsOf (headingsIn words)) 9 ≡ highestDefined (headingsOf (headingsIn words)) k) × (k ≤ 9)
 
 abbrev μ-loop : tie.MeasureT-loop
 μ-loop words k₀ k = k

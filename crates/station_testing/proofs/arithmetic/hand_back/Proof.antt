@@ -1,4 +1,4 @@
--- By the cases of `outcome`.
+-- By the cases of `resultIn`.
 use mir.Syntax.{w64}
 use mir.Val.{SFits}
 use mir.ValLaws.{toZ-ofZ}

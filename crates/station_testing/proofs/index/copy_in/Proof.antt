@@ -11,25 +11,25 @@ use Rattle.station_testing.proofs.index.copy_in.Statement.{statement}
 use Rattle.station_testing.proofs.index.copy_in.Tie as tie
 
 abbrev Inv-loop : tie.InvT-loop
-Inv-loop places₀ found j₀ places j = (places ≡ sets places₀ 0 (take j found)) × (j ≤ length found) × (length places ≡ length places₀)
+Inv-loop places₀ found j₀ starts j = (starts ≡ sets places₀ 0 (take j found)) × (j ≤ length found) × (length starts ≡ length places₀)
 
 abbrev μ-loop : tie.MeasureT-loop
-μ-loop places₀ found j₀ places j = length found - j
+μ-loop places₀ found j₀ starts j = length found - j
 
 loop-holds : tie.Need-loop-holds Inv-loop μ-loop
 loop-holds c = (refl, zero-le, refl)
 
-mul-places : tie.Need-mul-places Inv-loop μ-loop
-mul-places c = search needs
+mul-starts : tie.Need-mul-starts Inv-loop μ-loop
+mul-starts c = search needs
 
-shared-slice-read-places : tie.Need-shared-slice-read-places Inv-loop μ-loop
-shared-slice-read-places c = search needs
+shared-slice-read-starts : tie.Need-shared-slice-read-starts Inv-loop μ-loop
+shared-slice-read-starts c = search needs
 
-mul-places-2 : tie.Need-mul-places-2 Inv-loop μ-loop
-mul-places-2 c = search needs
+mul-starts-2 : tie.Need-mul-starts-2 Inv-loop μ-loop
+mul-starts-2 c = search needs
 
-slice-write-places : tie.Need-slice-write-places Inv-loop μ-loop
-slice-write-places c = search needs
+slice-write-starts : tie.Need-slice-write-starts Inv-loop μ-loop
+slice-write-starts c = search needs
 
 add-j : tie.Need-add-j Inv-loop μ-loop
 add-j c = search needs
@@ -55,10 +55,10 @@ copy-in-spec =
     Inv-loop
     μ-loop
     loop-holds
-    mul-places
-    shared-slice-read-places
-    mul-places-2
-    slice-write-places
+    mul-starts
+    shared-slice-read-starts
+    mul-starts-2
+    slice-write-starts
     add-j
     loop-less
     loop-again

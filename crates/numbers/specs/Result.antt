@@ -5,17 +5,17 @@ use Rattle.numbers.specs.declared.Number.{Number}
 use Rattle.numbers.specs.declared.Number.the-variants.{Value, ZeroDivisor, OutOfRange}
 
 -- success with a value, or a refusal with its number
-pub data Outcome : Type 0 where
-  success : ℤ → Outcome
-  refused : ℕ → Outcome
+pub data Result : Type 0 where
+  success : ℤ → Result
+  refused : ℕ → Result
 
 -- "12. The divisor is zero. 13. A result is out of range"
-abbrev pub outcome : Number → Outcome
-outcome (Value z) = success z
-outcome ZeroDivisor = refused 12
-outcome OutOfRange = refused 13
+abbrev pub resultIn : Number → Result
+resultIn (Value z) = success z
+resultIn ZeroDivisor = refused 12
+resultIn OutOfRange = refused 13
 
 -- "0 is success"
-abbrev pub outcomeNumber : Outcome → ℕ
-outcomeNumber (success z) = 0
-outcomeNumber (refused n) = n
+abbrev pub resultNumber : Result → ℕ
+resultNumber (success z) = 0
+resultNumber (refused n) = n

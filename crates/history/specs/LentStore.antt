@@ -8,27 +8,27 @@ use Rattle.meaning.specs.Answer.{Answer}
 use Rattle.meaning.specs.Each.{Each}
 use Rattle.meaning.specs.declared.question.Question.{Question}
 use Rattle.cells.specs.Cell.{Key, Cell}
-use Rattle.cells.specs.Store.{held, isHeld}
+use Rattle.cells.specs.Store.{cellsHeld, holdsCells}
 use Rattle.cells.specs.Asking.{Reply, askOf}
 
-pub record State : Type 0 where
+pub record LentStore : Type 0 where
   pub buffer : List ℕ
   pub length : ℕ
 
 -- the cells that it holds, or none where it is out of form
-abbrev pub heldBy : State → Option (List Cell)
-heldBy m = held (m .buffer) (m .length)
+abbrev pub cellsHeldBy : LentStore → Option (List Cell)
+cellsHeldBy m = cellsHeld (m .buffer) (m .length)
 
 -- 1: "The store breaks its form or is longer than its buffer."
-abbrev pub inForm : State → Bool
-inForm m = isHeld (heldBy m)
+abbrev pub inForm : LentStore → Bool
+inForm m = holdsCells (cellsHeldBy m)
 
 -- "Ask answers one question."
-abbrev pub askIn : State → Question → Reply
+abbrev pub askIn : LentStore → Question → Reply
 askIn m q = askOf (m .buffer) (m .length) q
 
 -- the store as a source of answers
-abbrev pub answerIn : State → Question → Answer
+abbrev pub answerIn : LentStore → Question → Answer
 answerIn m q = askIn m q .answer
 
 -- "Kind 1 asks for the cell of a key"
@@ -43,5 +43,5 @@ cellQuestion k =
     }
 
 -- "An answer is as before if it is the one the first run got": so for each question of a list
-abbrev pub AsBefore : State → State → List Question → Type 0
+abbrev pub AsBefore : LentStore → LentStore → List Question → Type 0
 AsBefore m m′ qs = Each (λ q. answerIn m′ q ≡ answerIn m q) qs
