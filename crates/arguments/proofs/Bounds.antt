@@ -11,7 +11,7 @@ use Rattle.numbers.specs.Range.{integerLimit, decimalLimit}
 use Rattle.arguments.specs.declared.index.Index.{Index}
 use Rattle.arguments.specs.declared.index.Index.the-variants.{Fixed, Variable, Loop}
 use Rattle.arguments.specs.declared.operand.Operand.{Operand}
-use Rattle.arguments.specs.declared.operand.Operand.the-variants.{Number, Text, IntegerVariable, DecimalVariable, StringVariable, PageNumber, LineNumber, LoopCounter, RecordElement, EntryElement, Parameter, Record, Entry}
+use Rattle.arguments.specs.declared.operand.Operand.the-variants.{NumberLiteral, StringLiteral, IntegerVariable, DecimalVariable, StringVariable, PageNumber, LineNumber, LoopCounter, RecordElement, EntryElement, Parameter, Record, Entry}
 use Rattle.arguments.specs.declared.argument.Argument.{Argument}
 use Rattle.arguments.specs.Admitted.{countOf, admits}
 
@@ -38,8 +38,8 @@ pub record StringWithin (l : List ℕ) (start end : ℕ) : Type 0 where
 
 -- "IVn, FVn, SVn (n 1–99); PAGENUM; LINENUM; LOOP; Rn, Tn (n 1–10); a cell Pn, Pn.r or Pn.r.e, n 1–65,535"
 abbrev pub OperandWithin : List ℕ → Operand → Type 0
-OperandWithin l (Number q) = QuantityWithin q
-OperandWithin l (Text start end) = StringWithin l start end
+OperandWithin l (NumberLiteral q) = QuantityWithin q
+OperandWithin l (StringLiteral start end) = StringWithin l start end
 OperandWithin l (IntegerVariable n) = Between 1 99 n
 OperandWithin l (DecimalVariable n) = Between 1 99 n
 OperandWithin l (StringVariable n) = Between 1 99 n
@@ -59,8 +59,8 @@ pub record ArgumentWithin (l : List ℕ) (a : Argument) : Type 0 where
 
 -- how many questions an operand asks: a cell one
 abbrev pub questionsOf : Operand → ℕ
-questionsOf (Number q) = 0
-questionsOf (Text start end) = 0
+questionsOf (NumberLiteral q) = 0
+questionsOf (StringLiteral start end) = 0
 questionsOf (IntegerVariable n) = 0
 questionsOf (DecimalVariable n) = 0
 questionsOf (StringVariable n) = 0

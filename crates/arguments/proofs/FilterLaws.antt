@@ -7,7 +7,7 @@ use Rattle.scan.specs.Words.{firstOf}
 use Rattle.scan.specs.inner.Tables.{wordIn, wordAt, wordOr}
 use Rattle.scan.proofs.WordLaws.{tabled, by-number}
 use Rattle.arguments.specs.declared.operand.Operand.{Operand}
-use Rattle.arguments.specs.declared.operand.Operand.the-variants.{Number, Text, IntegerVariable, DecimalVariable, StringVariable, PageNumber, LineNumber, LoopCounter, RecordElement, EntryElement, Parameter, Record, Entry}
+use Rattle.arguments.specs.declared.operand.Operand.the-variants.{NumberLiteral, StringLiteral, IntegerVariable, DecimalVariable, StringVariable, PageNumber, LineNumber, LoopCounter, RecordElement, EntryElement, Parameter, Record, Entry}
 use Rattle.arguments.specs.declared.argument.ArgumentRead.the-variants.{NoArgument}
 use Rattle.arguments.specs.Admitted.{countOf, admits}
 use Rattle.arguments.specs.readers.Argument.{filteredAt, filters}
@@ -15,8 +15,8 @@ use Rattle.arguments.specs.inner.Filtered.{filterNames, filterOf, countN
 
 all-filters : (o : Operand) → tabled filterNames (filterAt o) 6 0 ≡ filters o
 unfolding tabled filters belongs span wordIn filterOf countOf countNumber admitted filterAt admits filteredAt
-all-filters (Number q) = refl
-all-filters (Text a e) = refl
+all-filters (NumberLiteral q) = refl
+all-filters (StringLiteral a e) = refl
 all-filters (IntegerVariable n) = refl
 all-filters (DecimalVariable n) = refl
 all-filters (StringVariable n) = refl

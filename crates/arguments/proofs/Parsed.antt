@@ -29,7 +29,7 @@ use Rattle.arguments.specs.declared.index.IndexRead.the-variants.{IndexT
 use Rattle.arguments.specs.declared.literal.LiteralRead.{LiteralRead}
 use Rattle.arguments.specs.declared.literal.LiteralRead.the-variants.{LiteralTo, NoLiteral}
 use Rattle.arguments.specs.declared.operand.Operand.{Operand}
-use Rattle.arguments.specs.declared.operand.Operand.the-variants.{Number, Text, IntegerVariable, DecimalVariable, StringVariable, PageNumber, LineNumber, LoopCounter, RecordElement, EntryElement, Parameter, Record, Entry}
+use Rattle.arguments.specs.declared.operand.Operand.the-variants.{NumberLiteral, StringLiteral, IntegerVariable, DecimalVariable, StringVariable, PageNumber, LineNumber, LoopCounter, RecordElement, EntryElement, Parameter, Record, Entry}
 use Rattle.arguments.specs.declared.operand.OperandRead.{OperandRead}
 use Rattle.arguments.specs.declared.operand.OperandRead.the-variants.{OperandTo, NoOperand}
 use Rattle.arguments.specs.declared.argument.Filter.{Filter}
@@ -198,8 +198,8 @@ argument-fine l from (OperandTo o next) h =
 
 pub small-parameter : (l : List ℕ) (o : Operand) → OperandWithin l o → parameterOf o ≤ 65535
 unfolding parameterOf
-small-parameter l (Number q) h = omega arith
-small-parameter l (Text start end) h = omega arith
+small-parameter l (NumberLiteral q) h = omega arith
+small-parameter l (StringLiteral start end) h = omega arith
 small-parameter l (IntegerVariable n) h = omega arith
 small-parameter l (DecimalVariable n) h = omega arith
 small-parameter l (StringVariable n) h = omega arith

@@ -1,7 +1,7 @@
 -- Which filters may follow an operand.
 use mathlib.Core.Bool.{Bool, true, false}
 use Rattle.arguments.specs.declared.operand.Operand.{Operand}
-use Rattle.arguments.specs.declared.operand.Operand.the-variants.{Number, Text, IntegerVariable, DecimalVariable, StringVariable, PageNumber, LineNumber, LoopCounter, RecordElement, EntryElement, Parameter, Record, Entry}
+use Rattle.arguments.specs.declared.operand.Operand.the-variants.{NumberLiteral, StringLiteral, IntegerVariable, DecimalVariable, StringVariable, PageNumber, LineNumber, LoopCounter, RecordElement, EntryElement, Parameter, Record, Entry}
 use Rattle.arguments.specs.declared.argument.Filter.{Filter}
 use Rattle.arguments.specs.declared.argument.Filter.the-variants.{Unfiltered, Absolute, Truncated, UpperCase, Length, RecordCount, EntryCount}
 
@@ -12,8 +12,8 @@ pub data Count : Type 0 where
   neither : Count
 
 unfoldable pub countOf : Operand → Count
-countOf (Number q) = neither
-countOf (Text a e) = neither
+countOf (NumberLiteral q) = neither
+countOf (StringLiteral a e) = neither
 countOf (IntegerVariable n) = neither
 countOf (DecimalVariable n) = neither
 countOf (StringVariable n) = neither

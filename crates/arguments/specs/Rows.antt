@@ -10,7 +10,7 @@ use Rattle.scan.specs.readers.Digits.{digitsAt, numberAt}
 use Rattle.scan.specs.Words.{begins, standsAt, firstOf}
 use Rattle.arguments.specs.declared.literal.LiteralRead.the-variants.{LiteralTo, NoLiteral}
 use Rattle.arguments.specs.declared.index.Index.the-variants.{Fixed, Loop}
-use Rattle.arguments.specs.declared.operand.Operand.the-variants.{Text, IntegerVariable, RecordElement, Parameter, Entry}
+use Rattle.arguments.specs.declared.operand.Operand.the-variants.{StringLiteral, IntegerVariable, RecordElement, Parameter, Entry}
 use Rattle.arguments.specs.declared.operand.OperandRead.the-variants.{OperandTo, NoOperand}
 use Rattle.arguments.specs.readers.Literal.{inMillionths, fractionAt, unsignedAt, literalAt}
 use Rattle.arguments.specs.readers.Index.{variableIndex, indexAt}
@@ -29,7 +29,7 @@ Rows =
     × (literalAt (ascii "00000000007") 0 ≡ LiteralTo (Integer (pos 0)) 10)
     × (literalAt (ascii "-0.5") 0 ≡ LiteralTo (Decimal (negsuc 499999)) 4)
     -- 16 bytes, and 17
-    × (operandAt (ascii "\"1234567890123456\"") 0 ≡ OperandTo (Text 1 17) 18)
+    × (operandAt (ascii "\"1234567890123456\"") 0 ≡ OperandTo (StringLiteral 1 17) 18)
     × (operandAt (ascii "\"12345678901234567\"") 0 ≡ NoOperand)
     -- IV1–IV99, R1–R10, P1–P65535
     × (operandAt (ascii "IV0") 0 ≡ NoOperand)

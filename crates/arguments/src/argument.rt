@@ -60,8 +60,8 @@ fn count_of(operand: Operand) -> usize
     ensures { λ r. ⌜ r ≡ countNumber (countOf operand) ⌝ }
 {
     match operand {
-        Operand::Number(_) => 0,
-        Operand::Text(_, _) => 0,
+        Operand::NumberLiteral(_) => 0,
+        Operand::StringLiteral(_, _) => 0,
         Operand::IntegerVariable(_) => 0,
         Operand::DecimalVariable(_) => 0,
         Operand::StringVariable(_) => 0,

@@ -17,9 +17,9 @@ ghost use Rattle.arguments.specs.readers.Operand.{stringAt, cellAt, numb
 ghost use Rattle.arguments.specs.inner.Named.{numbered, limitOf};
 
 pub enum Operand {
-    Number(Quantity),
+    NumberLiteral(Quantity),
     // a string's first byte in the line, and the place behind its last
-    Text(usize, usize),
+    StringLiteral(usize, usize),
     // IVn, FVn, SVn
     IntegerVariable(usize),
     DecimalVariable(usize),
@@ -50,7 +50,7 @@ fn string_at(line: &[u8], at: usize) -> OperandRead
     let length = run::count(bytes::part(line, at, 16), Class::InString);
     let end = at + length;
     if bytes::byte(line, end) == b'"' {
-        return OperandRead::OperandTo(Operand::Text(at, end), end + 1);
+        return OperandRead::OperandTo(Operand::StringLiteral(at, end), end + 1);
     }
     OperandRead::NoOperand
 }
@@ -147,5 +147,5 @@ pub fn operand_at(line: &[u8], at: usize) -> OperandRead
     let LiteralRead::LiteralTo(q, next) = literal::literal_at(line, at) else {
         return named_at(line, at);
     };
-    OperandRead::OperandTo(Operand::Number(q), next)
+    OperandRead::OperandTo(Operand::NumberLiteral(q), next)
 }

@@ -13,9 +13,9 @@ use lib.ListN.{length, getD, drop, length-append, List·getD-append}
 use Rattle.meaning.specs.Each.{Each}
 use Rattle.meaning.specs.Answer.{missing}
 use Rattle.cells.specs.declared.Answered.{Answered}
-use Rattle.cells.specs.declared.Answered.the-variants.{Missing, Integer, Decimal, Text, Highest}
+use Rattle.cells.specs.declared.Answered.the-variants.{Missing, Integer, Decimal, StringAt, Highest}
 use Rattle.cells.specs.Bytes.{pair, pairAt}
-use Rattle.cells.specs.Cell.{Cell, keyBytes, number, keyNumber, keyAt, cellAllowed, cellBytes}
+use Rattle.cells.specs.Cell.{Cell, keyBytes, keyAsNumber, keyNumber, keyAt, cellAllowed, cellBytes}
 use Rattle.cells.specs.Store.{encode, allowed}
 use Rattle.cells.specs.Asking.{lookup, found, highestOf, cellStart, meant}
 use Rattle.cells.specs.inner.Index as I
@@ -76,7 +76,7 @@ unfolding InStore
 in-more b Missing h l e i = tt
 in-more b (Integer z) h l e i = tt
 in-more b (Decimal z) h l e i = tt
-in-more b (Text a k) h l e i = (i .0 ∙ e, omega (arith, i .1), l)
+in-more b (StringAt a k) h l e i = (i .0 ∙ e, omega (arith, i .1), l)
 in-more b (Highest x) h l e i = tt
 
 -- the answers of `cell_answer`
@@ -91,11 +91,11 @@ module _ (b index : List ℕ) (count k p : ℕ) (q : Position b index count k p)
           rw (lookup-none k cs (λ i l e. omega (arith, lower-keys b n index count cs r k p f i (omega (arith, r .tally)))))
 
   -- t says whether the cell there has the key
-  module _ (h : p < count) (at : ℕ) (t : Bool) (pl : at ≡ getD index p 0) (ke : at + 9 ≤ length b → t ≡ eqb (number (keyAt b (at + 1))) k) where
+  module _ (h : p < count) (at : ℕ) (t : Bool) (pl : at ≡ getD index p 0) (ke : at + 9 ≤ length b → t ≡ eqb (keyAsNumber (keyAt b (at + 1))) k) where
     key-is : (n : ℕ) (cs : List Cell) → Ready b n index count cs → t ≡ eqb (getD (keys cs) p 0) k
     key-is n cs r =
         let l = locate b n index count cs r p h in
-        ke (omega (arith, l .room)) ∙ ap (λ (x : ℕ). eqb (number (keyAt b (x + 1))) k) pl ∙ ap (λ (x : ℕ). eqb x k) (l .key)
+        ke (omega (arith, l .room)) ∙ ap (λ (x : ℕ). eqb (keyAsNumber (keyAt b (x + 1))) k) pl ∙ ap (λ (x : ℕ). eqb x k) (l .key)
 
     module _ (e : t ≡ true) (v : Answered) (w : ValueAt b at v) where
       module _ (n : ℕ) (cs : List Cell) (r : Ready b n index count cs) where
@@ -203,7 +203,7 @@ module _ (b index : List ℕ) (count low end offset p : ℕ) (q : Position b ind
   pub highest-first : p < 1 → I.Highest b index count low end offset 0
   highest-first h = record { last = λ n cs r. nothing (λ xs c ys e l u. omega (arith, stands-before n cs r xs c ys e u)) }
 
-  module _ (h : 1 ≤ p) (at key : ℕ) (pl : at ≡ getD index (p - 1) 0) (ke : at + 9 ≤ length b → key ≡ number (keyAt b (at + 1))) where
+  module _ (h : 1 ≤ p) (at key : ℕ) (pl : at ≡ getD index (p - 1) 0) (ke : at + 9 ≤ length b → key ≡ keyAsNumber (keyAt b (at + 1))) where
     module _ (n : ℕ) (cs : List Cell) (r : Ready b n index count cs) where
       few : p ≤ count
       few = q .first (sorted b n index count cs r) .few
@@ -212,7 +212,7 @@ module _ (b index : List ℕ) (count low end offset p : ℕ) (q : Position b ind
       at-last = locate b n index count cs r (p - 1) (omega (arith, few))
 
       last-key : key ≡ keyNumber (at-last .picked .cell)
-      last-key = ke (omega (arith, at-last .room)) ∙ ap (λ (x : ℕ). number (keyAt b (x + 1))) pl ∙ at-last .key ∙ at-last .number
+      last-key = ke (omega (arith, at-last .room)) ∙ ap (λ (x : ℕ). keyAsNumber (keyAt b (x + 1))) pl ∙ at-last .key ∙ at-last .number
 
       -- it is the highest key below the end
       highest-key : (xs : List Cell) (c : Cell) (ys : List Cell) → cs ≡ xs ++ (c ∷ ys) → keyNumber c < end → keyNumber c ≤ keyNumber (at-last .picked .cell)

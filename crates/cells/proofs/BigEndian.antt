@@ -10,7 +10,7 @@ use lib.Dec.{T, ltb}
 use lib.IntN.{ℤ, pos, negsuc, natAbs}
 use lib.ListN.{length, getD, drop}
 use lib.Seq.{drop-cons, drop-append-seam, getD-drop}
-use Rattle.cells.specs.Cell.{number, keyAt}
+use Rattle.cells.specs.Cell.{keyAsNumber, keyAt}
 use Rattle.cells.specs.Bytes.{pair, quad, octet, pairAt, quadAt, octetAt, inComplement, fromComplement, begins}
 
 -- every element is a byte
@@ -85,8 +85,8 @@ module _ (s : List ℕ) (bytes : Bytes s) where
   octet-below i = omega (arith, quad-below i, quad-below (i + 4))
 
   -- the eight bytes of a cell behind its kind: its key, and a byte behind it
-  pub key-of-octet : (at : ℕ) → octetAt s at / 256 ≡ number (keyAt s at)
-  unfolding octetAt quadAt pairAt number keyAt
+  pub key-of-octet : (at : ℕ) → octetAt s at / 256 ≡ keyAsNumber (keyAt s at)
+  unfolding octetAt quadAt pairAt keyAsNumber keyAt
   key-of-octet at =
       let e₁ : getD s (at + 1 + 1) 0 ≡ getD s (at + 2) 0 = ap (λ (i : ℕ). getD s i 0) (omega arith) in
       let e₂ : getD s (at + 2 + 1) 0 ≡ getD s (at + 3) 0 = ap (λ (i : ℕ). getD s i 0) (omega arith) in

@@ -15,7 +15,7 @@ use Rattle.meaning.specs.Answer as A
 use Rattle.numbers.specs.declared.Quantity.the-variants as Q
 use Rattle.numbers.specs.Range.{integerLimit, decimalLimit, within}
 use Rattle.cells.specs.Bytes.{pair, quad, octet, pairAt, quadAt, octetAt, inComplement, fromComplement, word, long, begins}
-use Rattle.cells.specs.Cell.{Key, between, keyAllowed, keyBytes, number, each, printable, Kind, integers, decimals, strings, kinds, rowIn, kindAndBody, kindByte, valueAllowed, valueBytes, integerKind, decimalKind, stringKind, Cell, cellAllowed, cellBytes, keyAt, cellBy, cellOf, passing, front}
+use Rattle.cells.specs.Cell.{Key, between, keyAllowed, keyBytes, keyAsNumber, each, printable, Kind, integers, decimals, strings, kinds, rowIn, kindAndBody, kindByte, valueAllowed, valueBytes, integerKind, decimalKind, stringKind, Cell, cellAllowed, cellBytes, keyAt, cellBy, cellOf, passing, front}
 use Rattle.cells.specs.inner.Tests.{sizeBy, sizeOf, zeros, stringFormed, valueFormed, sizeFound, frontSize, Sized}
 use Rattle.cells.proofs.BigEndian.{Bytes, and-true, both, begins-self, begins-says, pair-reads, quad-reads, octet-reads, signed-unsigned, unsigned-signed, quad-below, octet-below, next, pair-back, quad-back, octet-back, quad-at, octet-at}
 
@@ -40,16 +40,16 @@ limits k e =
       entryNumber = leb-true _ _ (c .1);
     }
 
-pub number-small : (k : Key) → keyAllowed k ≡ true → number k < 18014398509481984
-unfolding number
+pub number-small : (k : Key) → keyAllowed k ≡ true → keyAsNumber k < 18014398509481984
+unfolding keyAsNumber
 number-small k e = let l = limits k e in omega arith
 
 split : (a b c d : ℕ) → b < 65536 → d < 65536 → a * 65536 + b ≡ c * 65536 + d → (a ≡ c) × (b ≡ d)
 split a b c d h k e = (omega arith, omega arith)
 
 -- Keys within the limits are told apart by their numbers.
-pub same-key : (k l : Key) → keyAllowed k ≡ true → keyAllowed l ≡ true → number k ≡ number l → k ≡ l
-unfolding number
+pub same-key : (k l : Key) → keyAllowed k ≡ true → keyAllowed l ≡ true → keyAsNumber k ≡ keyAsNumber l → k ≡ l
+unfolding keyAsNumber
 same-key k l h g e =
     let u = limits k h in
     let v = limits l g in

@@ -9,7 +9,7 @@ use borrow.Author.Tests.{ltb-true, ltb-false, lt-ltb, le-ltb, lt-leb, le-leb, eq
 use lib.Dec.{ltb, leb, eqb}
 use lib.ListN.{length, getD}
 use mathlib.Core.Logic.{⊎-elim}
-use Rattle.cells.specs.Cell.{number, keyAt}
+use Rattle.cells.specs.Cell.{keyAsNumber, keyAt}
 use Rattle.cells.specs.inner.Index.{keyIn, Sorted, Position, belowOf, boundOf}
 
 pub record Halved (b starts : List ℕ) (count k low size : ℕ) : Type 0 where
@@ -97,11 +97,11 @@ module _ (b starts : List ℕ) (count k : ℕ) where
       (eq-or-lt-of-le h)
 
   -- x is what was read at m, and r how it compares with the bound
-  module _ (low size : ℕ) (w : Halved b starts count k low size) (m at x r : ℕ) (l : low ≤ m) (h : m < low + size) (p : at ≡ getD starts m 0) (f : at + 9 ≤ length b → x / 256 ≡ number (keyAt b (at + 1))) (bound : ℕ) (eb : bound ≡ boundOf k) (t : r ≤ 1) (g : x < 9223372036854775808 → bound < 9223372036854775808 → r ≡ belowOf x bound) where
+  module _ (low size : ℕ) (w : Halved b starts count k low size) (m at x r : ℕ) (l : low ≤ m) (h : m < low + size) (p : at ≡ getD starts m 0) (f : at + 9 ≤ length b → x / 256 ≡ keyAsNumber (keyAt b (at + 1))) (bound : ℕ) (eb : bound ≡ boundOf k) (t : r ≤ 1) (g : x < 9223372036854775808 → bound < 9223372036854775808 → r ≡ belowOf x bound) where
     compared : Sorted b starts count → r ≡ belowOf (keyIn b starts m) k
     compared s =
         let c : m < count = omega (arith, w .few) in
-        let q : x / 256 ≡ keyIn b starts m = f (omega (arith, s .inside m c)) ∙ ap (λ (y : ℕ). number (keyAt b (y + 1))) p in
+        let q : x / 256 ≡ keyIn b starts m = f (omega (arith, s .inside m c)) ∙ ap (λ (y : ℕ). keyAsNumber (keyAt b (y + 1))) p in
         let u : x / 256 < 18014398509481984 = omega (arith, s .small m c) in
         g (omega arith) (omega (arith, bound-small k)) ∙ ap (belowOf x) eb ∙ bound-below x k u ∙ ap (λ (y : ℕ). belowOf y k) q
 

@@ -17,7 +17,7 @@ use Rattle.numbers.specs.declared.Quantity.the-variants as Q
 use Rattle.meaning.specs.declared.question.Question.{Question}
 use Rattle.meaning.specs.declared.refusal.Refusal.the-variants.{BadRequest}
 use Rattle.cells.specs.declared.Answered.{Answered}
-use Rattle.cells.specs.Cell.{Cell, number, keyNumber, printable, valueAllowed, cellAllowed}
+use Rattle.cells.specs.Cell.{Cell, keyAsNumber, keyNumber, printable, valueAllowed, cellAllowed}
 use Rattle.cells.specs.Store.{allowed, cellsHeld}
 use Rattle.cells.specs.inner.Index.{Ready, Answers}
 use Rattle.cells.specs.Asking.{Query, theCell, highestRecord, highestEntry, queryOf, questionAllowed, lookup, found, highestOf, ofParameter, ofRecord, queryAnswer, answer, answeredAsk, refusedAsk, replied, askOf, meant}
@@ -86,7 +86,7 @@ module _ (P : Value → Type 0) (every : (v : Value) → valueAllowed v ≡ true
   query-has : (o : Option Query) (cs : List Cell) → allowed cs ≡ true → AnswerHas P (queryAnswer o cs)
   unfolding queryAnswer
   query-has none cs h = tt
-  query-has (some (theCell k)) cs h = lookup-has (number k) cs h
+  query-has (some (theCell k)) cs h = lookup-has (keyAsNumber k) cs h
   query-has (some (highestRecord d p)) cs h = highest-within (ofParameter d p) (λ c. c .key .recordNumber) (λ c k. limits (c .key) (key-allowed c k) .recordNumber) cs h
   query-has (some (highestEntry d p r)) cs h = highest-within (ofRecord d p r) (λ c. c .key .entryNumber) (λ c k. limits (c .key) (key-allowed c k) .entryNumber) cs h
 

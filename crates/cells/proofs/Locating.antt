@@ -10,7 +10,7 @@ use lib.Dec.{ltb, leb}
 use lib.ListN.{length, getD, take, drop, length-append, length-drop, take-append-drop}
 use lib.Seq.{getD-drop, drop-append-seam, getD-at, length-take-le}
 use Rattle.cells.specs.Bytes.{pairAt, quadAt, octetAt}
-use Rattle.cells.specs.Cell.{Cell, number, keyNumber, keyAt, cellAllowed, cellBytes, kindByte}
+use Rattle.cells.specs.Cell.{Cell, keyAsNumber, keyNumber, keyAt, cellAllowed, cellBytes, kindByte}
 use Rattle.cells.specs.Store.{encode, allowed, above, rising, cells, cellsHeld}
 use Rattle.cells.specs.inner.Index.{offsets, Ready, keyIn, Sorted, First}
 use Rattle.cells.proofs.BigEndian.{and-true, key-at}
@@ -148,7 +148,7 @@ module _ (b : List ℕ) (n : ℕ) (index : List ℕ) (count : ℕ) (cs : List Ce
         bytes = d;
         allowed = a;
         room = omega (arith, ap length d, length-append (cellBytes c) (encode y ++ drop n b), length-drop (getD index i 0) b, cell-least c a);
-        key = ap number (sym (key-at b (getD index i 0))) ∙ ap (λ (l : List ℕ). number (keyAt l 1)) d ∙ ap number (cell-key c (encode y ++ drop n b)) ∙ sym k;
+        key = ap keyAsNumber (sym (key-at b (getD index i 0))) ∙ ap (λ (l : List ℕ). keyAsNumber (keyAt l 1)) d ∙ ap keyAsNumber (cell-key c (encode y ++ drop n b)) ∙ sym k;
         number = k;
       }
 

@@ -12,7 +12,7 @@ use Rattle.meaning.specs.declared.question.Question.{Question}
 use Rattle.cells.specs.declared.Answered.{Answered}
 use Rattle.cells.specs.declared.Answered.the-variants.{Missing, Highest}
 use Rattle.cells.specs.Bytes.{pair, pairAt}
-use Rattle.cells.specs.Cell.{Key, keyOf, Cell, between, keyAllowed, keyBytes, number, cellBytes}
+use Rattle.cells.specs.Cell.{Key, keyOf, Cell, between, keyAllowed, keyBytes, keyAsNumber, cellBytes}
 use Rattle.cells.specs.Asking.{asked, Query, theCell, highestRecord, highestEntry, unused, queryOf, queryAllowed, questionAllowed, lookup, found, highestOf, ofParameter, ofRecord, queryAnswer, answer, stringStart, meant}
 use Rattle.cells.specs.inner.Tests.{unusedZero}
 use Rattle.cells.specs.inner.Index as I
@@ -32,8 +32,8 @@ module _ (k : Key) (l : Limits k) (e : k .entryNumber ≡ 0) where
       let b = and-true (eqb (c .key .datasource) (k .datasource)) (eqb (c .key .parameter) (k .parameter)) (a .0) in
       (eqb-true _ _ (b .0), eqb-true _ _ (b .1), eqb-true _ _ (a .1))
 
-  pub record-range : Range (ofRecord (k .datasource) (k .parameter) (k .recordNumber)) (λ c. c .key .entryNumber) (number k) (number k + 65536)
-  unfolding number ofRecord ofParameter
+  pub record-range : Range (ofRecord (k .datasource) (k .parameter) (k .recordNumber)) (λ c. c .key .entryNumber) (keyAsNumber k) (keyAsNumber k + 65536)
+  unfolding keyAsNumber ofRecord ofParameter
   record-range =
       record {
         from = λ c a t. let o = of-record c t in omega arith;
@@ -53,8 +53,8 @@ module _ (k : Key) (l : Limits k) (e : k .entryNumber ≡ 0) where
         let b = and-true (eqb (c .key .datasource) (k .datasource)) (eqb (c .key .parameter) (k .parameter)) t in
         (eqb-true _ _ (b .0), eqb-true _ _ (b .1))
 
-    pub parameter-range : Range (ofParameter (k .datasource) (k .parameter)) (λ c. c .key .recordNumber) (number k) (number k + 4294967296)
-    unfolding number ofParameter
+    pub parameter-range : Range (ofParameter (k .datasource) (k .parameter)) (λ c. c .key .recordNumber) (keyAsNumber k) (keyAsNumber k + 4294967296)
+    unfolding keyAsNumber ofParameter
     parameter-range =
         record {
           from = λ c a t. let o = of-parameter c t in omega arith;
@@ -118,7 +118,7 @@ module _ (q : Question) where
       go false false false r i e j = sym (and-none (keyAllowed (asked q)))
 
   module _ (cs : List Cell) where
-    pub answer-one : q .kind ≡ 1 → answer q cs ≡ found (lookup (number (asked q)) cs)
+    pub answer-one : q .kind ≡ 1 → answer q cs ≡ found (lookup (keyAsNumber (asked q)) cs)
     unfolding answer queryOf queryAnswer
     answer-one e = rw (eq-eqb _ _ e)
 
@@ -180,7 +180,7 @@ module _ (b index : List ℕ) (count : ℕ) (q : Question) (t : Bool) (k : t ≡
     pub key-inside : keyAllowed (asked q) ≡ true
     key-inside = parts .0
 
-    module _ (key : ℕ) (e : key ≡ number (asked q)) where
+    module _ (key : ℕ) (e : key ≡ keyAsNumber (asked q)) where
       pub answers-cell : q .kind ≡ 1 → (r : Answered) → CellAnswer b index count key r → Answers b index count q r
       unfolding stringStart
       answers-cell o r c = record { answer = λ m cs d. rw (whole, answer-one q cs o, ← e) (c .found m cs d); inside = λ m cs d. rw (← e) (c .inside m cs d) }

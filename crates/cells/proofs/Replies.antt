@@ -14,7 +14,7 @@ use Rattle.meaning.specs.declared.question.Question.{Question}
 use Rattle.meaning.specs.declared.refusal.Refusal.the-variants as R
 use Rattle.meaning.specs.declared.end.Ended.the-variants.{Finished}
 use Rattle.cells.specs.declared.Answered.{Answered}
-use Rattle.cells.specs.declared.Answered.the-variants.{Missing, Integer, Decimal, Text, Highest}
+use Rattle.cells.specs.declared.Answered.the-variants.{Missing, Integer, Decimal, StringAt, Highest}
 use Rattle.cells.specs.declared.index.Indexed.{Indexed}
 use Rattle.cells.specs.declared.index.Indexed.the-variants.{Count, BadStore}
 use Rattle.cells.specs.Cell.{Cell, cellAllowed, cellBytes}
@@ -32,7 +32,7 @@ unfolding InStore handed meant
 as-handed b n i Missing s = refl
 as-handed b n i (Integer z) s = refl
 as-handed b n i (Decimal z) s = refl
-as-handed b n i (Text j k) s = ap₂ Text (s .0) (sym (length-take-le k (drop j b) (omega (arith, s .1, s .2, length-drop j b))))
+as-handed b n i (StringAt j k) s = ap₂ StringAt (s .0) (sym (length-take-le k (drop j b) (omega (arith, s .1, s .2, length-drop j b))))
 as-handed b n i (Highest m) s = refl
 
 pub answer-handed : {b p : List ℕ} {n count : ℕ} {cs : List Cell} (q : Question) (x : Answered) → Answers b p count q x → Ready b n p count cs → x ≡ handed (stringStart q (some cs)) (cond (questionAllowed q) (answer q cs) missing)

@@ -10,7 +10,7 @@ use lib.Dec.{eqb}
 use lib.ListN.{length, drop-of-length-le}
 use Rattle.cells.specs.declared.request.Request.the-variants as R
 use Rattle.cells.specs.Bytes.{begins, equalBytes}
-use Rattle.cells.specs.Cell.{Key, Cell, number, keyAllowed, keyAt, keyBytes, cellAllowed, cellBytes, cellOf, kindByte, passing, front, wholeCell, wholeKey}
+use Rattle.cells.specs.Cell.{Key, Cell, keyAsNumber, keyAllowed, keyAt, keyBytes, cellAllowed, cellBytes, cellOf, kindByte, passing, front, wholeCell, wholeKey}
 use Rattle.cells.specs.inner.Tests.{sizeFound, frontSize, Sized}
 use Rattle.cells.specs.inner.Request.{requested, requestedKey, CellAsked, KeyAsked}
 use Rattle.cells.proofs.BigEndian.{Bytes, and-true, both, begins-self, begins-says}
@@ -63,7 +63,7 @@ module _ (s : List ℕ) (size : ℕ) (z : Sized s size) where
   pub request-more : size < length s → CellAsked s (wholeCell s) R.Bad
   request-more h = no-whole s (λ c w. omega (arith, size-is c w, ap length (w .bytes)))
 
-  pub request-cell : 1 ≤ size → length s ≤ size → (key : ℕ) → key ≡ number (keyAt s 1) → CellAsked s (wholeCell s) (R.Key key)
+  pub request-cell : 1 ≤ size → length s ≤ size → (key : ℕ) → key ≡ keyAsNumber (keyAt s 1) → CellAsked s (wholeCell s) (R.Key key)
   unfolding requested
   request-cell h l key k = go (front s) refl
     where
@@ -71,7 +71,7 @@ module _ (s : List ℕ) (size : ℕ) (z : Sized s size) where
       found c e a =
           rw (ap wholeCell e ∙ whole-cell c a)
           (record {
-            told = ap R.Key (k ∙ ap (λ (x : List ℕ). number (keyAt x 1)) (e ∙ sym (append-nil (cellBytes c))) ∙ ap number (cell-key c []));
+            told = ap R.Key (k ∙ ap (λ (x : List ℕ). keyAsNumber (keyAt x 1)) (e ∙ sym (append-nil (cellBytes c))) ∙ ap keyAsNumber (cell-key c []));
             short = λ d q. omega (arith, ap length e, cell-size (c .key) (c .value) (value-allowed c a), size-most (kindByte (c .value)));
           })
 
@@ -129,7 +129,7 @@ module _ (s : List ℕ) where
     key-out n =
         no-key s (λ k w. false≢true (sym (not-true t n) ∙ a ∙ ap (λ (x : List ℕ). keyAllowed (keyAt x 0)) (w .bytes ∙ sym (append-nil (keyBytes k))) ∙ ap keyAllowed (key-reads k []) ∙ w .allowed))
 
-    pub key-in : not t ≡ false → Bytes s → 7 ≤ length s → length s ≤ 7 → (key : ℕ) → key ≡ number (keyAt s 0) → KeyAsked (wholeKey s) (R.Key key)
+    pub key-in : not t ≡ false → Bytes s → 7 ≤ length s → length s ≤ 7 → (key : ℕ) → key ≡ keyAsNumber (keyAt s 0) → KeyAsked (wholeKey s) (R.Key key)
     unfolding wholeKey requestedKey
     key-in n b h l key k =
         let e : keyBytes (keyAt s 0) ≡ s = sym (append-nil (keyBytes (keyAt s 0))) ∙ ap (λ (x : List ℕ). keyBytes (keyAt s 0) ++ x) (sym (drop-of-length-le s {i = 0 + 7} (omega arith))) ∙ key-back s b 0 (omega arith) in

@@ -15,7 +15,7 @@ use mir.Syntax.{w64}
 use mir.Val.{SFits, toZ, ofZ}
 use mir.ValLaws.{toZ-ofZ}
 use Rattle.meaning.specs.Answer.{integer, decimal, string, cell}
-use Rattle.cells.specs.declared.Answered.the-variants.{Missing, Integer, Decimal, Text}
+use Rattle.cells.specs.declared.Answered.the-variants.{Missing, Integer, Decimal, StringAt}
 use Rattle.cells.specs.Bytes.{quadAt, octetAt, fromComplement, word, long}
 use Rattle.cells.specs.Cell.{Kind, integers, decimals, strings, kinds, rowIn, kindByte, integerKind, decimalKind, Cell, cellAllowed, cellBytes, cellBy, cellOf}
 use Rattle.cells.specs.inner.Tests.{sizeOf}
@@ -127,7 +127,7 @@ module _ (b : List ℕ) (at : ℕ) where
           inside = λ c q a e. tt;
         }
 
-    pub value-text : (n : ℕ) → n ≡ getD b (at + 8) 0 → ValueAt b at (Text (at + 9) n)
+    pub value-text : (n : ℕ) → n ≡ getD b (at + 8) 0 → ValueAt b at (StringAt (at + 9) n)
     unfolding meant InStore
     value-text n q =
         record {

@@ -13,7 +13,7 @@ use lib.Seq.{sets, drop-drop, take-all}
 use Rattle.buffers.proofs.Laws.{sets-append}
 use Rattle.cells.specs.declared.index.Indexed.{Indexed}
 use Rattle.cells.specs.declared.index.Indexed.the-variants.{Count, BadStore}
-use Rattle.cells.specs.Cell.{Cell, number, keyNumber, keyAt, cellAllowed, cellBytes, front}
+use Rattle.cells.specs.Cell.{Cell, keyAsNumber, keyNumber, keyAt, cellAllowed, cellBytes, front}
 use Rattle.cells.specs.inner.Tests.{sizeFound, frontSize, Sized}
 use Rattle.cells.specs.Store.{encode, allowed, above, rising, cells, cellsHeld}
 use Rattle.cells.specs.inner.Index.{offsets, counted, Filled, Indexes}
@@ -229,9 +229,9 @@ module _ (bs places₀ : List ℕ) (at count least : ℕ) (starts : List ℕ) (w
           no-size : (c : Cell) → front (drop at bs) ≡ some c → ⊥
           no-size c e = omega (arith, size-found (drop at bs) size c (s .size) e, cell-some c)
 
-      module _ (key : ℕ) (k : key ≡ number (keyAt (take (length bs - at) (drop at bs)) 1)) where
+      module _ (key : ℕ) (k : key ≡ keyAsNumber (keyAt (take (length bs - at) (drop at bs)) 1)) where
         key-of : (c : Cell) (r : List ℕ) → drop at bs ≡ cellBytes c ++ r → key ≡ keyNumber c
-        key-of c r b = k ∙ ap (λ (l : List ℕ). number (keyAt l 1)) (whole ∙ b) ∙ ap number (cell-key c r)
+        key-of c r b = k ∙ ap (λ (l : List ℕ). keyAsNumber (keyAt l 1)) (whole ∙ b) ∙ ap keyAsNumber (cell-key c r)
 
         pub walk-low-key : key < least → Indexes places₀ (cells bs) starts BadStore
         walk-low-key h = refused (none-held (λ c cs e r b. omega (arith, w .next c cs r, key-of c (encode cs) b))) starts

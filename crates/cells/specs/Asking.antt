@@ -15,9 +15,9 @@ use Rattle.meaning.specs.declared.end.Halt.the-variants.{Refused}
 use Rattle.meaning.specs.declared.end.Ended.{Ended}
 use Rattle.meaning.specs.declared.end.Ended.the-variants.{Finished, Halted}
 use Rattle.cells.specs.declared.Answered.{Answered}
-use Rattle.cells.specs.declared.Answered.the-variants.{Missing, Integer, Decimal, Text, Highest}
+use Rattle.cells.specs.declared.Answered.the-variants.{Missing, Integer, Decimal, StringAt, Highest}
 use Rattle.cells.specs.declared.Asked.{Asked}
-use Rattle.cells.specs.Cell.{Key, keyOf, Cell, number, keyNumber, keyAllowed, cellBytes}
+use Rattle.cells.specs.Cell.{Key, keyOf, Cell, keyAsNumber, keyNumber, keyAllowed, cellBytes}
 use Rattle.cells.specs.Store.{cellsHeld}
 
 -- the key that the four numbers are
@@ -85,7 +85,7 @@ ofRecord d p r c = ofParameter d p c && eqb (c .key .recordNumber) r
 -- the highest entry number in one record"
 unfoldable pub queryAnswer : Option Query → List Cell → Answer
 queryAnswer none cs = missing
-queryAnswer (some (theCell k)) cs = found (lookup (number k) cs)
+queryAnswer (some (theCell k)) cs = found (lookup (keyAsNumber k) cs)
 queryAnswer (some (highestRecord d p)) cs = highest (highestOf (ofParameter d p) (λ c. c .key .recordNumber) cs)
 queryAnswer (some (highestEntry d p r)) cs = highest (highestOf (ofRecord d p r) (λ c. c .key .entryNumber) cs)
 
@@ -124,14 +124,14 @@ cellStart n (c ∷ cs) = cond (eqb (keyNumber c) n) 0 (length (cellBytes c) + ce
 -- string that is answered begin in the store
 unfoldable pub stringStart : Question → Option (List Cell) → ℕ
 stringStart q none = 0
-stringStart q (some cs) = cellStart (number (asked q)) cs + (1 + 7 + 1)
+stringStart q (some cs) = cellStart (keyAsNumber (asked q)) cs + (1 + 7 + 1)
 
 -- an answer as it is handed back: a string as a part of the store, by its place and its length
 unfoldable pub handed : ℕ → Answer → Answered
 handed i missing = Missing
 handed i (cell (A.number (Q.Integer z))) = Integer z
 handed i (cell (A.number (Q.Decimal z))) = Decimal z
-handed i (cell (string s)) = Text i (length s)
+handed i (cell (string s)) = StringAt i (length s)
 handed i (highest n) = Highest n
 
 -- "Ask answers one question."
@@ -143,5 +143,5 @@ unfoldable pub meant : List ℕ → Answered → Answer
 meant b Missing = missing
 meant b (Integer z) = cell (integer z)
 meant b (Decimal z) = cell (decimal z)
-meant b (Text i n) = cell (string (take n (drop i b)))
+meant b (StringAt i n) = cell (string (take n (drop i b)))
 meant b (Highest n) = highest n

@@ -36,8 +36,8 @@ unfoldable pub keyBytes : Key → List ℕ
 keyBytes k = k .datasource ∷ (pair (k .parameter) ++ (pair (k .recordNumber) ++ pair (k .entryNumber)))
 
 -- the 7 bytes of a key as one big-endian number: the order of keys
-unfoldable pub number : Key → ℕ
-number k = ((k .datasource * 65536 + k .parameter) * 65536 + k .recordNumber) * 65536 + k .entryNumber
+unfoldable pub keyAsNumber : Key → ℕ
+keyAsNumber k = ((k .datasource * 65536 + k .parameter) * 65536 + k .recordNumber) * 65536 + k .entryNumber
 
 -- every byte passes a test
 unfoldable pub each : (ℕ → Bool) → List ℕ → Bool
@@ -149,7 +149,7 @@ pub record Cell : Type 0 where
   pub value : Value
 
 abbrev pub keyNumber : Cell → ℕ
-keyNumber c = number (c .key)
+keyNumber c = keyAsNumber (c .key)
 
 unfoldable pub cellAllowed : Cell → Bool
 cellAllowed c = keyAllowed (c .key) && valueAllowed (c .value)

@@ -3,7 +3,7 @@ ghost use mathlib.Core.Path.{_≡_};
 ghost use Prim.Native.Nat.{_+_, _≤_, _<_};
 ghost use lib.ListN.{length};
 ghost use Rattle.cells.specs.Bytes.{pairAt, quadAt, octetAt};
-ghost use Rattle.cells.specs.Cell.{number, keyAt};
+ghost use Rattle.cells.specs.Cell.{keyAsNumber, keyAt};
 
 pub fn wide(b: u8) -> u64
     ensures { λ r. ⌜ (r ≡ b) × (r < 256) ⌝ }
@@ -42,7 +42,7 @@ pub fn octet(s: &[u8], at: usize) -> u64
 // The 7 bytes of a key as one number.
 pub fn key_number(s: &[u8], at: usize) -> u64
     requires { ⌜ at + 7 ≤ length (now s) ⌝ }
-    ensures { λ r. ⌜ (r ≡ number (keyAt (now (s .entry)) at)) × (r < 72057594037927936) ⌝ }
+    ensures { λ r. ⌜ (r ≡ keyAsNumber (keyAt (now (s .entry)) at)) × (r < 72057594037927936) ⌝ }
 {
     ((wide(s[at]) * 65536 + pair(s, at + 1)) * 65536 + pair(s, at + 3)) * 65536 + pair(s, at + 5)
 }

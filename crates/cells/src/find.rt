@@ -5,7 +5,7 @@ ghost use mathlib.Core.Path.{_≡_};
 ghost use Prim.Native.Nat.{_+_, _/_, _≤_, _<_};
 ghost use lib.Dec.{eqb};
 ghost use lib.ListN.{length, getD};
-ghost use Rattle.cells.specs.Cell.{number, keyAt};
+ghost use Rattle.cells.specs.Cell.{keyAsNumber, keyAt};
 ghost use Rattle.cells.specs.inner.Index.{Position, SizeAt, belowOf, boundOf};
 
 // So many keys have 7 bytes: 2^56.
@@ -36,7 +36,7 @@ fn wide_place(place: u16) -> usize
 // The key of the cell at a place with the byte behind it, as one number: eight bytes are one load, seven are not. 0 where
 // the store has no room.
 pub fn key_and_byte(store: &[u8], at: usize) -> u64
-    ensures { λ r. ⌜ (at + 9 ≤ length (now (store .entry)) → r / 256 ≡ number (keyAt (now (store .entry)) (at + 1))) ⌝ }
+    ensures { λ r. ⌜ (at + 9 ≤ length (now (store .entry)) → r / 256 ≡ keyAsNumber (keyAt (now (store .entry)) (at + 1))) ⌝ }
 {
     let n = store.len();
     if n < 9 {
@@ -50,7 +50,7 @@ pub fn key_and_byte(store: &[u8], at: usize) -> u64
 
 // Whether the cell at a place has a key.
 pub fn has_key(store: &[u8], at: usize, key: u64) -> bool
-    ensures { λ r. ⌜ (at + 9 ≤ length (now (store .entry)) → r ≡ eqb (number (keyAt (now (store .entry)) (at + 1))) key) ⌝ }
+    ensures { λ r. ⌜ (at + 9 ≤ length (now (store .entry)) → r ≡ eqb (keyAsNumber (keyAt (now (store .entry)) (at + 1))) key) ⌝ }
 {
     let found = key_and_byte(store, at);
     if KEYS <= key {

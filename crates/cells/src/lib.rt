@@ -21,12 +21,12 @@ use meaning::refusal::Refusal;
 ghost use mathlib.Core.Path.{_≡_};
 ghost use Rattle.cells.specs.Asking.{askedOf};
 
-// The answer to a question. A text is a part of the store: its place and its length.
+// The answer to a question. A string is a part of the store: its place and its length.
 pub enum Answered {
     Missing,
     Integer(i64),
     Decimal(i64),
-    Text(usize, usize),
+    StringAt(usize, usize),
     Highest(u32),
 }
 

@@ -7,7 +7,7 @@ use meaning::question::Question;
 ghost use mathlib.Core.Path.{_≡_};
 ghost use mathlib.Core.Bool.{true};
 ghost use Prim.Native.Nat.{_+_, _≤_, _<_};
-ghost use Rattle.cells.specs.Cell.{keyOf, number, keyAllowed};
+ghost use Rattle.cells.specs.Cell.{keyOf, keyAsNumber, keyAllowed};
 ghost use Rattle.cells.specs.Asking.{questionAllowed};
 ghost use Rattle.cells.specs.inner.Index.{CellAnswer, Highest, Answers, reachOf, offsetOf};
 
@@ -50,7 +50,7 @@ pub fn allowed(question: Question) -> bool
 // A key within the limits as one number.
 fn number_of(datasource: u32, parameter: u32, record_number: u32, entry: u32) -> u64
     requires { ⌜ keyAllowed (keyOf datasource parameter «record_number» entry) ≡ true ⌝ }
-    ensures { λ r. ⌜ (r ≡ number (keyOf datasource parameter «record_number» entry)) × (r < 72057594037927936) ⌝ }
+    ensures { λ r. ⌜ (r ≡ keyAsNumber (keyOf datasource parameter «record_number» entry)) × (r < 72057594037927936) ⌝ }
 {
     let d = wide(datasource) * 65536 + wide(parameter);
     (d * 65536 + wide(record_number)) * 65536 + wide(entry)

@@ -61,5 +61,5 @@ pub fn value_at(store: &[u8], at: usize) -> Answered
     if room < 25 {
         return Answered::Missing;
     }
-    Answered::Text(at + 9, bytes::size(store[at + 8]))
+    Answered::StringAt(at + 9, bytes::size(store[at + 8]))
 }

@@ -18,7 +18,7 @@ use Rattle.values.proofs.Texts.{text-is, length-cased}
 use Rattle.values.specs.inner.State.{texts, bank, lengthsIn}
 use Rattle.values.specs.declared.worth.Worth.{Worth}
 use Rattle.values.proofs.Keeping.{strings-kept}
-use Rattle.commands.specs.declared.settle.Verdict.the-variants as Ve
+use Rattle.commands.specs.declared.settle.Assigned.the-variants as Ve
 use Rattle.commands.specs.declared.settle.Phrase.{Phrase}
 use Rattle.commands.specs.declared.settle.Phrase.the-variants.{String, NoString}
 use Rattle.commands.specs.Setting.{asVariable, stringNew}

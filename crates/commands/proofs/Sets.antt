@@ -20,8 +20,8 @@ use Rattle.values.specs.Worth as D
 use Rattle.values.specs.inner.Yielding.{meant}
 use Rattle.commands.specs.declared.settle.Taken.{Taken}
 use Rattle.commands.specs.declared.settle.Taken.the-variants.{Value, Refused}
-use Rattle.commands.specs.declared.settle.Verdict.{Verdict}
-use Rattle.commands.specs.declared.settle.Verdict.the-variants as Ve
+use Rattle.commands.specs.declared.settle.Assigned.{Assigned}
+use Rattle.commands.specs.declared.settle.Assigned.the-variants as Ve
 use Rattle.commands.specs.Settling.{Settled, settled, against, resultOf}
 use Rattle.commands.specs.Setting.{asVariable, newFrom, integerNew, decimalNew, stringNew, withIntegers, withDecimals, withStrings, setOf}
 use Rattle.commands.specs.inner.Taking.{takenOf, verdictOf, mapped, Takes}
@@ -56,7 +56,7 @@ stored-in : {A B C : Type 0} (f : A → B) (a : A) (x : Settled A) (y : Settled 
 stored-in f a x (settled c) e = rw e
 stored-in f a x (against r) e = rw e
 
-module _ (line store : List ℕ) (numbers : List ℤ) (rows : List (List ℕ)) (words : List ℕ) (o : Operation) (t : Target) (w : Worth) (n : ℕ) (v : Verdict) (r : Rowed rows) where
+module _ (line store : List ℕ) (numbers : List ℤ) (rows : List (List ℕ)) (words : List ℕ) (o : Operation) (t : Target) (w : Worth) (n : ℕ) (v : Assigned) (r : Rowed rows) where
   abbrev Here : Strings
   Here = strings line store rows
 

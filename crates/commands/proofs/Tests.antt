@@ -23,9 +23,9 @@ use Rattle.commands.specs.declared.settle.Judged.{Judged}
 use Rattle.commands.specs.declared.settle.Judged.the-variants.{Holds, Refused}
 use Rattle.commands.specs.Settling.{settled, against}
 use Rattle.commands.specs.Testing.{zeroTest, zeroJudged, ofNumbers, ofStrings, judged, compared}
-use Rattle.commands.specs.inner.Kinds.{kindOf, numbersHold}
-use Rattle.commands.specs.declared.test.Kind.{Kind}
-use Rattle.commands.specs.declared.test.Kind.the-variants as K
+use Rattle.commands.specs.inner.Kinds.{comparandsOf, numbersHold}
+use Rattle.commands.specs.declared.test.Comparands.{Comparands}
+use Rattle.commands.specs.declared.test.Comparands.the-variants as K
 use Rattle.commands.specs.inner.Judging.{Lacks, JudgesNumbers, JudgesZero}
 use Rattle.commands.specs.inner.Taking.{judgedOf, TakesQuantity, TakesText}
 
@@ -60,8 +60,8 @@ module _ (s : Strings) (i : Bool) (v w : Worth) (a : Phrase) (d : TakesText v a)
     strings-both q r k e = rw (← (d .same s), ← (d′ .same s), h, k, e)
 
 -- a test of strings, and one of numbers, as the code has them
-kind-strings : (c : Comparison) (i : Bool) (v w : D.Worth) → K.Strings i ≡ kindOf c → judged c v w ≡ ofStrings i v w
-unfolding judged kindOf
+kind-strings : (c : Comparison) (i : Bool) (v w : D.Worth) → K.Strings i ≡ comparandsOf c → judged c v w ≡ ofStrings i v w
+unfolding judged comparandsOf
 kind-strings SameString i v w h = let e : i ≡ false = cc in rw e
 kind-strings SameLetters i v w h = let e : i ≡ true = cc in rw e
 kind-strings Equal i v w h = absurd (let z : _≡_ {A = ℕ} 0 1 = cc in omega arith)
@@ -71,8 +71,8 @@ kind-strings AtMost i v w h = absurd (let z : _≡_ {A = ℕ} 0 1 = cc in omega 
 kind-strings Greater i v w h = absurd (let z : _≡_ {A = ℕ} 0 1 = cc in omega arith)
 kind-strings AtLeast i v w h = absurd (let z : _≡_ {A = ℕ} 0 1 = cc in omega arith)
 
-kind-numbers : (c : Comparison) (v w : D.Worth) → K.Numbers ≡ kindOf c → judged c v w ≡ ofNumbers (numbersHold c) v w
-unfolding judged kindOf numbersHold
+kind-numbers : (c : Comparison) (v w : D.Worth) → K.Numbers ≡ comparandsOf c → judged c v w ≡ ofNumbers (numbersHold c) v w
+unfolding judged comparandsOf numbersHold
 kind-numbers SameString v w h = absurd (let z : _≡_ {A = ℕ} 0 1 = cc in omega arith)
 kind-numbers SameLetters v w h = absurd (let z : _≡_ {A = ℕ} 0 1 = cc in omega arith)
 kind-numbers Equal v w h = refl
@@ -92,7 +92,7 @@ module _ (s : Strings) (c : Comparison) (v w : Worth) (a : Bool) (d : Lacks v a)
     unfolding compared
     compared-second k = rw (← (d .same s), ← (d′ .same s), h, k)
 
-    module _ (k : b ≡ false) (x : Kind) (e : x ≡ kindOf c) (r : Judged) where
+    module _ (k : b ≡ false) (x : Comparands) (e : x ≡ comparandsOf c) (r : Judged) where
       pub compared-strings : (i : Bool) → x ≡ K.Strings i → judgedOf r ≡ ofStrings i (meant s v) (meant s w) → judgedOf r ≡ compared c (meant s v) (meant s w)
       unfolding compared
       compared-strings i j y = rw (← (d .same s), ← (d′ .same s), h, k, kind-strings c i (meant s v) (meant s w) (sym j ∙ e)) y

@@ -53,7 +53,7 @@ stringFrom (string s) = settled s
 -- 12: "The divisor is zero." 13: "A result is out of range"
 unfoldable pub resultOf : N.Result → Settled ℤ
 resultOf (N.success z) = settled z
-resultOf (N.refused n) = against (cond (eqb n 12) ZeroDivisor OutOfRange)
+resultOf (N.noResult n) = against (cond (eqb n 12) ZeroDivisor OutOfRange)
 
 -- a number where a decimal is taken
 unfoldable pub millionthsOf : Quantity → Settled ℤ

@@ -1,7 +1,7 @@
 // $SETE, $SETA, $SETS, $SETM, $SETD.
 use crate::settle;
+use crate::settle::Assigned;
 use crate::settle::Taken;
-use crate::settle::Verdict;
 use crate::string;
 use lines::command::Operation;
 use lines::command::Target;
@@ -46,15 +46,15 @@ fn decimal_result(o: Operation, a: i64, b: i64) -> Number
 }
 
 // A result as IVn or FVn, or the refusal.
-fn stored(taken: Taken, from: usize, n: usize, numbers: &mut Numbers) -> Verdict
+fn stored(taken: Taken, from: usize, n: usize, numbers: &mut Numbers) -> Assigned
     requires { ⌜ from ≤ 99 ⌝ }
     ensures { λ r. ⌜ StoresNumber (now (numbers .entry)) from n taken (now (numbers .exit)) r ⌝ }
 {
     match taken {
-        Taken::Refused(e) => Verdict::Refused(e),
+        Taken::Refused(e) => Assigned::Refused(e),
         Taken::Value(z) => {
             registers::put_number(numbers, from, 99, n, z);
-            Verdict::Passed
+            Assigned::Passed
         }
     }
 }
@@ -90,7 +90,7 @@ pub fn assigned<'a>(
     o: Operation,
     target: Target,
     worth: Worth,
-) -> Verdict
+) -> Assigned
     requires { ⌜ Rowed (now strings) ⌝ }
     ensures { λ r. ⌜ Assigns (now (line .entry)) (now (store .entry)) (held (now (numbers .entry)) (now (strings .entry)) (now (words .entry))) o target worth (held (now (numbers .exit)) (now (strings .exit)) (now (words .exit))) r ⌝ }
 {

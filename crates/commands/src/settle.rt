@@ -35,7 +35,7 @@ pub enum Judged {
 }
 
 // The line goes on, or why it is refused.
-pub enum Verdict {
+pub enum Assigned {
     Passed,
     Refused(Refusal),
 }

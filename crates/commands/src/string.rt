@@ -1,7 +1,7 @@
 // A string as the row and the length of SVn.
 use crate::settle;
+use crate::settle::Assigned;
 use crate::settle::Phrase;
-use crate::settle::Verdict;
 use values::registers;
 use values::registers::Words;
 use values::string;
@@ -61,20 +61,20 @@ pub fn stored<'a>(
     words: &mut Words,
     n: usize,
     worth: Worth,
-) -> Verdict
+) -> Assigned
     requires { ⌜ Rowed (now strings) ⌝ }
     ensures { λ r. ⌜ StoresString (now (line .entry)) (now (store .entry)) (now (strings .entry)) (now (words .entry)) n worth (now (strings .exit)) (now (words .exit)) r ⌝ }
 {
     let phrase = settle::text_of(worth);
     match phrase {
-        Phrase::NoString(e) => Verdict::Refused(e),
+        Phrase::NoString(e) => Assigned::Refused(e),
         Phrase::String(text) => {
             let source = text.source;
             let row = string::row_for(strings, source);
             let bytes = string::bytes_of(line, store, &row, text);
             let copy = copied(bytes, text.upper);
             put(strings, words, n, copy, count_of(bytes));
-            Verdict::Passed
+            Assigned::Passed
         }
     }
 }

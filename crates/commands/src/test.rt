@@ -29,23 +29,23 @@ fn lacks(worth: Worth) -> bool
 }
 
 // What is compared: two numbers, or two strings, whose case may be ignored.
-pub enum Kind {
+pub enum Comparands {
     Numbers,
     Strings(bool),
 }
 
-fn kind_of(c: Comparison) -> Kind
-    ensures { λ r. ⌜ r ≡ K.kindOf c ⌝ }
+fn comparands_of(c: Comparison) -> Comparands
+    ensures { λ r. ⌜ r ≡ K.comparandsOf c ⌝ }
 {
     match c {
-        Comparison::SameString => Kind::Strings(false),
-        Comparison::SameLetters => Kind::Strings(true),
-        Comparison::Equal => Kind::Numbers,
-        Comparison::NotEqual => Kind::Numbers,
-        Comparison::Less => Kind::Numbers,
-        Comparison::AtMost => Kind::Numbers,
-        Comparison::Greater => Kind::Numbers,
-        Comparison::AtLeast => Kind::Numbers,
+        Comparison::SameString => Comparands::Strings(false),
+        Comparison::SameLetters => Comparands::Strings(true),
+        Comparison::Equal => Comparands::Numbers,
+        Comparison::NotEqual => Comparands::Numbers,
+        Comparison::Less => Comparands::Numbers,
+        Comparison::AtMost => Comparands::Numbers,
+        Comparison::Greater => Comparands::Numbers,
+        Comparison::AtLeast => Comparands::Numbers,
     }
 }
 
@@ -136,10 +136,10 @@ pub fn compare<'a>(
     if lacks(w) {
         return Judged::Refused(Refusal::MissingArgument);
     }
-    let kind = kind_of(c);
+    let kind = comparands_of(c);
     match kind {
-        Kind::Numbers => numbers_judged(c, v, w),
-        Kind::Strings(ignoring) => strings_judged(line, store, strings, ignoring, v, w),
+        Comparands::Numbers => numbers_judged(c, v, w),
+        Comparands::Strings(ignoring) => strings_judged(line, store, strings, ignoring, v, w),
     }
 }
 

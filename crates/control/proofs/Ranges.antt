@@ -77,7 +77,7 @@ quantity-from (string s) h = tt
 result-within : (limit : ℕ) (o : N.Result) → ((v : ℤ) → o ≡ N.success v → natAbs v ≤ limit) → Whenever (resultOf o) (λ v. natAbs v ≤ limit)
 unfolding resultOf
 result-within limit (N.success z) h = h z refl
-result-within limit (N.refused n) h = tt
+result-within limit (N.noResult n) h = tt
 
 millionths-of : (q : Quantity) → QuantityWithin q → Whenever (millionthsOf q) DecimalWithin
 unfolding millionthsOf

@@ -22,7 +22,7 @@ use Rattle.scan.specs.Ascii.{ascii}
 use Rattle.arguments.specs.declared.index.Index.{Index}
 use Rattle.arguments.specs.declared.index.Index.the-variants.{Fixed, Variable, Loop}
 use Rattle.arguments.specs.declared.operand.Operand.{Operand}
-use Rattle.arguments.specs.declared.operand.Operand.the-variants.{Number, Text, IntegerVariable, StringVariable, Parameter, Record}
+use Rattle.arguments.specs.declared.operand.Operand.the-variants.{NumberLiteral, StringLiteral, IntegerVariable, StringVariable, Parameter, Record}
 use Rattle.arguments.specs.declared.argument.Argument.{Argument}
 use Rattle.arguments.specs.declared.argument.Filter.the-variants.{Unfiltered, Absolute, UpperCase}
 use Rattle.lines.specs.declared.command.Operation.{Operation}
@@ -73,15 +73,15 @@ source q = A.missing
 abbrev plain : Operand → Argument
 plain o = record { operand = o; filter = Unfiltered }
 
-abbrev whole : ℤ → Argument
-whole z = plain (Number (Integer z))
+abbrev integerArgument : ℤ → Argument
+integerArgument z = plain (NumberLiteral (Integer z))
 
-abbrev millionths : ℤ → Argument
-millionths z = plain (Number (Decimal z))
+abbrev decimalArgument : ℤ → Argument
+decimalArgument z = plain (NumberLiteral (Decimal z))
 
 -- how a command on line 7 ends, with some places on the read list
-abbrev sets : Operation → Target → Argument → End Refusal ℕ Variables
-sets o t a = run source 5 0 (setMeaning sample (ascii "") 7 o t a) .end
+abbrev assigns : Operation → Target → Argument → End Refusal ℕ Variables
+assigns o t a = run source 5 0 (setMeaning sample (ascii "") 7 o t a) .end
 
 -- the value that a variable has then, 0 where the run is over
 abbrev valueIn : (Variables → List ℤ) → ℕ → End Refusal ℕ Variables → ℤ
@@ -95,105 +95,105 @@ abbrev decimalsOf : Variables → List ℤ
 decimalsOf m = m .decimals
 
 -- SVn then, of the line `"cs-137" "0123456789abcdefg"`
-abbrev words : Argument → ℕ → End Refusal ℕ Variables
-words a n = run source 5 0 (setMeaning sample (ascii "\"cs-137\" \"0123456789abcdefg\"") 7 Assign (StringTarget n) a) .end
+abbrev assignsString : Argument → ℕ → End Refusal ℕ Variables
+assignsString a n = run source 5 0 (setMeaning sample (ascii "\"cs-137\" \"0123456789abcdefg\"") 7 Assign (StringTarget n) a) .end
 
-abbrev wordIn : ℕ → End Refusal ℕ Variables → List ℕ
-wordIn n (finished m) = numbered [] (m .strings) n
-wordIn n (halted c l) = []
+abbrev stringIn : ℕ → End Refusal ℕ Variables → List ℕ
+stringIn n (finished m) = numbered [] (m .strings) n
+stringIn n (halted c l) = []
 
 -- the run of a test of the line `"cs-137" "CS" "" "Cs"`
-abbrev tests : ℕ → Comparison → Argument → Argument → Run Question Refusal ℕ Bool
-tests places c a b = run source places 0 (testMeaning sample (ascii "\"cs-137\" \"CS\" \"\" \"Cs\"") 7 c a b)
+abbrev compares : ℕ → Comparison → Argument → Argument → Run Question Refusal ℕ Bool
+compares places c a b = run source places 0 (testMeaning sample (ascii "\"cs-137\" \"CS\" \"\" \"Cs\"") 7 c a b)
 
-abbrev long : Argument
-long = plain (Text 1 7)
+abbrev longString : Argument
+longString = plain (StringLiteral 1 7)
 
-abbrev short : Argument
-short = plain (Text 10 12)
+abbrev shortString : Argument
+shortString = plain (StringLiteral 10 12)
 
-abbrev empty : Argument
-empty = plain (Text 15 15)
+abbrev emptyString : Argument
+emptyString = plain (StringLiteral 15 15)
 
 -- a table whose first line is line 2, at byte 10
-abbrev table : ℕ → ℕ → Table
-table n c = countedTo (newTable n 10 2) c
+abbrev tableOf : ℕ → ℕ → Table
+tableOf n c = countedTo (newTable n 10 2) c
 
 -- how $BT ends where no table is open, and $ET in a table of 5 whose counter is 3
-abbrev begins : Argument → End Refusal ℕ Looping
-begins a = run source 5 0 (beginMeaning sample (ascii "") 7 [] 10 2 a) .end
+abbrev beginsTable : Argument → End Refusal ℕ Looping
+beginsTable a = run source 5 0 (beginMeaning sample (ascii "") 7 [] 10 2 a) .end
 
-abbrev ends : Optional → End Refusal ℕ Looping
-ends k = run source 5 0 (endMeaning sample (ascii "") 7 (table 5 3 ∷ []) k) .end
+abbrev endsTable : Optional → End Refusal ℕ Looping
+endsTable k = run source 5 0 (endMeaning sample (ascii "") 7 (tableOf 5 3 ∷ []) k) .end
 
 -- the run of `$REC 1 P9 record 0 count`, with two places on the read list
-abbrev fetches : Index → Index → Run Question Refusal ℕ Variables
-fetches r n = run source 2 0 (recordsMeaning sample 7 (record { number = 1; parameter = 9; «record» = r; entry = Fixed 0; count = n }))
+abbrev fetchesRecords : Index → Index → Run Question Refusal ℕ Variables
+fetchesRecords r n = run source 2 0 (recordsMeaning sample 7 (record { number = 1; parameter = 9; «record» = r; entry = Fixed 0; count = n }))
 
 -- how $SETDS ends
-abbrev selects : Index → End Refusal ℕ ℕ
-selects i = run source 0 0 (datasourceMeaning sample 7 i) .end
+abbrev selectsDatasource : Index → End Refusal ℕ ℕ
+selectsDatasource i = run source 0 0 (datasourceMeaning sample 7 i) .end
 
 abbrev Rows : Type 0
 Rows =
     -- document 01: 0.000001 × 0.5 = 0.000001; −1 ÷ 3 in FV = −0.333333; IV −7 ÷ 2 = −3; 2,000,000,000 × 2: 13
-    (valueIn decimalsOf 1 (sets Multiply (DecimalTarget 1) (millionths (pos 500000))) ≡ pos 1)
-    × (valueIn decimalsOf 2 (sets Divide (DecimalTarget 2) (whole (pos 3))) ≡ negsuc 333332)
-    × (valueIn integersOf 1 (sets Divide (IntegerTarget 1) (whole (pos 2))) ≡ negsuc 2)
-    × (sets Multiply (IntegerTarget 3) (whole (pos 2)) ≡ halted (refused OutOfRange) 7)
+    (valueIn decimalsOf 1 (assigns Multiply (DecimalTarget 1) (decimalArgument (pos 500000))) ≡ pos 1)
+    × (valueIn decimalsOf 2 (assigns Divide (DecimalTarget 2) (integerArgument (pos 3))) ≡ negsuc 333332)
+    × (valueIn integersOf 1 (assigns Divide (IntegerTarget 1) (integerArgument (pos 2))) ≡ negsuc 2)
+    × (assigns Multiply (IntegerTarget 3) (integerArgument (pos 2)) ≡ halted (refused OutOfRange) 7)
     -- document 01: "" equals "Cs"; "cs-137", "CS" equal under SI, not SS
-    × (tests 0 SameString empty (plain (Text 18 20)) .end ≡ finished true)
-    × (tests 0 SameLetters long short .end ≡ finished true)
-    × (tests 0 SameString long short .end ≡ finished false)
+    × (compares 0 SameString emptyString (plain (StringLiteral 18 20)) .end ≡ finished true)
+    × (compares 0 SameLetters longString shortString .end ≡ finished true)
+    × (compares 0 SameString longString shortString .end ≡ finished false)
     -- `$SETE IV1 2.0` is 11, `$SETE FV1 2` is 2; `$SETD IV1 0` is 12; a missing cell is 10
-    × (sets Assign (IntegerTarget 1) (millionths (pos 2000000)) ≡ halted (refused WrongKind) 7)
-    × (valueIn decimalsOf 1 (sets Assign (DecimalTarget 1) (whole (pos 2))) ≡ pos 2000000)
-    × (sets Divide (IntegerTarget 1) (whole (pos 0)) ≡ halted (refused ZeroDivisor) 7)
-    × (sets Assign (IntegerTarget 1) (plain (Parameter 9)) ≡ halted (refused MissingArgument) 7)
+    × (assigns Assign (IntegerTarget 1) (decimalArgument (pos 2000000)) ≡ halted (refused WrongKind) 7)
+    × (valueIn decimalsOf 1 (assigns Assign (DecimalTarget 1) (integerArgument (pos 2))) ≡ pos 2000000)
+    × (assigns Divide (IntegerTarget 1) (integerArgument (pos 0)) ≡ halted (refused ZeroDivisor) 7)
+    × (assigns Assign (IntegerTarget 1) (plain (Parameter 9)) ≡ halted (refused MissingArgument) 7)
     -- `$IFEQSS "cs-137"|ABS P9` with P9 missing is 10; with no place, 9; `$IFEQ P9 P9.IV2` is 8 with one question asked
-    × (tests 5 SameString (record { operand = Text 1 7; filter = Absolute }) (plain (Parameter 9)) .end ≡ halted (refused MissingArgument) 7)
-    × (tests 0 SameString (record { operand = Text 1 7; filter = Absolute }) (plain (Parameter 9)) .end ≡ halted (cut ReadList) 7)
-    × (tests 5 Equal (plain (Parameter 9)) (plain (Record 9 (Variable 2))) .end ≡ halted (refused BadIndex) 7)
+    × (compares 5 SameString (record { operand = StringLiteral 1 7; filter = Absolute }) (plain (Parameter 9)) .end ≡ halted (refused MissingArgument) 7)
+    × (compares 0 SameString (record { operand = StringLiteral 1 7; filter = Absolute }) (plain (Parameter 9)) .end ≡ halted (cut ReadList) 7)
+    × (compares 5 Equal (plain (Parameter 9)) (plain (Record 9 (Variable 2))) .end ≡ halted (refused BadIndex) 7)
     -- 2 and 2.0 are equal; a string is no number
-    × (tests 0 Equal (whole (pos 2)) (millionths (pos 2000000)) .end ≡ finished true)
-    × (tests 0 Less (whole (pos 2)) short .end ≡ halted (refused WrongKind) 7)
+    × (compares 0 Equal (integerArgument (pos 2)) (decimalArgument (pos 2000000)) .end ≡ finished true)
+    × (compares 0 Less (integerArgument (pos 2)) shortString .end ≡ halted (refused WrongKind) 7)
     -- SV takes a string, from itself too; a number is 11. A literal of 17 bytes, which no accepted line has, would be cut.
-    × (wordIn 2 (words (plain (Text 1 7)) 2) ≡ ascii "cs-137")
-    × (wordIn 1 (words (plain (Text 10 27)) 1) ≡ ascii "0123456789abcdef")
-    × (wordIn 1 (words (record { operand = StringVariable 1; filter = UpperCase }) 1) ≡ ascii "CS")
-    × (words (whole (pos 5)) 1 ≡ halted (refused WrongKind) 7)
-    × (words (plain (Parameter 9)) 1 ≡ halted (refused MissingArgument) 7)
+    × (stringIn 2 (assignsString (plain (StringLiteral 1 7)) 2) ≡ ascii "cs-137")
+    × (stringIn 1 (assignsString (plain (StringLiteral 10 27)) 1) ≡ ascii "0123456789abcdef")
+    × (stringIn 1 (assignsString (record { operand = StringVariable 1; filter = UpperCase }) 1) ≡ ascii "CS")
+    × (assignsString (integerArgument (pos 5)) 1 ≡ halted (refused WrongKind) 7)
+    × (assignsString (plain (Parameter 9)) 1 ≡ halted (refused MissingArgument) 7)
     -- document 01: $BT 5, $ET 2: three passes; $BT 0: none
-    × (begins (whole (pos 5)) ≡ finished (looping (table 5 1 ∷ []) false))
-    × (counted (table 5 1 ∷ []) (pos 2) ≡ settled (looping (table 5 3 ∷ []) true))
-    × (ends (Given (whole (pos 2))) ≡ finished (looping (table 5 5 ∷ []) true))
-    × (counted (table 5 5 ∷ []) (pos 2) ≡ settled (looping [] false))
-    × (begins (whole (pos 0)) ≡ finished (looping [] true))
+    × (beginsTable (integerArgument (pos 5)) ≡ finished (looping (tableOf 5 1 ∷ []) false))
+    × (counted (tableOf 5 1 ∷ []) (pos 2) ≡ settled (looping (tableOf 5 3 ∷ []) true))
+    × (endsTable (Given (integerArgument (pos 2))) ≡ finished (looping (tableOf 5 5 ∷ []) true))
+    × (counted (tableOf 5 5 ∷ []) (pos 2) ≡ settled (looping [] false))
+    × (beginsTable (integerArgument (pos 0)) ≡ finished (looping [] true))
     -- `$BT IV1` with −7: none; `$BT 1` opens; `$BT 1.0` is 11; `$ET` adds 1; `$ET 0` is 13; `$ET P9` with P9 missing is 10
-    × (begins (plain (IntegerVariable 1)) ≡ finished (looping [] true))
-    × (begins (whole (pos 1)) ≡ finished (looping (table 1 1 ∷ []) false))
-    × (begins (millionths (pos 1000000)) ≡ halted (refused WrongKind) 7)
-    × (ends Absent ≡ finished (looping (table 5 4 ∷ []) true))
-    × (ends (Given (whole (pos 0))) ≡ halted (refused OutOfRange) 7)
-    × (ends (Given (plain (Parameter 9))) ≡ halted (refused MissingArgument) 7)
+    × (beginsTable (plain (IntegerVariable 1)) ≡ finished (looping [] true))
+    × (beginsTable (integerArgument (pos 1)) ≡ finished (looping (tableOf 1 1 ∷ []) false))
+    × (beginsTable (decimalArgument (pos 1000000)) ≡ halted (refused WrongKind) 7)
+    × (endsTable Absent ≡ finished (looping (tableOf 5 4 ∷ []) true))
+    × (endsTable (Given (integerArgument (pos 0))) ≡ halted (refused OutOfRange) 7)
+    × (endsTable (Given (plain (Parameter 9))) ≡ halted (refused MissingArgument) 7)
     -- a counter past 2,000,000,000 ends its table, one of 2,000,000,000 doesn't; LOOP outside is 0
-    × (counted (table 2000000000 1999999999 ∷ []) (pos 1) ≡ settled (looping (table 2000000000 2000000000 ∷ []) true))
-    × (counted (table 2000000000 2000000000 ∷ []) (pos 1) ≡ settled (looping [] false))
+    × (counted (tableOf 2000000000 1999999999 ∷ []) (pos 1) ≡ settled (looping (tableOf 2000000000 2000000000 ∷ []) true))
+    × (counted (tableOf 2000000000 2000000000 ∷ []) (pos 1) ≡ settled (looping [] false))
     × (loop [] ≡ 0)
-    × (loop (table 5 3 ∷ table 9 1 ∷ []) ≡ 3)
+    × (loop (tableOf 5 3 ∷ tableOf 9 1 ∷ []) ≡ 3)
     -- $REC: record 999 is the last; past it, and a count of 65, are 8 before any question; a third place is missing: 9, two asked
-    × (length (fetches (Fixed 999) (Fixed 1) .asked) ≡ 1)
-    × (fetches (Fixed 999) (Fixed 2) ≡ record { end = halted (refused BadIndex) 7; asked = []; events = [] })
-    × (fetches (Fixed 0) (Fixed 65) ≡ record { end = halted (refused BadIndex) 7; asked = []; events = [] })
-    × (length (fetches (Fixed 1) (Fixed 3) .asked) ≡ 2)
-    × (fetches (Fixed 1) (Fixed 3) .end ≡ halted (cut ReadList) 7)
+    × (length (fetchesRecords (Fixed 999) (Fixed 1) .asked) ≡ 1)
+    × (fetchesRecords (Fixed 999) (Fixed 2) ≡ record { end = halted (refused BadIndex) 7; asked = []; events = [] })
+    × (fetchesRecords (Fixed 0) (Fixed 65) ≡ record { end = halted (refused BadIndex) 7; asked = []; events = [] })
+    × (length (fetchesRecords (Fixed 1) (Fixed 3) .asked) ≡ 2)
+    × (fetchesRecords (Fixed 1) (Fixed 3) .end ≡ halted (cut ReadList) 7)
     -- `$SETDS` takes 1 to 35
-    × (selects (Fixed 0) ≡ halted (refused BadIndex) 7)
-    × (selects (Fixed 1) ≡ finished 1)
-    × (selects (Fixed 35) ≡ finished 35)
-    × (selects (Fixed 36) ≡ halted (refused BadIndex) 7)
-    × (selects (Variable 1) ≡ halted (refused BadIndex) 7)
-    × (selects Loop ≡ halted (refused BadIndex) 7)
+    × (selectsDatasource (Fixed 0) ≡ halted (refused BadIndex) 7)
+    × (selectsDatasource (Fixed 1) ≡ finished 1)
+    × (selectsDatasource (Fixed 35) ≡ finished 35)
+    × (selectsDatasource (Fixed 36) ≡ halted (refused BadIndex) 7)
+    × (selectsDatasource (Variable 1) ≡ halted (refused BadIndex) 7)
+    × (selectsDatasource Loop ≡ halted (refused BadIndex) 7)
 
 pub rows : Rows
 unfolding run opposed within rounded checked operands dividedBy sumOf differenceOf integerProduct integerQuotient decimalProduct decimalQuotient inMillionths upper alike numbered answered ranged absolute filteredNumber filteredString filtered questionKind indexNumber limited indexValue asks cellMeaning worthOf operandMeaning argumentMeaning firstAlong elementQuestion elementQuestions asksEach countValue asksElements fetchMeaning integerFrom quantityFrom stringFrom resultOf millionthsOf decimalFrom integerMeaning integerResult decimalResult setNumbered asVariable newFrom stringNew setOf setMeaning zeroTest zeroJudged ofNumbers ofStrings isMissing compared zeroMeaning testMeaning recordsMeaning loop begun beginMeaning exceeds counting counted endMeaning datasourceFrom datasourceMeaning judged

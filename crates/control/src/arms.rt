@@ -2,9 +2,9 @@
 use crate::flow;
 use crate::state::Flow;
 use crate::state::Lined;
+use commands::settle::Assigned;
 use commands::settle::Judged;
 use commands::settle::Taken;
-use commands::settle::Verdict;
 use meaning::end::Ended;
 use meaning::end::Halt;
 use meaning::refusal::Refusal;
@@ -72,12 +72,12 @@ fn refused(refusal: Refusal, number: u32, flow: Flow, printed: usize, asked: usi
 }
 
 // A variable is set, or not.
-pub fn settled(verdict: Verdict, number: u32, flow: Flow, printed: usize, asked: usize) -> Lined
+pub fn settled(verdict: Assigned, number: u32, flow: Flow, printed: usize, asked: usize) -> Lined
     ensures { λ r. ⌜ Settles number flow printed asked (keptIn flow) (verdictOf verdict) r ⌝ }
 {
     match verdict {
-        Verdict::Refused(e) => refused(e, number, flow, printed, asked),
-        Verdict::Passed => went(flow, printed, asked),
+        Assigned::Refused(e) => refused(e, number, flow, printed, asked),
+        Assigned::Passed => went(flow, printed, asked),
     }
 }
 

@@ -9,8 +9,8 @@ use Rattle.cells.specs.Cell.{Key}
 use Rattle.store.specs.declared.Edited.{Edited}
 use Rattle.store.specs.Edit.{Edit, edit}
 use Rattle.history.specs.LentStore.{LentStore}
-use Rattle.history.specs.Change.{Change, put, remove, handedBack, next, editEnd, succeeded, keyNamed, isKey, touches}
-use Rattle.history.specs.History.{after, untouched}
+use Rattle.history.specs.Change.{Change, put, remove, handedBack, afterChange, editEnd, succeeded, keyNamed, isKey, touches}
+use Rattle.history.specs.History.{afterChanges, untouched}
 use Rattle.demands.specs.Calls.{EditCall, Promised, storeAfter, InTurn, lastHanded, OtherKeys}
 
 -- what was handed in, call by call
@@ -24,16 +24,16 @@ unfolding handedBack
 handed-back m (put s) r b h = sym h
 handed-back m (remove s) r b h = sym h
 
-pub left-is : (m : LentStore) (x : EditCall) → Promised m (x .change) (x .returned) (x .buffer) → next (x .change) m ≡ storeAfter x
+pub left-is : (m : LentStore) (x : EditCall) → Promised m (x .change) (x .returned) (x .buffer) → afterChange (x .change) m ≡ storeAfter x
 left-is m x h = ap (λ (r : Edit). record { buffer = r .buffer; length = r .length }) (handed-back m (x .change) (x .returned) (x .buffer) h)
 
 pub end-is : (m : LentStore) (x : EditCall) → Promised m (x .change) (x .returned) (x .buffer) → editEnd (x .change) m ≡ x .returned .end
 end-is m x h = ap (λ (r : Edit). r .end) (handed-back m (x .change) (x .returned) (x .buffer) h)
 
-pub after-calls : (m : LentStore) (xs : List EditCall) → InTurn m xs → after (changes xs) m ≡ lastHanded m xs
-unfolding after
+pub after-calls : (m : LentStore) (xs : List EditCall) → InTurn m xs → afterChanges (changes xs) m ≡ lastHanded m xs
+unfolding afterChanges
 after-calls m [] h = refl
-after-calls m (x ∷ xs) h = ap (after (changes xs)) (left-is m x (h .0)) ∙ after-calls (storeAfter x) xs (h .1)
+after-calls m (x ∷ xs) h = ap (afterChanges (changes xs)) (left-is m x (h .0)) ∙ after-calls (storeAfter x) xs (h .1)
 
 not-touched : (e : Ended) (b : Bool) → (e ≡ Finished → b ≡ false) → not (succeeded e && b) ≡ true
 unfolding succeeded

@@ -17,10 +17,10 @@ use Rattle.lines.specs.declared.command.Line.{Line}
 use Rattle.lines.specs.declared.command.Line.the-variants as form
 use Rattle.lines.specs.readers.Command.{parseLine}
 use Rattle.texts.specs.Pieces.{piecesOf}
-use Rattle.template.specs.declared.Run.{Run}
+use Rattle.template.specs.declared.Extent.{Extent}
 use Rattle.meaning.specs.Answer.{Answer}
 use Rattle.meaning.specs.Event.{Event, line, break, bytes, breaks}
-use Rattle.meaning.specs.Tree.{done, stop, bind, Cause, cut, End, finished, halted, Run as Did, run}
+use Rattle.meaning.specs.Tree.{done, stop, bind, Cause, cut, End, finished, halted, Run, run}
 use Rattle.meaning.specs.Rule.{Keeps}
 use Rattle.meaning.specs.Meaning.{Meaning}
 use Rattle.meaning.specs.declared.question.Question.{Question}
@@ -54,11 +54,11 @@ use Rattle.report.specs.inner.Stretch.{stretch}
 use Rattle.report.proofs.Pages.{pages-are-pagenum, pagenum-counts}
 use Rattle.demands.specs.Due.{bytesDue}
 use Rattle.demands.specs.Shown.{firstPage}
-use Rattle.demands.specs.Ending.{LastPage, finally, before, within}
+use Rattle.demands.specs.Ending.{LastPage, finally, between-lines, in-text-line}
 use Rattle.demands.proofs.Halting.{placesBehind, roomBehind, HaltedIn, first, second, finished-then, halted-first, halted-in, gives-nothing, linesOnly, no-breaks}
 
 abbrev Ran : Type 0 → Type 0
-Ran A = Did Question Refusal ℕ A
+Ran A = Run Question Refusal ℕ A
 
 abbrev endIn : {A : Type 0} → Ran A → End Refusal ℕ A
 endIn x = x .end
@@ -293,11 +293,11 @@ module _ (source : Question → Answer) (c : Cause Refusal) (l : ℕ) where
 -- ---- the end
 
 -- "pages (PAGENUM at the end)", for every template, run, source of answers, read list and output
-pub pages-at-the-end : (source : Question → Answer) (t : List ℕ) (r : Run) (places room : ℕ) → LastPage source t r places room (ranTo (run source places room (runMeaning t r)) .pages) (run source places room (runMeaning t r) .end)
+pub pages-at-the-end : (source : Question → Answer) (t : List ℕ) (r : Extent) (places room : ℕ) → LastPage source t r places room (ranTo (run source places room (runMeaning t r)) .pages) (run source places room (runMeaning t r) .end)
 unfolding breaks
 pages-at-the-end source t r places room = by (run source places room (runMeaning t r) .end) refl
   where
-    x : Did Question Refusal ℕ State
+    x : Run Question Refusal ℕ State
     x = run source places room (runMeaning t r)
 
     early : (c : Cause Refusal) (l : ℕ) → x .end ≡ halted c l → HaltsAfter source c l t (r .end) (startOf r) (runMeaning t r) places room → LastPage source t r places room (1 + breaks (x .events)) (x .end)
@@ -307,8 +307,8 @@ pages-at-the-end source t r places room = by (run source places room (runMeaning
         number = omega (arith, pagenum-counts source places room t r (h .lines) (h .state) (h .reached), ap breaks (h .events), breaks-append (run source places room (stretch (h .lines) t (r .end) (startOf r)) .events) (h .own))
 
         go : Last source c l t (r .end) (startOf r) places room (h .lines) (h .state) (h .own) → LastPage source t r places room (1 + breaks (x .events)) (x .end)
-        go (nothing-yet q) = before c l (h .lines) (h .state) e (h .reached) (h .events ∙ ap (λ (vs : List Event). run source places room (stretch (h .lines) t (r .end) (startOf r)) .events ++ vs) q ∙ append-nil _) (number ∙ omega (arith, ap breaks q))
-        go (in-text i) = within c l (h .lines) (h .state) e (h .reached) (i .halts) (i .text) (h .own) (h .events) (i .number) (number ∙ sym (i .number))
+        go (nothing-yet q) = between-lines c l (h .lines) (h .state) e (h .reached) (h .events ∙ ap (λ (vs : List Event). run source places room (stretch (h .lines) t (r .end) (startOf r)) .events ++ vs) q ∙ append-nil _) (number ∙ omega (arith, ap breaks q))
+        go (in-text i) = in-text-line c l (h .lines) (h .state) e (h .reached) (i .halts) (i .text) (h .own) (h .events) (i .number) (number ∙ sym (i .number))
 
     by : (e : End Refusal ℕ State) → x .end ≡ e → LastPage source t r places room (1 + breaks (x .events)) (x .end)
     by (finished s) e = finally s e (pages-are-pagenum source places room t r s e)

@@ -6,7 +6,7 @@ use lib.ListN.{length}
 use Rattle.meaning.specs.Answer.{Answer}
 use Rattle.meaning.specs.Event.{Event, line, break, breaks}
 use Rattle.meaning.specs.Tree.{bind, Cause, End, finished, halted, Run, textOf, run}
-use Rattle.meaning.specs.Rule.{Rule, Allowed}
+use Rattle.meaning.specs.Rule.{Rule, AllAllowed}
 use Rattle.meaning.specs.Meaning.{Meaning}
 use Rattle.meaning.specs.declared.question.Question.{Question}
 use Rattle.meaning.specs.declared.refusal.Refusal.{Refusal}
@@ -62,7 +62,7 @@ silent = record { next = λ s v. s; allowed = λ s v. ⊥ }
 pub gives-nothing : {A : Type 0} (source : Question → Answer) (p r : ℕ) (m : Meaning A) (Φ : A → Type 0) → Gives m Φ → run source p r m .events ≡ []
 gives-nothing source p r m Φ g = go (run source p r m .events) (keeps-run silent source p r m tt (λ a s. Φ a × (s ≡ tt)) (gives-keeps silent m tt Φ g))
   where
-    go : (vs : List Event) → Allowed silent tt vs → vs ≡ []
+    go : (vs : List Event) → AllAllowed silent tt vs → vs ≡ []
     go [] h = refl
     go (v ∷ vs) h = absurd (h .0)
 
@@ -74,7 +74,7 @@ NoBreak (break b) = ⊥
 abbrev pub linesOnly : Rule (Unit {0})
 linesOnly = record { next = λ s v. s; allowed = λ s v. NoBreak v }
 
-pub no-breaks : (vs : List Event) → Allowed linesOnly tt vs → breaks vs ≡ 0
+pub no-breaks : (vs : List Event) → AllAllowed linesOnly tt vs → breaks vs ≡ 0
 unfolding breaks
 no-breaks [] h = refl
 no-breaks (line b ∷ vs) h = no-breaks vs (h .1)

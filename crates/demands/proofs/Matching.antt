@@ -15,7 +15,7 @@ use Rattle.lines.specs.declared.command.Line.the-variants as form
 use Rattle.lines.specs.readers.Command.{parseLine}
 use Rattle.nesting.specs.declared.Shape.the-variants.{Test, Else}
 use Rattle.nesting.specs.Nest.{Mark}
-use Rattle.template.specs.declared.Run.{Run}
+use Rattle.template.specs.declared.Extent.{Extent}
 use Rattle.template.specs.declared.Checked.the-variants.{Accepted}
 use Rattle.template.specs.declared.seek.Sought.{Sought}
 use Rattle.template.specs.declared.seek.Sought.the-variants.{Branch, TestEnd, TableEnd}
@@ -23,7 +23,7 @@ use Rattle.template.specs.Order.{templateChecked}
 use Rattle.template.specs.Shape.{shapeIn, shapeOf}
 use Rattle.template.specs.Lines.{linesOf}
 use Rattle.template.specs.Checks.{nestStep}
-use Rattle.template.specs.Opening.{Opens, first, next, Checks}
+use Rattle.template.specs.Opening.{OpenBefore, at-first, at-next, Checks}
 use Rattle.template.proofs.Accepted.{accepted-runs}
 use Rattle.template.proofs.Opening.{open-inside, behind-test, behind-else, behind-table}
 use Rattle.template.proofs.Matching.{here, topOf, over-open}
@@ -49,9 +49,9 @@ use Rattle.demands.proofs.Reached.{reached-sound}
 
 -- ---- there is one position behind the match at most
 
-opens-one : {t : List ℕ} {at at′ n : ℕ} {M M′ : List Mark} → Opens t at n M → Opens t at′ n M′ → (at ≡ at′) × (M ≡ M′)
-opens-one first first = (refl, refl)
-opens-one {t} (next {M = B} o h e) (next {at = a′} o′ h′ e′) =
+opens-one : {t : List ℕ} {at at′ n : ℕ} {M M′ : List Mark} → OpenBefore t at n M → OpenBefore t at′ n M′ → (at ≡ at′) × (M ≡ M′)
+opens-one at-first at-first = (refl, refl)
+opens-one {t} (at-next {M = B} o h e) (at-next {at = a′} o′ h′ e′) =
     let (p, m) = opens-one o o′ in
     (ap (nextLine t) p, Option·some-injective _ _ (sym e ∙ ap (λ (x : ℕ). nestStep B (lineAt t x)) p ∙ ap (λ (X : List Mark). nestStep X (lineAt t a′)) m ∙ e′))
 
@@ -64,8 +64,8 @@ around-one (of-table M) (of-table M′) = refl
 pub behind-one : {t : List ℕ} {q : Sought} {from to to′ : Position} → BehindMatch t q from to → BehindMatch t q from to′ → (to .at ≡ to′ .at) × (to .line ≡ to′ .line)
 behind-one {t} {q} {from} a b =
     let n : b .count ≡ a .count = omega (arith, a .numbered, b .numbered) in
-    let o = opens-one (subst (λ (k : ℕ). Opens t (from .at) k (b .before)) n (b .opens)) (a .opens) .1 in
-    let w = opens-one (subst (λ (k : ℕ). Opens t (nextLine t (from .at)) (suc k) (b .behind)) n (b .opened)) (a .opened) .1 in
+    let o = opens-one (subst (λ (k : ℕ). OpenBefore t (from .at) k (b .before)) n (b .opens)) (a .opens) .1 in
+    let w = opens-one (subst (λ (k : ℕ). OpenBefore t (nextLine t (from .at)) (suc k) (b .behind)) n (b .opened)) (a .opened) .1 in
     let m = around-one (subst (λ (B : List Mark). OpenAround q B (b .around)) o (b .stands)) (a .stands) in
     let ls = linesOf (drop (nextLine t (from .at)) t) in
     let i = matched-one (a .matched) (subst (λ (W : List Mark). MatchedBy q (a .around) W ls (b .bytes) (b .lines)) w (subst (λ (M : List Mark). MatchedBy q M (b .behind) ls (b .bytes) (b .lines)) m (b .matched))) in
@@ -82,7 +82,7 @@ module _ {t : List ℕ} (c : Checks t) (s : State) (h : s .position .at < length
   abbrev behindMatch : Sought → Position
   behindMatch q = jumped t (onNext t s) q .position
 
-  behind-match : (q : Sought) (M : List Mark) → OpenAround q (n .marks) M → Opens t (nextLine t (s .position .at)) (suc (n .before)) (topOf q ∷ M) → BehindMatch t q (s .position) (behindMatch q)
+  behind-match : (q : Sought) (M : List Mark) → OpenAround q (n .marks) M → OpenBefore t (nextLine t (s .position .at)) (suc (n .before)) (topOf q ∷ M) → BehindMatch t q (s .position) (behindMatch q)
   behind-match q M a o =
       let p = skipped-is-match c q o in
       let i = open-inside c o (over-open {M = M} q here .1) in
@@ -157,7 +157,7 @@ module _ {t : List ℕ} (c : Checks t) (s : State) (h : s .position .at < length
       }
 
 -- The line that is due after any number of lines of an accepted template's run, whatever source answers it.
-pub run-goes-behind-match : (t name : List ℕ) (r : Run) → templateChecked t name ≡ Accepted r → (source : Question → Answer) (places room k : ℕ) (s : State) → run source places room (stretch k t (r .end) (startOf r)) .end ≡ finished s → s .position .at < r .end → GoesOn t s
+pub run-goes-behind-match : (t name : List ℕ) (r : Extent) → templateChecked t name ≡ Accepted r → (source : Question → Answer) (places room k : ℕ) (s : State) → run source places room (stretch k t (r .end) (startOf r)) .end ≡ finished s → s .position .at < r .end → GoesOn t s
 run-goes-behind-match t name r e source places room k s f d =
     let i = reached-sound t name r e source places room k s f .1 in
     let h : s .position .at < length t = omega (arith, accepted-runs t name r e .inside) in

@@ -16,9 +16,9 @@ use Rattle.arguments.specs.declared.argument.Argument.{Argument}
 use Rattle.arguments.specs.declared.index.Index.{Index}
 use Rattle.arguments.specs.declared.index.Index.the-variants.{Fixed}
 use Rattle.arguments.specs.declared.operand.Operand.{Operand}
-use Rattle.arguments.specs.declared.operand.Operand.the-variants.{Number, Text, IntegerVariable, DecimalVariable, StringVariable, PageNumber, LineNumber, LoopCounter, RecordElement, EntryElement, Parameter, Record, Entry}
+use Rattle.arguments.specs.declared.operand.Operand.the-variants.{NumberLiteral, StringLiteral, IntegerVariable, DecimalVariable, StringVariable, PageNumber, LineNumber, LoopCounter, RecordElement, EntryElement, Parameter, Record, Entry}
 use Rattle.texts.specs.declared.text.Piece.{Piece}
-use Rattle.texts.specs.declared.text.Piece.the-variants.{Plain, Placed}
+use Rattle.texts.specs.declared.text.Piece.the-variants.{Byte, Placed}
 use Rattle.texts.specs.Pieces.{piecesOf}
 use Rattle.lines.specs.declared.command.Optional.{Optional}
 use Rattle.lines.specs.declared.command.Optional.the-variants.{Given, Absent}
@@ -131,7 +131,7 @@ string-fair (string s) = tt
 result-fair : (x : N.Result) → Fair (resultOf x)
 unfolding resultOf
 result-fair (N.success z) = tt
-result-fair (N.refused n) = by (eqb n 12)
+result-fair (N.noResult n) = by (eqb n 12)
   where
     by : (b : Bool) → Late (cond b ZeroDivisor OutOfRange)
     by true = omega arith
@@ -238,8 +238,8 @@ module _ (m : Machine) (line : ℕ) where
 
   operand-late : (s : List ℕ) (kind : ℕ) (o : Operand) → LateEnds (operandMeaning m s line kind o)
   unfolding operandMeaning
-  operand-late s kind (Number q) = tt
-  operand-late s kind (Text a e) = tt
+  operand-late s kind (NumberLiteral q) = tt
+  operand-late s kind (StringLiteral a e) = tt
   operand-late s kind (IntegerVariable n) = tt
   operand-late s kind (DecimalVariable n) = tt
   operand-late s kind (StringVariable n) = tt
@@ -292,7 +292,7 @@ module _ (m : Machine) (line : ℕ) where
 
   values-late : (l : List ℕ) (ps : List Piece) → LateEnds (fieldValues m l line ps)
   values-late l [] = tt
-  values-late l (Plain b ∷ ps) = values-late l ps
+  values-late l (Byte b ∷ ps) = values-late l ps
   values-late l (Placed f ∷ ps) =
       late-bind (argumentMeaning m l line (f .argument)) _ (argument-late l (f .argument)) (λ w. late-bind (fieldValues m l line ps) (λ ws. done (w ∷ ws)) (values-late l ps) (λ ws. tt))
 

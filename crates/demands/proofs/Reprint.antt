@@ -7,7 +7,7 @@ use Rattle.meaning.specs.Each.{Each}
 use Rattle.meaning.specs.declared.question.Question.{Question}
 use Rattle.history.specs.LentStore as history
 use Rattle.history.specs.LentStore.{LentStore}
-use Rattle.history.specs.History.{after}
+use Rattle.history.specs.History.{afterChanges}
 use Rattle.report.specs.declared.Report.{Report}
 use Rattle.report.specs.Report.{Outcome, reportOf}
 use Rattle.report.specs.Reported.{Reported}
@@ -60,7 +60,7 @@ reprint t name m first edits h second eT eR b = record {
   secondSheet = prints-a-sheet t name (lastHanded m edits) second;
 }
   where
-    after-edits : after (changes edits) m ≡ lastHanded m edits
+    after-edits : afterChanges (changes edits) m ≡ lastHanded m edits
     after-edits = after-calls m edits h
 
     same : SameReport (first .textAfter) (first .readsAfter) (first .returned) (second .textAfter) (second .readsAfter) (second .returned)

@@ -7,7 +7,7 @@ use mathlib.Core.Option.{Option, none, some}
 use Prim.Native.Nat.{ℕ, _≤_}
 use Rattle.lines.specs.declared.command.Line.the-variants as form
 use Rattle.lines.specs.readers.Command.{parseLine}
-use Rattle.template.specs.declared.Run.{Run}
+use Rattle.template.specs.declared.Extent.{Extent}
 use Rattle.template.specs.declared.Checked.the-variants.{Accepted}
 use Rattle.template.specs.Order.{templateChecked}
 use Rattle.meaning.specs.Answer.{Answer}
@@ -18,7 +18,7 @@ use Rattle.meaning.proofs.Yielding.{Yields, yields-bind, yields-more, yields-en
 use Rattle.cells.proofs.Limits.{AnswerWithin}
 use Rattle.texts.specs.declared.text.Field.{Field}
 use Rattle.texts.specs.declared.text.Piece.{Piece}
-use Rattle.texts.specs.declared.text.Piece.the-variants.{Plain, Placed}
+use Rattle.texts.specs.declared.text.Piece.the-variants.{Byte, Placed}
 use Rattle.texts.specs.Pieces.{piecesOf}
 use Rattle.texts.proofs.FieldLaws.{Limited, EachLimited, fields-limited}
 use Rattle.fields.specs.Field.{fieldOf}
@@ -65,7 +65,7 @@ module _ (m : Machine) (h : MachineWithin m) (l : List ℕ) (line : ℕ) where
   pieces-defined : (ps : List Piece) → EachLimited l ps → Yields AnswerWithin (fieldValues m l line ps) (Defined ps)
   unfolding defined both
   pieces-defined [] k = λ _. refl
-  pieces-defined (Plain b ∷ ps) k = yields-more AnswerWithin (fieldValues m l line ps) (Defined ps) (Defined (Plain b ∷ ps)) (pieces-defined ps k) (λ ws d z. both-some (b ∷ []) (rendered ps ws) refl (d z))
+  pieces-defined (Byte b ∷ ps) k = yields-more AnswerWithin (fieldValues m l line ps) (Defined ps) (Defined (Byte b ∷ ps)) (pieces-defined ps k) (λ ws d z. both-some (b ∷ []) (rendered ps ws) refl (d z))
   pieces-defined (Placed f ∷ ps) k =
       yields-bind AnswerWithin (argumentMeaning m l line (f .argument)) (λ w. bind (fieldValues m l line ps) (λ ws. done (w ∷ ws))) WorthWithin (Defined (Placed f ∷ ps)) (argument-within m line h l (f .argument) (k .0 .argument)) (λ w i.
       yields-bind AnswerWithin (fieldValues m l line ps) (λ ws. done (w ∷ ws)) (Defined ps) (Defined (Placed f ∷ ps)) (pieces-defined ps (k .1)) (λ ws j. field-defined l f ps w ws (k .0) i j))
@@ -83,7 +83,7 @@ unfolding formMeaning
 text-means t s e = line-means t s form.Text e
 
 -- A text line that is due after any number of lines of an accepted template's run, on any store.
-pub run-fields-shown : (t name : List ℕ) (r : Run) → templateChecked t name ≡ Accepted r → (b : List ℕ) (n places room k : ℕ) → k ≤ 50000 → (s : State) → run (answers b n) places room (stretch k t (r .end) (startOf r)) .end ≡ finished s → parseLine (bytesDue t s) ≡ form.Text → TextShown (answers b n) t s
+pub run-fields-shown : (t name : List ℕ) (r : Extent) → templateChecked t name ≡ Accepted r → (b : List ℕ) (n places room k : ℕ) → k ≤ 50000 → (s : State) → run (answers b n) places room (stretch k t (r .end) (startOf r)) .end ≡ finished s → parseLine (bytesDue t s) ≡ form.Text → TextShown (answers b n) t s
 run-fields-shown t name r e b n places room k h s f i =
     let w = store-in-range t name r e b n places room k h s f in
     record {

@@ -75,7 +75,7 @@ pub record AskCall (m : LentStore) (q : Question) : Type 0 where
   pub contract : returned ≡ askedOf (m .buffer) (m .length) q
 
 -- the call of ask ended with 0, and this is the answer that it hands back
-pub record Answered (m : LentStore) (q : Question) (a : Answer) (x : AskCall m q) : Type 0 where
+pub record AnswersWith (m : LentStore) (q : Question) (a : Answer) (x : AskCall m q) : Type 0 where
   pub ended : x .returned .end ≡ Finished
   pub answer : meant (m .buffer) (x .returned .answer) ≡ a
 

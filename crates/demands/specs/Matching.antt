@@ -15,7 +15,7 @@ use Rattle.nesting.specs.Nest.{Mark, test}
 use Rattle.template.specs.declared.seek.Sought.{Sought}
 use Rattle.template.specs.declared.seek.Sought.the-variants.{Branch, TestEnd, TableEnd}
 use Rattle.template.specs.Lines.{linesOf}
-use Rattle.template.specs.Opening.{Opens}
+use Rattle.template.specs.Opening.{OpenBefore}
 use Rattle.meaning.specs.Tree.{done, bind}
 use Rattle.meaning.specs.Meaning.{Meaning}
 use Rattle.commands.specs.Settling.{integerMeaning}
@@ -39,8 +39,8 @@ pub record BehindMatch (t : List ℕ) (q : Sought) (from to : Position) : Type 0
   pub behind : List Mark
   pub around : List Mark
   pub numbered : from .line ≡ suc count
-  pub opens : Opens t (from .at) count before
-  pub opened : Opens t (nextLine t (from .at)) (suc count) behind
+  pub opens : OpenBefore t (from .at) count before
+  pub opened : OpenBefore t (nextLine t (from .at)) (suc count) behind
   pub stands : OpenAround q before around
   -- of the lines behind it, so many bytes and lines reach behind the match
   pub bytes : ℕ

@@ -10,7 +10,7 @@ use Rattle.meaning.specs.Tree.{done, bind, finished, run}
 use Rattle.meaning.specs.declared.question.Question.{Question}
 use Rattle.texts.specs.declared.text.Field.{Field}
 use Rattle.texts.specs.declared.text.Piece.{Piece}
-use Rattle.texts.specs.declared.text.Piece.the-variants.{Plain, Placed}
+use Rattle.texts.specs.declared.text.Piece.the-variants.{Byte, Placed}
 use Rattle.texts.specs.Pieces.{piecesOf}
 use Rattle.fields.specs.Field.{fieldOf}
 use Rattle.values.specs.Machine.{Machine}
@@ -36,7 +36,7 @@ both none b = none
 -- the bytes that the pieces make with these values, where those of every field are defined
 unfoldable pub defined : List Piece → List Worth → Option (List ℕ)
 defined [] ws = some []
-defined (Plain b ∷ ps) ws = both (some (b ∷ [])) (defined ps ws)
+defined (Byte b ∷ ps) ws = both (some (b ∷ [])) (defined ps ws)
 defined (Placed f ∷ ps) [] = none
 defined (Placed f ∷ ps) (w ∷ ws) = both (bytesIn f w) (defined ps ws)
 

@@ -47,7 +47,7 @@ use Rattle.values.specs.Worth.{Worth}
 use Rattle.values.specs.inner.Yielding.{meant}
 use Rattle.values.specs.inner.Working.{Worths, worths}
 use Rattle.commands.specs.declared.settle.Judged.{Judged}
-use Rattle.commands.specs.declared.settle.Verdict.{Verdict}
+use Rattle.commands.specs.declared.settle.Assigned.{Assigned}
 use Rattle.commands.specs.declared.settle.Taken.{Taken}
 use Rattle.commands.specs.declared.settle.Taken.the-variants as K
 use Rattle.commands.specs.Settling.{Settled, concluded, integerFrom}
@@ -345,7 +345,7 @@ module _ {body b index t : List ℕ} {h : Held} {scene : Scene} {start : ℕ} {f
     abbrev Valued : List ℕ → Held → Lined → Type 0
     Valued T′ h′ r = Executes 330 (formWith t start (scene .number) body s line (worths (meant S w) q)) b h f T u log a p h′ T′ log r
 
-    pub set-line : (h′ : Held) (r : Lined) (z : Verdict) (o : Operation) (x : Target) (y : Argument) → line ≡ form.Set o x y → Assigns body b h o x w h′ z → Settles (scene .number) f u a (keptIn f) (verdictOf z) r → Valued T h′ r
+    pub set-line : (h′ : Held) (r : Lined) (z : Assigned) (o : Operation) (x : Target) (y : Argument) → line ≡ form.Set o x y → Assigns body b h o x w h′ z → Settles (scene .number) f u a (keptIn f) (verdictOf z) r → Valued T h′ r
     unfolding formWith
     set-line h′ r z o x y e d i =
         rw e (settles-executes (verdictOf z) (setOf (variablesOf (sourceOf b) h) o x (meant S w)) (λ _. variablesOf (sourceOf b) h′) (withVariables s) (d .same (sourceOf b)) i (d .held .rows-held ∙ sym (k .rows), ap length (d .tables)) (λ _. refl) (λ _. variables-same h′ (d .headings) (d .tables)))

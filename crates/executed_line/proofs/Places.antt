@@ -11,7 +11,7 @@ use Rattle.nesting.specs.Nest.{Mark, section, test, other, table, tables}
 use Rattle.template.specs.declared.seek.Sought.the-variants.{Branch, TestEnd, TableEnd}
 use Rattle.template.specs.Shape.{shapeOf}
 use Rattle.template.specs.Seek.{skipped}
-use Rattle.template.specs.Opening.{Opens, Checks}
+use Rattle.template.specs.Opening.{OpenBefore, Checks}
 use Rattle.template.proofs.Opening.{opens-few, behind-section, behind-remark, behind-plain, behind-test, behind-else, behind-end-test, behind-table, behind-end-table}
 use Rattle.template.proofs.Jumps.{failed-test, executed-else, skipped-table, failed-goes, else-goes, table-goes}
 use Rattle.commands.specs.declared.table.Table as C
@@ -44,7 +44,7 @@ tabled-marks : (t : List ℕ) (ts : List C.Table) {M M′ : List Mark} → M ≡
 tabled-marks t ts e h = subst (Tabled t ts) e h
 
 -- where a jump goes on, if not at the template's end
-goes-on : {t : List ℕ} {at line n : ℕ} {ts : List C.Table} {M : List Mark} → line ≡ suc n → Tabled t ts M → (length t ≤ at) ⊎ Opens t at n M → at < length t → Nested t at line ts
+goes-on : {t : List ℕ} {at line n : ℕ} {ts : List C.Table} {M : List Mark} → line ≡ suc n → Tabled t ts M → (length t ≤ at) ⊎ OpenBefore t at n M → at < length t → Nested t at line ts
 goes-on e h (inl l) k = absurd (omega arith)
 goes-on {n = n} {M = M} e h (inr o) k = record { before = n; marks = M; opens = o; number = e; tabled = h }
 
@@ -52,7 +52,7 @@ module _ {t : List ℕ} (c : Checks t) {at line : ℕ} {ts : List C.Table} (i : 
   abbrev behind : ℕ
   behind = at + length (lineAt t at) + 1
 
-  stands : {M : List Mark} → Opens t behind (suc (i .before)) M → Tabled t ts M → Nested t behind (line + 1) ts
+  stands : {M : List Mark} → OpenBefore t behind (suc (i .before)) M → Tabled t ts M → Nested t behind (line + 1) ts
   stands {M} o k = record { before = suc (i .before); marks = M; opens = o; number = omega (arith, i .number); tabled = k }
 
   pub nested-few : length ts ≤ 5
@@ -87,7 +87,7 @@ module _ {t : List ℕ} (c : Checks t) {at line : ℕ} {ts : List C.Table} (i : 
       on : line + 1 + skipped (drop behind t) Branch .lines ≡ suc (suc (i .before) + skipped (drop behind t) Branch .lines)
       on = omega (arith, i .number)
 
-      by : (length t ≤ behind + skipped (drop behind t) Branch .bytes) ⊎ (Opens t (behind + skipped (drop behind t) Branch .bytes) (suc (i .before) + skipped (drop behind t) Branch .lines) (i .marks) ⊎ Opens t (behind + skipped (drop behind t) Branch .bytes) (suc (i .before) + skipped (drop behind t) Branch .lines) (other ∷ i .marks)) → Nested t (behind + skipped (drop behind t) Branch .bytes) (line + 1 + skipped (drop behind t) Branch .lines) ts
+      by : (length t ≤ behind + skipped (drop behind t) Branch .bytes) ⊎ (OpenBefore t (behind + skipped (drop behind t) Branch .bytes) (suc (i .before) + skipped (drop behind t) Branch .lines) (i .marks) ⊎ OpenBefore t (behind + skipped (drop behind t) Branch .bytes) (suc (i .before) + skipped (drop behind t) Branch .lines) (other ∷ i .marks)) → Nested t (behind + skipped (drop behind t) Branch .bytes) (line + 1 + skipped (drop behind t) Branch .lines) ts
       by (inl l) = absurd (omega arith)
       by (inr (inl o)) = record { before = suc (i .before) + skipped (drop behind t) Branch .lines; marks = i .marks; opens = o; number = on; tabled = i .tabled }
       by (inr (inr o)) = record { before = suc (i .before) + skipped (drop behind t) Branch .lines; marks = other ∷ i .marks; opens = o; number = on; tabled = i .tabled }
@@ -106,7 +106,7 @@ module _ {t : List ℕ} (c : Checks t) {at line : ℕ} {ts : List C.Table} (i : 
         marks = table ∷ i .marks;
         opens = o;
         number = omega (arith, i .number);
-        tabled = (suc (i .before), subst (λ (a : ℕ). Opens t a (suc (i .before)) (table ∷ i .marks)) (sym u) o, omega (arith, v, i .number), i .tabled);
+        tabled = (suc (i .before), subst (λ (a : ℕ). OpenBefore t a (suc (i .before)) (table ∷ i .marks)) (sym u) o, omega (arith, v, i .number), i .tabled);
       }
 
   pub nested-room : shapeOf (lineAt t at) ≡ Table → length ts < 5
@@ -125,7 +125,7 @@ module _ {t : List ℕ} (c : Checks t) {at line : ℕ} {ts : List C.Table} (i : 
   pub nested-ended : shapeOf (lineAt t at) ≡ EndTable → Nested t behind (line + 1) (drop 1 ts)
   nested-ended e = let o = behind-end-table c (i .opens) h e in by (o .0) (o .2) ts (tabled-marks t ts {M′ = table ∷ o .0} (o .1) (i .tabled))
     where
-      by : (M : List Mark) → Opens t behind (suc (i .before)) M → (xs : List C.Table) → Tabled t xs (table ∷ M) → Nested t behind (line + 1) (drop 1 xs)
+      by : (M : List Mark) → OpenBefore t behind (suc (i .before)) M → (xs : List C.Table) → Tabled t xs (table ∷ M) → Nested t behind (line + 1) (drop 1 xs)
       by M o [] k = absurd k
       by M o (x ∷ xs) k = record { before = suc (i .before); marks = M; opens = o; number = omega (arith, i .number); tabled = k .3 }
 

@@ -8,7 +8,7 @@ use Rattle.numbers.specs.declared.Quantity.the-variants.{Integer, Decimal}
 use Rattle.arguments.specs.declared.index.Index.{Index}
 use Rattle.arguments.specs.declared.index.Index.the-variants.{Fixed, Variable, Loop}
 use Rattle.arguments.specs.declared.operand.Operand.{Operand}
-use Rattle.arguments.specs.declared.operand.Operand.the-variants.{Number, Text, IntegerVariable, DecimalVariable, StringVariable, PageNumber, LineNumber, LoopCounter, RecordElement, EntryElement, Parameter, Record, Entry}
+use Rattle.arguments.specs.declared.operand.Operand.the-variants.{NumberLiteral, StringLiteral, IntegerVariable, DecimalVariable, StringVariable, PageNumber, LineNumber, LoopCounter, RecordElement, EntryElement, Parameter, Record, Entry}
 use Rattle.arguments.specs.declared.argument.Filter.{Filter}
 use Rattle.arguments.specs.declared.argument.Filter.the-variants.{Unfiltered, Absolute, Truncated, UpperCase, Length, RecordCount, EntryCount}
 use Rattle.arguments.specs.declared.argument.Argument.{Argument}
@@ -46,8 +46,8 @@ cellCodes k n r e f = (k, n, r .0, r .1, e .0, e .1, f)
 
 -- a string by its place in the line and the place behind it
 unfoldable pub operandCodes : Operand → ℕ → Seven
-operandCodes (Number q) f = literalCodes q f
-operandCodes (Text a e) f = (3, a, e, 0, 0, 0, f)
+operandCodes (NumberLiteral q) f = literalCodes q f
+operandCodes (StringLiteral a e) f = (3, a, e, 0, 0, 0, f)
 operandCodes (IntegerVariable n) f = (4, n, 0, 0, 0, 0, f)
 operandCodes (DecimalVariable n) f = (5, n, 0, 0, 0, 0, f)
 operandCodes (StringVariable n) f = (6, n, 0, 0, 0, 0, f)

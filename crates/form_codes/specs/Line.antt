@@ -16,7 +16,7 @@ use Rattle.lines.specs.declared.command.Line.the-variants.{NoForm, Text, Sectio
 use Rattle.lines.specs.readers.Command.{parseLine}
 use Rattle.form_codes.specs.declared.row.Pair.{Pair}
 use Rattle.form_codes.specs.declared.row.Seven.{Seven}
-use Rattle.form_codes.specs.declared.row.Row.{Row}
+use Rattle.form_codes.specs.declared.row.CodeRow.{CodeRow}
 use Rattle.form_codes.specs.Row.{rowNumbers, nothing, bareRow, rowWith}
 use Rattle.form_codes.specs.Argument.{indexCodes, argumentCodes}
 
@@ -52,18 +52,18 @@ optionalCodes Absent = nothing
 abbrev pub fetched : ℕ → Pair → Pair → Pair → Seven
 fetched m r e c = (m, r .0, r .1, e .0, e .1, c .0, c .1)
 
-abbrev pub fetchRow : ℕ → Fetch → Row
+abbrev pub fetchRow : ℕ → Fetch → CodeRow
 fetchRow k f =
     rowWith k (f .number) (fetched (f .parameter) (indexCodes (f .«record»)) (indexCodes (f .entry)) (indexCodes (f .count)))
 
 abbrev pub indexSeven : Pair → Seven
 indexSeven i = (i .0, i .1, 0, 0, 0, 0, 0)
 
-abbrev pub datasourceRow : Index → Row
+abbrev pub datasourceRow : Index → CodeRow
 datasourceRow i = rowWith 13 0 (indexSeven (indexCodes i))
 
 -- a name and a text by their places in the line
-unfoldable pub lineRow : Line → Row
+unfoldable pub lineRow : Line → CodeRow
 lineRow NoForm = bareRow 0 0
 lineRow Text = bareRow 1 0
 lineRow (Section a e) = rowWith 2 0 (a, e, 0, 0, 0, 0, 0)

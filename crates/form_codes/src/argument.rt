@@ -69,8 +69,8 @@ fn operand_codes(operand: Operand, filter: u64) -> Seven
     ensures { λ r. ⌜ r ≡ operandCodes operand filter ⌝ }
 {
     match operand {
-        Operand::Number(q) => literal_codes(q, filter),
-        Operand::Text(a, e) => Seven(3, a as u64, e as u64, 0, 0, 0, filter),
+        Operand::NumberLiteral(q) => literal_codes(q, filter),
+        Operand::StringLiteral(a, e) => Seven(3, a as u64, e as u64, 0, 0, 0, filter),
         Operand::IntegerVariable(n) => Seven(4, n as u64, 0, 0, 0, 0, filter),
         Operand::DecimalVariable(n) => Seven(5, n as u64, 0, 0, 0, 0, filter),
         Operand::StringVariable(n) => Seven(6, n as u64, 0, 0, 0, 0, filter),

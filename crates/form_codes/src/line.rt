@@ -1,7 +1,7 @@
 // A line's command with its arguments.
 use crate::argument;
 use crate::row;
-use crate::row::Row;
+use crate::row::CodeRow;
 use crate::row::Seven;
 use arguments::index::Index;
 use lines::command;
@@ -62,7 +62,7 @@ fn optional_codes(optional: Optional) -> Seven
     }
 }
 
-fn fetch_row(form: u64, fetch: Fetch) -> Row
+fn fetch_row(form: u64, fetch: Fetch) -> CodeRow
     ensures { λ r. ⌜ r ≡ fetchRow form fetch ⌝ }
 {
     let first = fetch.record;
@@ -78,14 +78,14 @@ fn fetch_row(form: u64, fetch: Fetch) -> Row
     )
 }
 
-fn datasource_row(index: Index) -> Row
+fn datasource_row(index: Index) -> CodeRow
     ensures { λ r. ⌜ r ≡ datasourceRow index ⌝ }
 {
     let i = argument::index_codes(index);
     row::row_with(13, 0, Seven(i.0, i.1, 0, 0, 0, 0, 0))
 }
 
-fn line_row(line: Line) -> Row
+fn line_row(line: Line) -> CodeRow
     ensures { λ r. ⌜ r ≡ lineRow line ⌝ }
 {
     match line {
@@ -93,7 +93,7 @@ fn line_row(line: Line) -> Row
         Line::Text => row::bare_row(1, 0),
         Line::Section(a, e) => row::row_with(2, 0, Seven(a as u64, e as u64, 0, 0, 0, 0, 0)),
         Line::Set(o, t, a) => {
-            Row(
+            CodeRow(
                 3,
                 operation_code(o),
                 target_codes(t),
@@ -102,7 +102,7 @@ fn line_row(line: Line) -> Row
         }
         Line::IfNot(a) => row::row_with(4, 0, argument::argument_codes(a)),
         Line::If(a) => row::row_with(5, 0, argument::argument_codes(a)),
-        Line::Compare(c, a, b) => Row(
+        Line::Compare(c, a, b) => CodeRow(
             6,
             comparison_code(c),
             argument::argument_codes(a),

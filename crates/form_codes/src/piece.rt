@@ -1,8 +1,8 @@
 // One byte of a text, or a field.
 use crate::argument;
 use crate::row;
+use crate::row::CodeRow;
 use crate::row::Pair;
-use crate::row::Row;
 use crate::row::Seven;
 use texts::text;
 use texts::text::Field;
@@ -22,14 +22,14 @@ fn places_codes(places: Places) -> Pair
     }
 }
 
-fn field_row(field: Field, next: usize) -> Row
+fn field_row(field: Field, next: usize) -> CodeRow
     ensures { λ r. ⌜ r ≡ fieldRow field next ⌝ }
 {
     let argument = field.argument;
     let places = field.places;
     let a = argument::argument_codes(argument);
     let d = places_codes(places);
-    Row(
+    CodeRow(
         2,
         next as u64,
         a,
@@ -37,16 +37,16 @@ fn field_row(field: Field, next: usize) -> Row
     )
 }
 
-fn piece_row(piece: Piece, next: usize) -> Row
+fn piece_row(piece: Piece, next: usize) -> CodeRow
     ensures { λ r. ⌜ r ≡ pieceRow piece next ⌝ }
 {
     match piece {
-        Piece::Plain(b) => row::row_with(1, next as u64, Seven(b as u64, 0, 0, 0, 0, 0, 0)),
+        Piece::Byte(b) => row::row_with(1, next as u64, Seven(b as u64, 0, 0, 0, 0, 0, 0)),
         Piece::Placed(field) => field_row(field, next),
     }
 }
 
-fn read_row(read: PieceRead) -> Row
+fn read_row(read: PieceRead) -> CodeRow
     ensures { λ r. ⌜ r ≡ readRow read ⌝ }
 {
     match read {

@@ -21,12 +21,12 @@ pub struct Seven(
 );
 
 // What a line or a piece is, its number, two arguments.
-pub struct Row(pub u64, pub u64, pub Seven, pub Seven);
+pub struct CodeRow(pub u64, pub u64, pub Seven, pub Seven);
 
-pub fn bare_row(form: u64, number: u64) -> Row
+pub fn bare_row(form: u64, number: u64) -> CodeRow
     ensures { λ r. ⌜ r ≡ bareRow form number ⌝ }
 {
-    Row(
+    CodeRow(
         form,
         number,
         Seven(0, 0, 0, 0, 0, 0, 0),
@@ -34,10 +34,10 @@ pub fn bare_row(form: u64, number: u64) -> Row
     )
 }
 
-pub fn row_with(form: u64, number: u64, first: Seven) -> Row
+pub fn row_with(form: u64, number: u64, first: Seven) -> CodeRow
     ensures { λ r. ⌜ r ≡ rowWith form number first ⌝ }
 {
-    Row(form, number, first, Seven(0, 0, 0, 0, 0, 0, 0))
+    CodeRow(form, number, first, Seven(0, 0, 0, 0, 0, 0, 0))
 }
 
 fn copy_in(numbers: &mut [u64], row: &[u64])
@@ -52,7 +52,7 @@ fn copy_in(numbers: &mut [u64], row: &[u64])
 }
 
 // Whether there was room for the row.
-pub fn put_row(numbers: &mut [u64], row: Row) -> bool
+pub fn put_row(numbers: &mut [u64], row: CodeRow) -> bool
     ensures { λ r. ⌜ Stored (now (numbers .entry)) 0 (rowNumbers row) (now (numbers .exit)) r ⌝ }
 {
     if numbers.len() < 16 {

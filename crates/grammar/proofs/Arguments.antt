@@ -24,7 +24,7 @@ use Rattle.arguments.specs.readers.Operand.{operandAt}
 use Rattle.arguments.specs.Admitted.{countOf, admits}
 use Rattle.arguments.specs.readers.Argument.{filteredAt, filters, argumentOf, argumentAt}
 use Rattle.grammar.specs.Number.{point}
-use Rattle.grammar.specs.Argument.{OperandSpelled, filterBytes, ArgumentSpelled, filtered}
+use Rattle.grammar.specs.Argument.{OperandSpelled, filterBytes, ArgumentSpelled, with-filter}
 use Rattle.grammar.proofs.Standing.{tested, Found, byte-is, onward, past, byte-stands, stands-says, no-more, _or_, found-word}
 use Rattle.grammar.proofs.Literals.{Ends}
 use Rattle.grammar.proofs.Operands.{operand-read, operand-spelled}
@@ -70,14 +70,14 @@ module _ (l : List ℕ) (at : ℕ) (o : Operand) (s r : List ℕ) (k : OperandSp
 
 pub argument-read : (l : List ℕ) (at : ℕ) (a : Argument) (s r : List ℕ) → ArgumentSpelled at a s → drop at l ≡ s ++ r → Closes r → argumentAt l at ≡ ArgumentTo a (at + length s)
 unfolding filters filteredAt firstOf standsAt begins
-argument-read l at a x r (filtered o Unfiltered s k h) e t =
+argument-read l at a x r (with-filter o Unfiltered s k h) e t =
     plain-read l at o s r k (e ∙ ap (λ (y : List ℕ). y ++ r) (append-nil s)) t ∙ ap (ArgumentTo a) (omega (arith, length-append s []))
-argument-read l at a x r (filtered o Absolute s k h) e t = filter-is l at o s r k a (ascii "ABS") e (λ f. rw (f, h))
-argument-read l at a x r (filtered o Truncated s k h) e t = filter-is l at o s r k a (ascii "INT") e (λ f. rw (f, h))
-argument-read l at a x r (filtered o UpperCase s k h) e t = filter-is l at o s r k a (ascii "UPPER") e (λ f. rw (f, h))
-argument-read l at a x r (filtered o Length s k h) e t = filter-is l at o s r k a (ascii "LEN") e (λ f. rw (f, h))
-argument-read l at a x r (filtered o RecordCount s k h) e t = filter-is l at o s r k a (ascii "RECCNT") e (λ f. rw (f, h))
-argument-read l at a x r (filtered o EntryCount s k h) e t = filter-is l at o s r k a (ascii "ENTCNT") e (λ f. rw (f, h))
+argument-read l at a x r (with-filter o Absolute s k h) e t = filter-is l at o s r k a (ascii "ABS") e (λ f. rw (f, h))
+argument-read l at a x r (with-filter o Truncated s k h) e t = filter-is l at o s r k a (ascii "INT") e (λ f. rw (f, h))
+argument-read l at a x r (with-filter o UpperCase s k h) e t = filter-is l at o s r k a (ascii "UPPER") e (λ f. rw (f, h))
+argument-read l at a x r (with-filter o Length s k h) e t = filter-is l at o s r k a (ascii "LEN") e (λ f. rw (f, h))
+argument-read l at a x r (with-filter o RecordCount s k h) e t = filter-is l at o s r k a (ascii "RECCNT") e (λ f. rw (f, h))
+argument-read l at a x r (with-filter o EntryCount s k h) e t = filter-is l at o s r k a (ascii "ENTCNT") e (λ f. rw (f, h))
 
 -- ---- what is read is spelled
 
@@ -91,7 +91,7 @@ filter-sound l at m o f w q g e h =
     tested (ArgumentFound l at) (admits f (countOf o))
     (λ d. record {
       bytes = g .bytes ++ filterBytes f;
-      spelled = filtered o f (g .bytes) (g .spelled) d;
+      spelled = with-filter o f (g .bytes) (g .spelled) d;
       here = g .here ∙ ap (λ (x : List ℕ). g .bytes ++ x) (e ∙ ap (λ (x : List ℕ). bar ∷ x) (stands-says w l (m + 1) h) ∙ ap (λ (x : List ℕ). x ++ drop (m + 1 + length w) l) (sym q)) ∙ sym (append-assoc (g .bytes) (filterBytes f) (drop (m + 1 + length w) l));
       behind = omega (arith, g .behind, length-append (g .bytes) (filterBytes f), ap length q);
     })
@@ -118,7 +118,7 @@ argument-sound l at = go (operandAt l at) refl
         ))
         (λ q. record {
           bytes = g .bytes ++ [];
-          spelled = filtered o Unfiltered (g .bytes) (g .spelled) refl;
+          spelled = with-filter o Unfiltered (g .bytes) (g .spelled) refl;
           here = g .here ∙ ap (λ (x : List ℕ). x ++ drop m l) (sym (append-nil (g .bytes)));
           behind = omega (arith, g .behind, length-append (g .bytes) []);
         })

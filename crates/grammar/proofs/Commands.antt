@@ -48,7 +48,7 @@ use Rattle.lines.specs.readers.Command.{commands, parseLine}
 use Rattle.grammar.specs.Number.{Several, IndexSpelled}
 use Rattle.grammar.specs.Argument.{OperandSpelled, ArgumentSpelled, integer-variable, decimal-variable, string-variable}
 use Rattle.grammar.specs.Text.{TextSpelled}
-use Rattle.grammar.specs.Line.{space, TargetSpelled, integer-target, decimal-target, string-target, OptionalSpelled, absent, given, FetchSpelled, fetch, first, numbered, Spells, text, section, set, if-not, if, compare, «else», end-if, begin-table, end-table, records, entries, datasource, no-form-feed, new-page, heading, no-heading, remark, remark-text}
+use Rattle.grammar.specs.Line.{space, TargetSpelled, integer-target, decimal-target, string-target, OptionalSpelled, absent, present, FetchSpelled, fetch, bare-word, numbered-word, Spells, text, section-form, set, if-not, if, compare, «else», end-if, begin-table, end-table, records-form, entries-form, datasource, no-form-feed, new-page, heading, no-heading, remark, remark-text}
 use Rattle.grammar.proofs.Standing.{tested, byte-is, onward, past, Stops, span-exact}
 use Rattle.grammar.proofs.Numbers.{number-read}
 use Rattle.grammar.proofs.Literals.{no-digits, index-read}
@@ -97,7 +97,7 @@ bare-read form l at e = rw (at-end l at e)
 optional-read : (form : Optional → Line) (l : List ℕ) (at : ℕ) (k : Optional) (s : List ℕ) → drop at l ≡ s → OptionalSpelled at k s → optionalAt form l at ≡ form k
 unfolding optionalAt
 optional-read form l at k s e absent = rw (le-leb (length l) at (omega (arith, ap length e, length-drop at l)))
-optional-read form l at k x e (given a s u) =
+optional-read form l at k x e (present a s u) =
     let f = e ∙ last s in
     rw (not-end l at space s e, behind-argument l at a s [] f u tt, at-end l (at + 1 + length s) (after l at s [] f))
 
@@ -196,7 +196,7 @@ moved a y e k = subst (λ (i : ℕ). ArgumentSpelled i a y) e k
 pub spelled-is-read : (f : Line) (l : List ℕ) → Spells f l → parseLine l ≡ f
 unfolding parseLine commands firstOf standsAt begins byteAt headingAt remarkAt belongs
 spelled-is-read f l (text ps l′ h t w) = rw (ne-eqb (byteAt l 0) 36 h, text-fits l 0 ps l refl t (omega (arith, w)))
-spelled-is-read f l (section name w) = section-read l 4 name refl w
+spelled-is-read f l (section-form name w) = section-read l 4 name refl w
 spelled-is-read f l (set Assign t x a y u v) = set-read Assign t l 5 x a y refl u (moved a y (omega arith) v)
 spelled-is-read f l (set Add t x a y u v) = set-read Add t l 5 x a y refl u (moved a y (omega arith) v)
 spelled-is-read f l (set Subtract t x a y u v) = set-read Subtract t l 5 x a y refl u (moved a y (omega arith) v)
@@ -216,17 +216,17 @@ spelled-is-read f l «else» = bare-read Else l 5 refl
 spelled-is-read f l end-if = bare-read EndIf l 6 refl
 spelled-is-read f l (begin-table a s k) = single-read BeginTable l 3 a s refl k
 spelled-is-read f l (end-table k s u) = optional-read EndTable l 3 k s refl u
-spelled-is-read f l (records r s u) = fetch-read Records l 4 r s refl u
-spelled-is-read f l (entries r s u) = fetch-read Entries l 4 r s refl u
+spelled-is-read f l (records-form r s u) = fetch-read Records l 4 r s refl u
+spelled-is-read f l (entries-form r s u) = fetch-read Entries l 4 r s refl u
 spelled-is-read f l (datasource i s u) = datasource-read l 6 i s refl u
 spelled-is-read f l no-form-feed = bare-read NoFormFeed l 5 refl
 spelled-is-read f l (new-page k s u) = optional-read NewPage l 3 k s refl u
-spelled-is-read f l (heading n w ps s first t h) = rw (no-number l 3 9 (space ∷ s) refl refl) (heading-of l 3 1 ps s refl t h)
-spelled-is-read f l (heading n w ps s (numbered n′ x k) t h) =
+spelled-is-read f l (heading n w ps s bare-word t h) = rw (no-number l 3 9 (space ∷ s) refl refl) (heading-of l 3 1 ps s refl t h)
+spelled-is-read f l (heading n w ps s (numbered-word n′ x k) t h) =
     rw (number-read l 3 9 n x (space ∷ s) (omega arith) refl k refl)
     (heading-of l (3 + length x) n ps s (onward l 3 x (space ∷ s) refl) (subst (λ (i : ℕ). TextSpelled i ps s) (omega arith) t) (omega (arith, h)) ∙ ap (Heading n) (omega arith))
-spelled-is-read f l (no-heading n w first) = rw (no-number l 3 9 [] refl tt) (no-heading-of l 3 1 refl)
-spelled-is-read f l (no-heading n w (numbered n′ x k)) =
+spelled-is-read f l (no-heading n w bare-word) = rw (no-number l 3 9 [] refl tt) (no-heading-of l 3 1 refl)
+spelled-is-read f l (no-heading n w (numbered-word n′ x k)) =
     rw (number-read l 3 9 n x [] (omega arith) (sym (append-nil x)) k tt) (no-heading-of l (3 + length x) n (onward l 3 x [] (sym (append-nil x))))
 spelled-is-read f l remark = refl
 spelled-is-read f l (remark-text s) = rw (not-end l 4 space s refl)

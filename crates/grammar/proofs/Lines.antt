@@ -58,9 +58,9 @@ use Rattle.lines.specs.readers.Command.{commands, parseLine}
 use Rattle.lines.proofs.EndLaws.{no-number, no-parameter, no-index, no-operand, no-argument, no-name}
 use Rattle.lines.proofs.SectionLaws.{formCase}
 use Rattle.grammar.specs.Number.{Several, Numbered, IndexSpelled}
-use Rattle.grammar.specs.Argument.{OperandSpelled, literal, string, integer-variable, decimal-variable, string-variable, page-number, line-number, loop-counter, record-element, entry-element, parameter, record-of, entry-of, ArgumentSpelled}
+use Rattle.grammar.specs.Argument.{OperandSpelled, number-literal, string-literal, integer-variable, decimal-variable, string-variable, page-number, line-number, loop-counter, record-element, entry-element, parameter, record-of, entry-of, ArgumentSpelled}
 use Rattle.grammar.specs.Text.{TextSpelled}
-use Rattle.grammar.specs.Line.{space, TargetSpelled, integer-target, decimal-target, string-target, OptionalSpelled, absent, given, FetchSpelled, fetch, HeadingWord, first, numbered, Spells, text, section, set, if-not, if, compare, «else», end-if, begin-table, end-table, records, entries, datasource, no-form-feed, new-page, heading, no-heading, remark, remark-text}
+use Rattle.grammar.specs.Line.{space, TargetSpelled, integer-target, decimal-target, string-target, OptionalSpelled, absent, present, FetchSpelled, fetch, HeadingWord, bare-word, numbered-word, Spells, text, section-form, set, if-not, if, compare, «else», end-if, begin-table, end-table, records-form, entries-form, datasource, no-form-feed, new-page, heading, no-heading, remark, remark-text}
 use Rattle.grammar.proofs.Standing.{tested, Found, byte-stands, stands-says, span-all, span-here, no-more, _or_, found-word}
 use Rattle.grammar.proofs.Numbers.{number-spelled}
 use Rattle.grammar.proofs.Literals.{index-spelled}
@@ -145,7 +145,7 @@ module _ (l : List ℕ) where
         tested (Sound l) (leb (length l) at)
         (λ b. as-spelled (subst (Spells (form Absent)) (line-is [] f (drop-of-length-le l (leb-true (length l) at b))) (h Absent [] absent)))
         (λ b. argument-sound at (λ a end. ending l end (form (Given a))) (λ a end e g.
-        ending-sound end (form (Given a)) (λ z. subst (Spells (form (Given a))) (line-is _ f (space-then at _ e (found-last g z))) (h (Given a) (space ∷ g .bytes) (given a (g .bytes) (g .spelled))))))
+        ending-sound end (form (Given a)) (λ z. subst (Spells (form (Given a))) (line-is _ f (space-then at _ e (found-last g z))) (h (Given a) (space ∷ g .bytes) (present a (g .bytes) (g .spelled))))))
 
     compare-sound : (c : Comparison) → ((a : Argument) (x : List ℕ) (b : Argument) (y : List ℕ) → ArgumentSpelled (at + 1) a x → ArgumentSpelled (at + 1 + length x + 1) b y → Spells (Compare c a b) (w ++ (space ∷ (x ++ (space ∷ y))))) → Sound l (compareAt c l at)
     unfolding compareAt
@@ -178,8 +178,8 @@ string-spelled n s Divide t k e = absurd (no-target e)
 -- the operands that may be set, and where
 target-spelled : (at : ℕ) (p : Operand) (x : List ℕ) (o : Operation) (t : Target) → OperandSpelled at p x → targetOf p o ≡ TargetIs t → TargetSpelled o t x
 unfolding targetOf
-target-spelled at p x o t (literal k) e = absurd (no-target e)
-target-spelled at p x o t (string s k) e = absurd (no-target e)
+target-spelled at p x o t (number-literal k) e = absurd (no-target e)
+target-spelled at p x o t (string-literal s k) e = absurd (no-target e)
 target-spelled at p x o t (integer-variable n s k) e = let q : IntegerTarget n ≡ t = cc in subst (λ (y : Target). TargetSpelled o y (ascii "IV" ++ s)) q (integer-target o n s k)
 target-spelled at p x o t (decimal-variable n s k) e = let q : DecimalTarget n ≡ t = cc in subst (λ (y : Target). TargetSpelled o y (ascii "FV" ++ s)) q (decimal-target o n s k)
 target-spelled at p x o t (string-variable n s k) e = string-spelled n s o t k e
@@ -336,8 +336,8 @@ heading-sound l f = go (numberAt l 3 9) refl
     go : (x : Numeral) → numberAt l 3 9 ≡ x → Sound l (numeralOr (headingOf l 3 1) x (λ n next. headingOf l next n))
     go (Value n next) h =
         let g = number-spelled l 3 9 n next h in
-        heading-of-sound l (record { whole = f .whole ∙ ap (λ (x : List ℕ). ascii "$PH" ++ x) (g .here); size = omega (arith, g .behind) }) n (numbered n (g .bytes) (g .spelled))
-    go NoNumeral h = heading-of-sound l f 1 first
+        heading-of-sound l (record { whole = f .whole ∙ ap (λ (x : List ℕ). ascii "$PH" ++ x) (g .here); size = omega (arith, g .behind) }) n (numbered-word n (g .bytes) (g .spelled))
+    go NoNumeral h = heading-of-sound l f 1 bare-word
 
 moved : {a : Argument} {s : List ℕ} {m n : ℕ} → m ≡ n → ArgumentSpelled m a s → ArgumentSpelled n a s
 moved {a} {s} e k = subst (λ (i : ℕ). ArgumentSpelled i a s) e k
@@ -369,9 +369,9 @@ command-sound l e =
     or (λ h. bare-sound l (front (ascii "NOFF") h) NoFormFeed no-form-feed)
     or (λ h. optional-sound l (front (ascii "ET") h) EndTable end-table)
     or (λ h. optional-sound l (front (ascii "NP") h) NewPage new-page)
-    or (λ h. fetch-sound l (front (ascii "REC") h) Records records)
-    or (λ h. fetch-sound l (front (ascii "TBL") h) Entries entries)
-    or (λ h. section-sound l (front (ascii "SEC") h) section)
+    or (λ h. fetch-sound l (front (ascii "REC") h) Records records-form)
+    or (λ h. fetch-sound l (front (ascii "TBL") h) Entries entries-form)
+    or (λ h. section-sound l (front (ascii "SEC") h) section-form)
     or (λ h. heading-sound l (front (ascii "PH") h))
     or (λ h. remark-sound l (front (ascii "REM") h) remark remark-text)
     or no-more
@@ -405,7 +405,7 @@ HasForm = formCase ⊥ (Unit {0}) (Unit {0})
 
 spelled-has-form : (f : Line) (l : List ℕ) → Spells f l → HasForm f
 spelled-has-form f l (text ps l′ h t w) = tt
-spelled-has-form f l (section name w) = tt
+spelled-has-form f l (section-form name w) = tt
 spelled-has-form f l (set o t x a y u v) = tt
 spelled-has-form f l (if-not a s k) = tt
 spelled-has-form f l (if a s k) = tt
@@ -414,8 +414,8 @@ spelled-has-form f l «else» = tt
 spelled-has-form f l end-if = tt
 spelled-has-form f l (begin-table a s k) = tt
 spelled-has-form f l (end-table k s u) = tt
-spelled-has-form f l (records r s u) = tt
-spelled-has-form f l (entries r s u) = tt
+spelled-has-form f l (records-form r s u) = tt
+spelled-has-form f l (entries-form r s u) = tt
 spelled-has-form f l (datasource i s u) = tt
 spelled-has-form f l no-form-feed = tt
 spelled-has-form f l (new-page k s u) = tt

@@ -31,7 +31,7 @@ use Rattle.arguments.specs.declared.literal.LiteralRead.the-variants.{LiteralTo
 use Rattle.arguments.specs.readers.Literal as L
 use Rattle.arguments.specs.readers.Literal.{fractionAt, unsignedAt, literalAt}
 use Rattle.arguments.specs.readers.Index.{loopWord, variableWord, variableIndex, indexAt}
-use Rattle.grammar.specs.Number.{point, All, Several, sign, millionthsSpelled, LiteralSpelled, integer, decimal, IndexSpelled, fixed, variable, loop}
+use Rattle.grammar.specs.Number.{point, All, Several, sign, millionthsSpelled, LiteralSpelled, integer-literal, decimal-literal, IndexSpelled, fixed-index, variable-index, loop-index}
 use Rattle.grammar.proofs.Standing.{tested, Found, byte-is, onward, past, byte-stands, stands, stands-says, other-word, Stops, span-all, span-here}
 use Rattle.grammar.proofs.Numbers.{digits-read, first-byte, number-read, number-spelled}
 
@@ -82,14 +82,14 @@ signed-first l at r e = eq-eqb (byteAt l at) 45 (byte-is l at (45 ∷ r) e)
 
 pub literal-read : (l : List ℕ) (at : ℕ) (q : Quantity) (s r : List ℕ) → LiteralSpelled q s → drop at l ≡ s ++ r → Ends r → literalAt l at ≡ LiteralTo q (at + length s)
 unfolding literalAt
-literal-read l at q s r (integer true whole w h) e t =
+literal-read l at q s r (integer-literal true whole w h) e t =
     rw (signed-first l at (whole ++ r) e) (unsigned-integer l true (at + 1) whole r w h (past l at 45 (whole ++ r) e) t ∙ ap (LiteralTo q) (omega arith))
-literal-read l at q s r (integer false whole w h) e t =
+literal-read l at q s r (integer-literal false whole w h) e t =
     rw (unsigned-first l at whole r w e) (unsigned-integer l false at whole r w h e t)
-literal-read l at q s r (decimal true whole fraction w f h) e t =
+literal-read l at q s r (decimal-literal true whole fraction w f h) e t =
     let a : drop at l ≡ 45 ∷ (whole ++ (point ∷ (fraction ++ r))) = e ∙ ap (λ (x : List ℕ). 45 ∷ x) (append-assoc whole (point ∷ fraction) r) in
     rw (signed-first l at (whole ++ (point ∷ (fraction ++ r))) a) (unsigned-decimal l true (at + 1) whole fraction r w f h (past l at 45 (whole ++ (point ∷ (fraction ++ r))) a) t ∙ ap (LiteralTo q) (omega (arith, length-append whole (point ∷ fraction))))
-literal-read l at q s r (decimal false whole fraction w f h) e t =
+literal-read l at q s r (decimal-literal false whole fraction w f h) e t =
     let a : drop at l ≡ whole ++ (point ∷ (fraction ++ r)) = e ∙ append-assoc whole (point ∷ fraction) r in
     rw (unsigned-first l at whole (point ∷ (fraction ++ r)) w a) (unsigned-decimal l false at whole fraction r w f h a t ∙ ap (LiteralTo q) (omega (arith, length-append whole (point ∷ fraction))))
 
@@ -100,13 +100,13 @@ no-digits l at most r h e t = digits-read l at most [] r h e tt (omega arith) t
 
 pub index-read : (l : List ℕ) (at : ℕ) (i : Index) (s r : List ℕ) → IndexSpelled i s → drop at l ≡ s ++ r → Stops Digit r → indexAt l at ≡ IndexTo i (at + length s)
 unfolding indexAt variableIndex belongs begins
-index-read l at i x r (fixed s w) e t =
+index-read l at i x r (fixed-index s w) e t =
     rw (digits-read l at 3 s r (omega arith) e (w .all) (w .few) t, ne-eqb (length s) 0 (λ q. omega (arith, w .enough)))
-index-read l at i x r (variable n s k) e t =
+index-read l at i x r (variable-index n s k) e t =
     let b : standsAt loopWord l at ≡ false = other-word loopWord l at (ascii "IV" ++ (s ++ r)) e refl in
     rw (no-digits l at 3 (ascii "IV" ++ (s ++ r)) (omega arith) e refl, b, stands variableWord l at (s ++ r) e, number-read l (at + 2) 99 n s r (omega arith) (onward l at (ascii "IV") (s ++ r) e) k t)
     (ap (IndexTo (Variable n)) (omega arith))
-index-read l at i x r loop e t =
+index-read l at i x r loop-index e t =
     rw (no-digits l at 3 (ascii "LOOP" ++ r) (omega arith) e refl, stands loopWord l at r e)
 
 -- ---- what is read is spelled
@@ -134,7 +134,7 @@ module _ (l : List ℕ) (negative : Bool) where
       tested (LiteralSound at) (ltb decimalLimit (millionthsSpelled whole s)) (λ v. tt) (λ v.
       record {
         bytes = whole ++ (point ∷ s);
-        spelled = decimal negative whole s w (row-read l k 6 (eqb-false (length s) 0 c)) (ltb-false decimalLimit (millionthsSpelled whole s) v);
+        spelled = decimal-literal negative whole s w (row-read l k 6 (eqb-false (length s) 0 c)) (ltb-false decimalLimit (millionthsSpelled whole s) v);
         here = e ∙ ap (λ (x : List ℕ). whole ++ (point ∷ x)) (span-here Digit l k 6) ∙ sym (append-assoc whole (point ∷ s) (drop (k + length s) l));
         behind = omega (arith, length-append whole (point ∷ s));
       }))
@@ -149,7 +149,7 @@ module _ (l : List ℕ) (negative : Bool) where
       tested (LiteralSound at) (byteIs l (at + length s) ".")
       (λ d. fraction-sound at s w (h ∙ ap (λ (x : List ℕ). s ++ x) (byte-stands l (at + length s) point (eqb-true (byteAt l (at + length s)) point d) (omega arith))))
       (λ d. tested (LiteralSound at) (ltb integerLimit (valueOf s)) (λ v. tt) (λ v.
-      record { bytes = s; spelled = integer negative s w (ltb-false integerLimit (valueOf s) v); here = h; behind = refl })))
+      record { bytes = s; spelled = integer-literal negative s w (ltb-false integerLimit (valueOf s) v); here = h; behind = refl })))
 
 abbrev LiteralFound : List ℕ → ℕ → LiteralRead → Type 0
 LiteralFound l at (LiteralTo q next) = Found (LiteralSpelled q) l at next
@@ -199,7 +199,7 @@ IndexFound l at NoIndex = Unit {0}
 
 variable-sound : (l : List ℕ) (at : ℕ) (x : Numeral) → standsAt variableWord l at ≡ true → numberAt l (at + 2) 99 ≡ x → IndexFound l at (variableIndex x)
 unfolding variableIndex
-variable-sound l at (Value n next) e h = behind-word l at next variableWord e (number-spelled l (at + 2) 99 n next h) (variable n)
+variable-sound l at (Value n next) e h = behind-word l at next variableWord e (number-spelled l (at + 2) 99 n next h) (variable-index n)
 variable-sound l at NoNumeral e h = tt
 
 index-sound : (l : List ℕ) (at : ℕ) → IndexFound l at (indexAt l at)
@@ -207,9 +207,9 @@ unfolding indexAt digitsAt
 index-sound l at =
     let s : List ℕ = span Digit (take 3 (drop at l)) in
     tested (IndexFound l at) (eqb (length s) 0)
-    (λ c. tested (IndexFound l at) (standsAt loopWord l at) (λ w. word-alone l at loopWord w loop)
+    (λ c. tested (IndexFound l at) (standsAt loopWord l at) (λ w. word-alone l at loopWord w loop-index)
     (λ w. tested (IndexFound l at) (standsAt variableWord l at) (λ v. variable-sound l at (numberAt l (at + 2) 99) v refl) (λ v. tt)))
-    (λ c. record { bytes = s; spelled = fixed s (row-read l at 3 (eqb-false (length s) 0 c)); here = span-here Digit l at 3; behind = refl })
+    (λ c. record { bytes = s; spelled = fixed-index s (row-read l at 3 (eqb-false (length s) 0 c)); here = span-here Digit l at 3; behind = refl })
 
 pub index-spelled : (l : List ℕ) (at : ℕ) (i : Index) (next : ℕ) → indexAt l at ≡ IndexTo i next → Found (IndexSpelled i) l at next
 index-spelled l at i next e = subst (IndexFound l at) e (index-sound l at)

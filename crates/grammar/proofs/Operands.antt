@@ -23,14 +23,14 @@ use Rattle.arguments.specs.declared.index.IndexRead.the-variants.{IndexTo, NoIn
 use Rattle.arguments.specs.declared.literal.LiteralRead.{LiteralRead}
 use Rattle.arguments.specs.declared.literal.LiteralRead.the-variants.{LiteralTo, NoLiteral}
 use Rattle.arguments.specs.declared.operand.Operand.{Operand}
-use Rattle.arguments.specs.declared.operand.Operand.the-variants.{Number, Text, IntegerVariable, DecimalVariable, StringVariable, RecordElement, EntryElement, Entry}
+use Rattle.arguments.specs.declared.operand.Operand.the-variants.{NumberLiteral, StringLiteral, IntegerVariable, DecimalVariable, StringVariable, RecordElement, EntryElement, Entry}
 use Rattle.arguments.specs.declared.operand.OperandRead.{OperandRead}
 use Rattle.arguments.specs.declared.operand.OperandRead.the-variants.{OperandTo, NoOperand}
 use Rattle.arguments.specs.readers.Literal.{unsignedAt, literalAt}
 use Rattle.arguments.specs.readers.Index.{indexAt}
 use Rattle.arguments.specs.readers.Operand.{stringAt, entryOf, recordOf, cellOf, cellAt, wholeAt, numberedOf, numberedAt, names, namedAt, numberOr, operandAt}
-use Rattle.grammar.specs.Number.{point, All, Several, Numbered, LiteralSpelled, integer, decimal, IndexSpelled}
-use Rattle.grammar.specs.Argument.{quote, OperandSpelled, literal, string, integer-variable, decimal-variable, string-variable, page-number, line-number, loop-counter, record-element, entry-element, parameter, record-of, entry-of}
+use Rattle.grammar.specs.Number.{point, All, Several, Numbered, LiteralSpelled, integer-literal, decimal-literal, IndexSpelled}
+use Rattle.grammar.specs.Argument.{quote, OperandSpelled, number-literal, string-literal, integer-variable, decimal-variable, string-variable, page-number, line-number, loop-counter, record-element, entry-element, parameter, record-of, entry-of}
 use Rattle.grammar.proofs.Standing.{tested, Found, byte-is, onward, past, byte-stands, Stops, span-all, span-exact, span-here, no-more, _or_, found-word}
 use Rattle.grammar.proofs.Numbers.{first-byte, some-digits, number-read, number-spelled}
 use Rattle.grammar.proofs.Literals.{Ends, ends-stops, ends-point, first-digit, no-digits, literal-read, literal-spelled, index-read, index-spelled, behind-word, word-alone}
@@ -39,10 +39,10 @@ use Rattle.grammar.proofs.Literals.{Ends, ends-stops, ends-point, first
 
 -- a literal begins with no quote
 literal-first : (q : Quantity) (s r : List ℕ) → LiteralSpelled q s → getD (s ++ r) 0 0 ≡ quote → ⊥
-literal-first q s r (integer true whole w h) e = omega arith
-literal-first q s r (integer false whole w h) e = omega (arith, first-digit whole (w .all) (w .enough), first-byte whole r (w .enough))
-literal-first q s r (decimal true whole f w v h) e = omega arith
-literal-first q s r (decimal false whole f w v h) e =
+literal-first q s r (integer-literal true whole w h) e = omega arith
+literal-first q s r (integer-literal false whole w h) e = omega (arith, first-digit whole (w .all) (w .enough), first-byte whole r (w .enough))
+literal-first q s r (decimal-literal true whole f w v h) e = omega arith
+literal-first q s r (decimal-literal false whole f w v h) e =
     omega (arith, first-digit whole (w .all) (w .enough), ap (λ (x : List ℕ). getD x 0 0) (append-assoc whole (point ∷ f) r), first-byte whole (point ∷ (f ++ r)) (w .enough))
 
 -- where neither a digit nor a `-` stands, no literal does
@@ -80,7 +80,7 @@ no-point l at r e t = ne-eqb (byteAt l at) point (λ q. ends-point r t (sym (byt
 a-point : (l : List ℕ) (at : ℕ) (r : List ℕ) → drop at l ≡ point ∷ r → byteIs l at "." ≡ true
 a-point l at r e = eq-eqb (byteAt l at) point (byte-is l at (point ∷ r) e)
 
-string-read : (l : List ℕ) (at : ℕ) (s r : List ℕ) → Several InString 0 16 s → drop at l ≡ quote ∷ (s ++ (quote ∷ r)) → operandAt l at ≡ OperandTo (Text (at + 1) (at + 1 + length s)) (at + 1 + length s + 1)
+string-read : (l : List ℕ) (at : ℕ) (s r : List ℕ) → Several InString 0 16 s → drop at l ≡ quote ∷ (s ++ (quote ∷ r)) → operandAt l at ≡ OperandTo (StringLiteral (at + 1) (at + 1 + length s)) (at + 1 + length s + 1)
 unfolding operandAt stringAt belongs
 string-read l at s r w e =
     let p : drop (at + 1) l ≡ s ++ (quote ∷ r) = past l at quote (s ++ (quote ∷ r)) e in
@@ -92,15 +92,15 @@ numbered-read : (form : ℕ → Operand) (l : List ℕ) (at limit n : ℕ) (s r 
 unfolding numberedAt numberedOf
 numbered-read form l at limit n s r h e k t = rw (number-read l at limit n s r h e k t)
 
-literal-operand : (l : List ℕ) (at : ℕ) (q : Quantity) (s r : List ℕ) → LiteralSpelled q s → drop at l ≡ s ++ r → Ends r → operandAt l at ≡ OperandTo (Number q) (at + length s)
+literal-operand : (l : List ℕ) (at : ℕ) (q : Quantity) (s r : List ℕ) → LiteralSpelled q s → drop at l ≡ s ++ r → Ends r → operandAt l at ≡ OperandTo (NumberLiteral q) (at + length s)
 unfolding operandAt numberOr
 literal-operand l at q s r k e t =
     rw (ne-eqb (byteAt l at) quote (λ z. literal-first q s r k (sym (byte-is l at (s ++ r) e) ∙ z)), literal-read l at q s r k e t)
 
 pub operand-read : (l : List ℕ) (at : ℕ) (o : Operand) (s r : List ℕ) → OperandSpelled at o s → drop at l ≡ s ++ r → Ends r → operandAt l at ≡ OperandTo o (at + length s)
 unfolding namedAt names firstOf standsAt begins wholeAt cellOf recordOf entryOf belongs
-operand-read l at o s r (literal {q} k) e t = literal-operand l at q s r k e t
-operand-read l at o x r (string s w) e t =
+operand-read l at o s r (number-literal {q} k) e t = literal-operand l at q s r k e t
+operand-read l at o x r (string-literal s w) e t =
     string-read l at s r w (e ∙ ap (λ (y : List ℕ). quote ∷ y) (append-assoc s (quote ∷ []) r)) ∙ ap (OperandTo o) (omega (arith, length-append s (quote ∷ [])))
 operand-read l at o x r (integer-variable n s k) e t =
     name-read l at _ _ e refl (λ q. omega arith) (λ q. omega arith) (rw e (numbered-read IntegerVariable l (at + 2) 99 n s r (omega arith) (onward l at (ascii "IV") (s ++ r) e) k (ends-stops r t) ∙ ap (OperandTo o) (omega arith)))
@@ -152,7 +152,7 @@ string-sound l at e =
     tested (OperandFound l at) (byteIs l k "\"")
     (λ q. record {
       bytes = quote ∷ (s ++ (quote ∷ []));
-      spelled = string s (record { all = span-all InString (take 16 (drop (at + 1) l)); enough = zero-le; few = omega (arith, length-span InString (take 16 (drop (at + 1) l)), length-take 16 (drop (at + 1) l)) });
+      spelled = string-literal s (record { all = span-all InString (take 16 (drop (at + 1) l)); enough = zero-le; few = omega (arith, length-span InString (take 16 (drop (at + 1) l)), length-take 16 (drop (at + 1) l)) });
       here = e ∙ ap (λ (x : List ℕ). quote ∷ x) (h ∙ ap (λ (x : List ℕ). s ++ x) (byte-stands l k quote (eqb-true (byteAt l k) quote q) (omega arith)) ∙ sym (append-assoc s (quote ∷ []) (drop (k + 1) l)));
       behind = omega (arith, length-append s (quote ∷ []));
     })
@@ -248,7 +248,7 @@ operand-sound l at =
     (λ q. go (literalAt l at) refl)
   where
     go : (x : LiteralRead) → literalAt l at ≡ x → OperandFound l at (numberOr (namedAt l at) x)
-    go (LiteralTo q next) h = let f = literal-spelled l at q next h in record { bytes = f .bytes; spelled = literal (f .spelled); here = f .here; behind = f .behind }
+    go (LiteralTo q next) h = let f = literal-spelled l at q next h in record { bytes = f .bytes; spelled = number-literal (f .spelled); here = f .here; behind = f .behind }
     go NoLiteral h = named-sound l at
 
 pub operand-spelled : (l : List ℕ) (at : ℕ) (o : Operand) (next : ℕ) → operandAt l at ≡ OperandTo o next → Found (OperandSpelled at o) l at next

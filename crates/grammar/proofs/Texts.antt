@@ -35,7 +35,7 @@ use Rattle.texts.specs.declared.text.PieceRead.the-variants.{PieceTo, NoPiece}
 use Rattle.texts.specs.readers.Text.{placesAt, placesOf, widthNext, fieldOf, fieldAt, placed, pieceAt, before, piecesWithin}
 use Rattle.grammar.specs.Number.{point, Numbered}
 use Rattle.grammar.specs.Argument.{ArgumentSpelled}
-use Rattle.grammar.specs.Text.{PlacesSpelled, unsaid, said, PieceSpelled, plain, field, TextSpelled, end, piece}
+use Rattle.grammar.specs.Text.{PlacesSpelled, unsaid, said, PieceSpelled, plain-byte, field, TextSpelled, end, piece}
 use Rattle.grammar.proofs.Standing.{tested, Found, byte-is, onward, past, byte-stands, span-here}
 use Rattle.grammar.proofs.Numbers.{digits-read, number-read, number-spelled}
 use Rattle.grammar.proofs.Literals.{row-read}
@@ -91,7 +91,7 @@ nonempty l at b r e = lt-leb (length l) at (omega (arith, ap length e, length-dr
 
 pub piece-read : (l : List ℕ) (at : ℕ) (p : Piece) (s r : List ℕ) → PieceSpelled at p s → drop at l ≡ s ++ r → pieceAt l at ≡ PieceTo p (at + length s)
 unfolding pieceAt placed
-piece-read l at p s r (plain b h k) e =
+piece-read l at p s r (plain-byte b h k) e =
     rw (nonempty l at b r e, byte-other l at b opening r e h, byte-other l at b closing r e k, byte-is l at (b ∷ r) e)
 piece-read l at p z r (field a s w x q y u v t) e =
     let f : drop at l ≡ opening ∷ (s ++ (comma ∷ (x ++ (y ++ (closing ∷ r))))) =
@@ -104,7 +104,7 @@ piece-read l at p z r (field a s w x q y u v t) e =
 
 -- a piece has a byte at least
 piece-some : (at : ℕ) (p : Piece) (s : List ℕ) → PieceSpelled at p s → (b : ℕ) × (r : List ℕ) × (s ≡ b ∷ r)
-piece-some at p s (plain b h k) = (b, [], refl)
+piece-some at p s (plain-byte b h k) = (b, [], refl)
 piece-some at p s (field a x w y q z u v t) = (opening, x ++ (comma ∷ (y ++ (z ++ (closing ∷ [])))), refl)
 
 pub text-read : (n : ℕ) (l : List ℕ) (at : ℕ) (ps : List Piece) (s : List ℕ) → TextSpelled at ps s → drop at l ≡ s → length s ≤ n → piecesWithin n l at ≡ some ps
@@ -226,7 +226,7 @@ module _ (l : List ℕ) (at : ℕ) where
       (λ b. tested PieceFound (byteIs l at "}") (λ c. tt)
       (λ c. record {
         bytes = byteAt l at ∷ [];
-        spelled = plain (byteAt l at) (eqb-false (byteAt l at) opening b) (eqb-false (byteAt l at) closing c);
+        spelled = plain-byte (byteAt l at) (eqb-false (byteAt l at) opening b) (eqb-false (byteAt l at) closing c);
         here = drop-cons l at 0 (leb-false (length l) at h) ∙ ap (λ (k : ℕ). getD l at 0 ∷ drop k l) (sym (add-one at));
         behind = refl;
       })))

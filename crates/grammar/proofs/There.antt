@@ -7,7 +7,7 @@ use lib.ListN.{length, take, drop, length-drop}
 use lib.Seq.{take-append-seam, take-all, drop-append-add}
 use Rattle.scan.specs.declared.run.Class.the-variants.{InName, InString}
 use Rattle.scan.specs.Ascii.{ascii}
-use Rattle.arguments.specs.declared.operand.Operand.the-variants.{Text}
+use Rattle.arguments.specs.declared.operand.Operand.the-variants.{StringLiteral}
 use Rattle.texts.specs.declared.text.Piece.{Piece}
 use Rattle.texts.specs.Width.{totalWidth}
 use Rattle.texts.specs.readers.Text.{textPieces}
@@ -15,9 +15,9 @@ use Rattle.texts.specs.Pieces.{read, piecesOf}
 use Rattle.lines.specs.declared.command.Line.the-variants as L
 use Rattle.lines.specs.declared.command.Line.the-variants.{Section, Heading}
 use Rattle.grammar.specs.Number.{Several}
-use Rattle.grammar.specs.Argument.{quote, OperandSpelled, string}
+use Rattle.grammar.specs.Argument.{quote, OperandSpelled, string-literal}
 use Rattle.grammar.specs.Text.{TextSpelled}
-use Rattle.grammar.specs.Line.{space, Spells, text, section, heading}
+use Rattle.grammar.specs.Line.{space, Spells, text, section-form, heading}
 use Rattle.grammar.proofs.Standing.{past}
 use Rattle.grammar.proofs.Texts.{text-read}
 
@@ -27,8 +27,8 @@ pub record StringThere (l : List ℕ) (start end : ℕ) : Type 0 where
   pub row : Several InString 0 16 bytes
   pub there : take (end - start) (drop start l) ≡ bytes
 
-pub string-there : (l : List ℕ) (at start end : ℕ) (s r : List ℕ) → OperandSpelled at (Text start end) s → drop at l ≡ s ++ r → StringThere l start end
-string-there l at start end s r (string x w) e =
+pub string-there : (l : List ℕ) (at start end : ℕ) (s r : List ℕ) → OperandSpelled at (StringLiteral start end) s → drop at l ≡ s ++ r → StringThere l start end
+string-there l at start end s r (string-literal x w) e =
     let f : drop at l ≡ quote ∷ (x ++ (quote ∷ r)) = e ∙ ap (λ (y : List ℕ). quote ∷ y) (append-assoc x (quote ∷ []) r) in
     let n : at + 1 + length x - (at + 1) ≡ length x = omega arith in
     record { bytes = x; row = w; there = ap₂ (λ (i : ℕ) (y : List ℕ). take i y) n (past l at quote (x ++ (quote ∷ r)) f) ∙ take-append-seam x (quote ∷ r) }
@@ -41,7 +41,7 @@ pub record NameThere (l : List ℕ) (start end : ℕ) : Type 0 where
   pub whole : l ≡ ascii "$SEC " ++ bytes
 
 pub name-there : (l : List ℕ) (start end : ℕ) → Spells (Section start end) l → NameThere l start end
-name-there l start end (section x w) =
+name-there l start end (section-form x w) =
     let n : 5 + length x - 5 ≡ length x = omega arith in
     record { bytes = x; row = w; there = ap (λ (i : ℕ). take i x) n ∙ take-all (length x) x (omega arith); whole = refl }
 

@@ -11,7 +11,7 @@ use Rattle.scan.specs.declared.run.Class.the-variants.{InString}
 use Rattle.scan.specs.Ascii.{ascii}
 use Rattle.arguments.specs.declared.index.Index.{Index}
 use Rattle.arguments.specs.declared.operand.Operand.{Operand}
-use Rattle.arguments.specs.declared.operand.Operand.the-variants.{Number, Text, IntegerVariable, DecimalVariable, StringVariable, PageNumber, LineNumber, LoopCounter, RecordElement, EntryElement, Parameter, Record, Entry}
+use Rattle.arguments.specs.declared.operand.Operand.the-variants.{NumberLiteral, StringLiteral, IntegerVariable, DecimalVariable, StringVariable, PageNumber, LineNumber, LoopCounter, RecordElement, EntryElement, Parameter, Record, Entry}
 use Rattle.arguments.specs.declared.argument.Filter.{Filter}
 use Rattle.arguments.specs.declared.argument.Filter.the-variants.{Unfiltered, Absolute, Truncated, UpperCase, Length, RecordCount, EntryCount}
 use Rattle.arguments.specs.declared.argument.Argument.{Argument}
@@ -24,8 +24,8 @@ quote = code "\""
 -- "Arguments: an integer ..; a decimal ..; a string in double quotes, 0–16 bytes without a quote; IVn, FVn, SVn (n 1–99); PAGENUM;
 -- LINENUM; LOOP; Rn, Tn (n 1–10); a cell Pn, Pn.r or Pn.r.e, n 1–65,535"
 pub data OperandSpelled (at : ℕ) : Operand → List ℕ → Type 0 where
-  literal : {q : Quantity} {s : List ℕ} → LiteralSpelled q s → OperandSpelled at (Number q) s
-  string : (s : List ℕ) → Several InString 0 16 s → OperandSpelled at (Text (at + 1) (at + 1 + length s)) (quote ∷ (s ++ (quote ∷ [])))
+  number-literal : {q : Quantity} {s : List ℕ} → LiteralSpelled q s → OperandSpelled at (NumberLiteral q) s
+  string-literal : (s : List ℕ) → Several InString 0 16 s → OperandSpelled at (StringLiteral (at + 1) (at + 1 + length s)) (quote ∷ (s ++ (quote ∷ [])))
   integer-variable : (n : ℕ) (s : List ℕ) → Numbered 99 n s → OperandSpelled at (IntegerVariable n) (ascii "IV" ++ s)
   decimal-variable : (n : ℕ) (s : List ℕ) → Numbered 99 n s → OperandSpelled at (DecimalVariable n) (ascii "FV" ++ s)
   string-variable : (n : ℕ) (s : List ℕ) → Numbered 99 n s → OperandSpelled at (StringVariable n) (ascii "SV" ++ s)
@@ -50,4 +50,4 @@ filterBytes EntryCount = ascii "|ENTCNT"
 
 -- "|RECCNT on Pn, |ENTCNT on Pn.r"; "RECCNT and ENTCNT elsewhere are 3. Other filters may stand after any argument"
 pub data ArgumentSpelled (at : ℕ) : Argument → List ℕ → Type 0 where
-  filtered : (o : Operand) (f : Filter) (s : List ℕ) → OperandSpelled at o s → admits f (countOf o) ≡ true → ArgumentSpelled at (record { operand = o; filter = f }) (s ++ filterBytes f)
+  with-filter : (o : Operand) (f : Filter) (s : List ℕ) → OperandSpelled at o s → admits f (countOf o) ≡ true → ArgumentSpelled at (record { operand = o; filter = f }) (s ++ filterBytes f)

@@ -57,7 +57,7 @@ compareWord AtLeast = ascii "$IFGE "
 -- "[k]", "[n]": an argument, or nothing
 pub data OptionalSpelled (at : ℕ) : Optional → List ℕ → Type 0 where
   absent : OptionalSpelled at Absent []
-  given : (a : Argument) (s : List ℕ) → ArgumentSpelled (at + 1) a s → OptionalSpelled at (Given a) (space ∷ s)
+  present : (a : Argument) (s : List ℕ) → ArgumentSpelled (at + 1) a s → OptionalSpelled at (Given a) (space ∷ s)
 
 -- "n Pm record entry count"
 pub data FetchSpelled : Fetch → List ℕ → Type 0 where
@@ -65,14 +65,14 @@ pub data FetchSpelled : Fetch → List ℕ → Type 0 where
 
 -- "`$PHn text` (n 1–9, `$PH` is `$PH1`; ..)"
 pub data HeadingWord : ℕ → List ℕ → Type 0 where
-  first : HeadingWord 1 (ascii "$PH")
-  numbered : (n : ℕ) (s : List ℕ) → Numbered 9 n s → HeadingWord n (ascii "$PH" ++ s)
+  bare-word : HeadingWord 1 (ascii "$PH")
+  numbered-word : (n : ℕ) (s : List ℕ) → Numbered 9 n s → HeadingWord n (ascii "$PH" ++ s)
 
 pub data Spells : Line → List ℕ → Type 0 where
   -- "at most 132 bytes", with fields at their widths
   text : (ps : List Piece) (l : List ℕ) → (byteAt l 0 ≡ code "$" → ⊥) → TextSpelled 0 ps l → totalWidth ps ≤ 132 → Spells Text l
   -- "1–16 of A–Z, 0–9"
-  section : (name : List ℕ) → Several InName 1 16 name → Spells (Section 5 (5 + length name)) (ascii "$SEC " ++ name)
+  section-form : (name : List ℕ) → Several InName 1 16 name → Spells (Section 5 (5 + length name)) (ascii "$SEC " ++ name)
   set : (o : Operation) (t : Target) (x : List ℕ) (a : Argument) (y : List ℕ) → TargetSpelled o t x → ArgumentSpelled (7 + length x) a y → Spells (Set o t a) (setWord o ++ (x ++ (space ∷ y)))
   if-not : (a : Argument) (s : List ℕ) → ArgumentSpelled 7 a s → Spells (IfNot a) (ascii "$IFNOT " ++ s)
   if : (a : Argument) (s : List ℕ) → ArgumentSpelled 4 a s → Spells (If a) (ascii "$IF " ++ s)
@@ -81,8 +81,8 @@ pub data Spells : Line → List ℕ → Type 0 where
   end-if : Spells EndIf (ascii "$ENDIF")
   begin-table : (a : Argument) (s : List ℕ) → ArgumentSpelled 4 a s → Spells (BeginTable a) (ascii "$BT " ++ s)
   end-table : (k : Optional) (s : List ℕ) → OptionalSpelled 3 k s → Spells (EndTable k) (ascii "$ET" ++ s)
-  records : (f : Fetch) (s : List ℕ) → FetchSpelled f s → Spells (Records f) (ascii "$REC " ++ s)
-  entries : (f : Fetch) (s : List ℕ) → FetchSpelled f s → Spells (Entries f) (ascii "$TBL " ++ s)
+  records-form : (f : Fetch) (s : List ℕ) → FetchSpelled f s → Spells (Records f) (ascii "$REC " ++ s)
+  entries-form : (f : Fetch) (s : List ℕ) → FetchSpelled f s → Spells (Entries f) (ascii "$TBL " ++ s)
   datasource : (i : Index) (s : List ℕ) → IndexSpelled i s → Spells (Datasource i) (ascii "$SETDS " ++ s)
   no-form-feed : Spells NoFormFeed (ascii "$NOFF")
   new-page : (n : Optional) (s : List ℕ) → OptionalSpelled 3 n s → Spells (NewPage n) (ascii "$NP" ++ s)

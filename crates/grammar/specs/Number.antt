@@ -52,11 +52,11 @@ millionthsSpelled whole fraction = valueOf whole * 1000000 + valueOf fraction * 
 -- "an integer (optional `-`, 1–10 digits); a decimal (the same, a point, 1–6 digits)"; 3: "a number literal exceeds
 -- ±2,000,000,000"
 pub data LiteralSpelled : Quantity → List ℕ → Type 0 where
-  integer : (negative : Bool) (whole : List ℕ) → Several Digit 1 10 whole → valueOf whole ≤ integerLimit → LiteralSpelled (Integer (signed negative (valueOf whole))) (sign negative ++ whole)
-  decimal : (negative : Bool) (whole fraction : List ℕ) → Several Digit 1 10 whole → Several Digit 1 6 fraction → millionthsSpelled whole fraction ≤ decimalLimit → LiteralSpelled (Decimal (signed negative (millionthsSpelled whole fraction))) (sign negative ++ (whole ++ (point ∷ fraction)))
+  integer-literal : (negative : Bool) (whole : List ℕ) → Several Digit 1 10 whole → valueOf whole ≤ integerLimit → LiteralSpelled (Integer (signed negative (valueOf whole))) (sign negative ++ whole)
+  decimal-literal : (negative : Bool) (whole fraction : List ℕ) → Several Digit 1 10 whole → Several Digit 1 6 fraction → millionthsSpelled whole fraction ≤ decimalLimit → LiteralSpelled (Decimal (signed negative (millionthsSpelled whole fraction))) (sign negative ++ (whole ++ (point ∷ fraction)))
 
 -- "An index .. is 1–3 digits, IVn or LOOP"
 pub data IndexSpelled : Index → List ℕ → Type 0 where
-  fixed : (s : List ℕ) → Several Digit 1 3 s → IndexSpelled (Fixed (valueOf s)) s
-  variable : (n : ℕ) (s : List ℕ) → Numbered 99 n s → IndexSpelled (Variable n) (ascii "IV" ++ s)
-  loop : IndexSpelled Loop (ascii "LOOP")
+  fixed-index : (s : List ℕ) → Several Digit 1 3 s → IndexSpelled (Fixed (valueOf s)) s
+  variable-index : (n : ℕ) (s : List ℕ) → Numbered 99 n s → IndexSpelled (Variable n) (ascii "IV" ++ s)
+  loop-index : IndexSpelled Loop (ascii "LOOP")

@@ -11,7 +11,7 @@ use Rattle.arguments.specs.declared.argument.Argument.{Argument}
 use Rattle.texts.specs.declared.text.Places.{Places}
 use Rattle.texts.specs.declared.text.Places.the-variants.{Unsaid, Said}
 use Rattle.texts.specs.declared.text.Piece.{Piece}
-use Rattle.texts.specs.declared.text.Piece.the-variants.{Plain, Placed}
+use Rattle.texts.specs.declared.text.Piece.the-variants.{Byte, Placed}
 use Rattle.grammar.specs.Number.{point, Several, Numbered}
 use Rattle.grammar.specs.Argument.{ArgumentSpelled}
 
@@ -22,7 +22,7 @@ pub data PlacesSpelled : Places → List ℕ → Type 0 where
 
 -- a byte, or a field, "w 1–32": "other braces in text and headings, outside a field's string, are refused"
 pub data PieceSpelled (at : ℕ) : Piece → List ℕ → Type 0 where
-  plain : (b : ℕ) → (b ≡ code "{" → ⊥) → (b ≡ code "}" → ⊥) → PieceSpelled at (Plain b) (b ∷ [])
+  plain-byte : (b : ℕ) → (b ≡ code "{" → ⊥) → (b ≡ code "}" → ⊥) → PieceSpelled at (Byte b) (b ∷ [])
   field : (a : Argument) (s : List ℕ) (w : ℕ) (x : List ℕ) (p : Places) (y : List ℕ) → ArgumentSpelled (at + 1) a s → Numbered 32 w x → PlacesSpelled p y → PieceSpelled at (Placed (record { argument = a; width = w; places = p })) (ascii "{" ++ (s ++ (ascii "," ++ (x ++ (y ++ ascii "}")))))
 
 -- the pieces of a text that begins at a place of its line

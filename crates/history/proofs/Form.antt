@@ -15,7 +15,7 @@ use Rattle.meaning.specs.declared.end.Ended.the-variants.{Finished, Halted}
 use Rattle.meaning.specs.declared.refusal.Refusal.{Refusal}
 use Rattle.meaning.specs.declared.refusal.Refusal.the-variants.{BadStore, BadRequest, StoreFull, NoCell}
 use Rattle.cells.specs.Bytes.{equalBytes}
-use Rattle.cells.specs.Cell.{Key, Cell, number, cellAllowed, keyAllowed, cellBytes, keyBytes, keyAt, cellOf, wholeCell, wholeKey}
+use Rattle.cells.specs.Cell.{Key, Cell, keyAsNumber, cellAllowed, keyAllowed, cellBytes, keyBytes, keyAt, cellOf, wholeCell, wholeKey}
 use Rattle.cells.specs.Store.{capacity, encode, cells, cellsHeld}
 use Rattle.cells.specs.Asking.{lookup}
 use Rattle.cells.proofs.CellForm.{passing-some}
@@ -23,7 +23,7 @@ use Rattle.cells.proofs.BigEndian.{and-true}
 use Rattle.cells.proofs.Runs.{Valid, Holds, some-inj, none-some, cells-encode, cells-some}
 use Rattle.store.specs.Edit.{with, without, CellEdit, refusedOn, doneOn, fits, putOn, takenOut, removeOn, Edit, refusedEdit, written, writtenBy, writtenOut, checkedEdit, putOf, removeOf}
 use Rattle.history.specs.LentStore.{LentStore, cellsHeldBy}
-use Rattle.history.specs.Change.{Change, put, remove, handedBack, handedOn, next, editEnd, succeeded, accepted, edited}
+use Rattle.history.specs.Change.{Change, put, remove, handedBack, handedOn, afterChange, editEnd, succeeded, accepted, edited}
 use Rattle.history.proofs.Order.{with-valid, without-valid, without-shorter}
 
 -- ---- what is handed in
@@ -122,7 +122,7 @@ module _ (b : List ℕ) (n : ℕ) (cs : List Cell) (h : cellsHeld b n ≡ some c
   remove-kept : (o : Option Key) → Keeps (removeOn o cs)
   unfolding removeOn
   remove-kept none = refused-kept BadRequest
-  remove-kept (some k) = taken-kept (number k) (lookup (number k) cs)
+  remove-kept (some k) = taken-kept (keyAsNumber k) (lookup (keyAsNumber k) cs)
 
 -- From a store in form every edit leaves one in form, with the cells that its definition gives: "Put adds or replaces the cell
 -- of a key", "Remove takes it out", and a refused edit changes nothing. The buffer stays as long as it was.
@@ -166,7 +166,7 @@ refused-left size (remove s) cs = go (wholeKey s)
 
     go : (o : Option Key) → succeeded (removeOn o cs .end) ≡ false → removeOn o cs .left ≡ cs
     go none e = refl
-    go (some k) e = by (number k) (lookup (number k) cs) e
+    go (some k) e = by (keyAsNumber k) (lookup (keyAsNumber k) cs) e
 
 written-stays : (b : List ℕ) (n : ℕ) (cs : List Cell) (x : Ended) → succeeded (writtenBy b n cs x .end) ≡ false → handedOn (writtenBy b n cs x) ≡ record { buffer = b; length = n }
 unfolding writtenBy written succeeded
@@ -179,7 +179,7 @@ checked-stays b n f none = λ e. refl
 checked-stays b n f (some cs) = written-stays b n (f cs .left) (f cs .end)
 
 -- A refused edit keeps every byte and the length.
-pub refused-keeps : (e : Change) (m : LentStore) → accepted e m ≡ false → next e m ≡ m
+pub refused-keeps : (e : Change) (m : LentStore) → accepted e m ≡ false → afterChange e m ≡ m
 unfolding handedBack putOf removeOf
 refused-keeps (put s) m = checked-stays (m .buffer) (m .length) (putOn (length (m .buffer)) (wholeCell s)) (cellsHeldBy m)
 refused-keeps (remove s) m = checked-stays (m .buffer) (m .length) (removeOn (wholeKey s)) (cellsHeldBy m)

@@ -13,7 +13,7 @@ use Rattle.meaning.specs.Each.{Each}
 use Rattle.meaning.specs.declared.question.Question.{Question}
 use Rattle.meaning.specs.declared.end.Ended.{Ended}
 use Rattle.meaning.specs.declared.end.Ended.the-variants.{Finished, Halted}
-use Rattle.cells.specs.Cell.{Key, Cell, number, keyNumber, keyAllowed, cellAllowed, wholeCell, wholeKey}
+use Rattle.cells.specs.Cell.{Key, Cell, keyAsNumber, keyNumber, keyAllowed, cellAllowed, wholeCell, wholeKey}
 use Rattle.cells.specs.Store.{allowed}
 use Rattle.cells.specs.Asking.{asked, Query, theCell, queryAllowed, questionAllowed, lookup, highestOf, ofParameter, ofRecord, queryAnswer, answer, Reply, answeredAsk, refusedAsk, replied, askOf}
 use Rattle.cells.proofs.BigEndian.{and-true}
@@ -22,8 +22,8 @@ use Rattle.cells.proofs.Locating.{held-some}
 use Rattle.cells.proofs.Questions.{by-query}
 use Rattle.store.specs.Edit.{lower, higher, with, without, refusedOn, doneOn, fits, putOn, takenOut, removeOn}
 use Rattle.history.specs.LentStore.{LentStore, cellsHeldBy, askIn}
-use Rattle.history.specs.Change.{Change, put, remove, next, editEnd, succeeded, keyOfCell, keyNamed, isKey, ofItsParameter, touchesParameter, edited}
-use Rattle.history.specs.History.{after, outside}
+use Rattle.history.specs.Change.{Change, put, remove, afterChange, editEnd, succeeded, keyOfCell, keyNamed, isKey, ofItsParameter, touchesParameter, edited}
+use Rattle.history.specs.History.{afterChanges, outside}
 use Rattle.history.proofs.Form.{cell-allowed, key-allowed, form-kept, refused-keeps, out-of-form-once}
 use Rattle.history.proofs.Answers.{edited-other}
 
@@ -51,7 +51,7 @@ module _ (p : Key → Bool) (f : Cell → ℕ) where
       go false e false u r = rw (h .0 (omega (arith, ltb-false (keyNumber c) n e, ltb-false n (keyNumber c) u))) (omega (arith, r))
 
   -- cells with the number of a key within the limits have that key
-  none-of : (l : Key) → keyAllowed l ≡ true → p l ≡ false → (cs : List Cell) → allowed cs ≡ true → Each (λ c. keyNumber c ≡ number l → p (c .key) ≡ false) cs
+  none-of : (l : Key) → keyAllowed l ≡ true → p l ≡ false → (cs : List Cell) → allowed cs ≡ true → Each (λ c. keyNumber c ≡ keyAsNumber l → p (c .key) ≡ false) cs
   unfolding allowed
   none-of l a n [] h = tt
   none-of l a n (c ∷ cs) h =
@@ -64,10 +64,10 @@ module _ (p : Key → Bool) (f : Cell → ℕ) where
       let e : top (c ∷ higher (keyNumber c) cs) ≡ top (higher (keyNumber c) cs) = rw n (omega arith) in
       omega (arith, top-append (lower (keyNumber c) cs) (c ∷ higher (keyNumber c) cs), e, top-around (keyNumber c) cs (none-of (c .key) a n cs h))
 
-  top-without : (l : Key) → keyAllowed l ≡ true → p l ≡ false → (cs : List Cell) → allowed cs ≡ true → top (without (number l) cs) ≡ top cs
+  top-without : (l : Key) → keyAllowed l ≡ true → p l ≡ false → (cs : List Cell) → allowed cs ≡ true → top (without (keyAsNumber l) cs) ≡ top cs
   unfolding without
   top-without l a n cs h =
-      omega (arith, top-append (lower (number l) cs) (higher (number l) cs), top-around (number l) cs (none-of l a n cs h))
+      omega (arith, top-append (lower (keyAsNumber l) cs) (higher (keyAsNumber l) cs), top-around (keyAsNumber l) cs (none-of l a n cs h))
 
   -- an edit of a key that doesn't pass
   top-edited : (size : ℕ) (e : Change) → ((l : Key) → keyNamed e ≡ some l → p l ≡ false) → (cs : List Cell) → allowed cs ≡ true → top (edited size e cs .left) ≡ top cs
@@ -83,13 +83,13 @@ module _ (p : Key → Bool) (f : Cell → ℕ) where
       go (some c) e n = by c (fits size (with c cs)) e (n (c .key) refl)
   top-edited size (remove s) n cs h = go (wholeKey s) refl n
     where
-      by : (k : Key) (o : Option Cell) → wholeKey s ≡ some k → p k ≡ false → top (takenOut (number k) cs o .left) ≡ top cs
+      by : (k : Key) (o : Option Cell) → wholeKey s ≡ some k → p k ≡ false → top (takenOut (keyAsNumber k) cs o .left) ≡ top cs
       by k none e n = refl
       by k (some c) e n = top-without k (key-allowed s k e) n cs h
 
       go : (o : Option Key) → wholeKey s ≡ o → ((l : Key) → o ≡ some l → p l ≡ false) → top (removeOn o cs .left) ≡ top cs
       go none e n = refl
-      go (some k) e n = by k (lookup (number k) cs) e (n k refl)
+      go (some k) e n = by k (lookup (keyAsNumber k) cs) e (n k refl)
 
 -- ---- one edit
 
@@ -115,9 +115,9 @@ module _ (q : Question) (e : Change) (n : ofItsParameter (asked q) (keyNamed e) 
     where
       go : (o : Option Key) → keyNamed e ≡ o → isKey (asked q) o ≡ false
       go none h = refl
-      go (some l) h = by (eqb (number l) (number (asked q))) refl
+      go (some l) h = by (eqb (keyAsNumber l) (keyAsNumber (asked q))) refl
         where
-          by : (t : Bool) → eqb (number l) (number (asked q)) ≡ t → t ≡ false
+          by : (t : Bool) → eqb (keyAsNumber l) (keyAsNumber (asked q)) ≡ t → t ≡ false
           by true u =
               let k : l ≡ asked q = same-key l (asked q) (named-allowed e l h) a (eqb-true _ _ u) in
               absurd (true≢false (sym (rw (eq-eqb (q .datasource) (q .datasource) refl, eq-eqb (q .parameter) (q .parameter) refl)) ∙ sym (ap (λ (x : Key). eqb (x .datasource) (q .datasource) && eqb (x .parameter) (q .parameter)) k) ∙ other l h))
@@ -142,15 +142,15 @@ module _ (q : Question) (e : Change) (n : ofItsParameter (asked q) (keyNamed e) 
       go true a = rw (edited-other size (asked q) e cs (not-asked a))
       go false a = rw a
 
-other-once : (q : Question) (e : Change) (m : LentStore) → touchesParameter (asked q) e m ≡ false → askIn (next e m) q ≡ askIn m q
+other-once : (q : Question) (e : Change) (m : LentStore) → touchesParameter (asked q) e m ≡ false → askIn (afterChange e m) q ≡ askIn m q
 unfolding touchesParameter askOf succeeded
 other-once q e m n = by (editEnd e m) refl
   where
-    by : (x : Ended) → editEnd e m ≡ x → askIn (next e m) q ≡ askIn m q
+    by : (x : Ended) → editEnd e m ≡ x → askIn (afterChange e m) q ≡ askIn m q
     by (Halted h l) u = ap (λ (s : LentStore). askIn s q) (refused-keeps e m (ap succeeded u))
     by Finished u = go (cellsHeldBy m) refl
       where
-        go : (o : Option (List Cell)) → cellsHeldBy m ≡ o → askIn (next e m) q ≡ askIn m q
+        go : (o : Option (List Cell)) → cellsHeldBy m ≡ o → askIn (afterChange e m) q ≡ askIn m q
         go none h = absurd (true≢false (sym (ap succeeded u) ∙ ap (λ r. succeeded (r .end)) (out-of-form-once e m h)))
         go (some cs) h =
             ap (replied q) (form-kept e m cs h .held)
@@ -159,9 +159,9 @@ other-once q e m n = by (editEnd e m) refl
 
 -- Edits outside a parameter change no answer about it, of any kind: for any list of edits, from any bytes, none of them an
 -- accepted put or remove of a cell of that parameter in that datasource.
-pub other-parameter : (q : Question) (es : List Change) (m : LentStore) → outside (asked q) es m ≡ true → askIn (after es m) q ≡ askIn m q
-unfolding after outside
+pub other-parameter : (q : Question) (es : List Change) (m : LentStore) → outside (asked q) es m ≡ true → askIn (afterChanges es m) q ≡ askIn m q
+unfolding afterChanges outside
 other-parameter q [] m u = refl
 other-parameter q (e ∷ es) m u =
     let t = and-true _ _ u in
-    other-parameter q es (next e m) (t .1) ∙ other-once q e m (not-true _ (t .0))
+    other-parameter q es (afterChange e m) (t .1) ∙ other-once q e m (not-true _ (t .0))

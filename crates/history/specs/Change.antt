@@ -6,7 +6,7 @@ use Prim.Native.Nat.{ℕ}
 use lib.Dec.{eqb}
 use Rattle.meaning.specs.declared.end.Ended.{Ended}
 use Rattle.meaning.specs.declared.end.Ended.the-variants.{Finished, Halted}
-use Rattle.cells.specs.Cell.{Key, Cell, number, wholeCell, wholeKey}
+use Rattle.cells.specs.Cell.{Key, Cell, keyAsNumber, wholeCell, wholeKey}
 use Rattle.store.specs.Edit.{CellEdit, putOn, removeOn, Edit, putOf, removeOf}
 use Rattle.history.specs.LentStore.{LentStore}
 
@@ -24,8 +24,8 @@ handedBack (remove s) m = removeOf (m .buffer) (m .length) s
 abbrev pub handedOn : Edit → LentStore
 handedOn r = record { buffer = r .buffer; length = r .length }
 
-abbrev pub next : Change → LentStore → LentStore
-next e m = handedOn (handedBack e m)
+abbrev pub afterChange : Change → LentStore → LentStore
+afterChange e m = handedOn (handedBack e m)
 
 -- how the edit ended; "0 is success", and an edit with that end is accepted
 abbrev pub editEnd : Change → LentStore → Ended
@@ -50,7 +50,7 @@ keyNamed (remove s) = wholeKey s
 -- keys are compared as numbers
 unfoldable pub isKey : Key → Option Key → Bool
 isKey k none = false
-isKey k (some l) = eqb (number l) (number k)
+isKey k (some l) = eqb (keyAsNumber l) (keyAsNumber k)
 
 -- an accepted put or remove of key k
 unfoldable pub touches : Key → Change → LentStore → Bool

@@ -9,27 +9,27 @@ use Rattle.meaning.specs.declared.end.Ended.{Ended}
 use Rattle.cells.specs.Asking.{refusedWith}
 use Rattle.cells.specs.Cell.{Key, Cell}
 use Rattle.history.specs.LentStore.{LentStore}
-use Rattle.history.specs.Change.{Change, next, editEnd, touches, touchesParameter, edited}
+use Rattle.history.specs.Change.{Change, afterChange, editEnd, touches, touchesParameter, edited}
 
 -- the store after the edits, one after the other
-unfoldable pub after : List Change → LentStore → LentStore
-after [] m = m
-after (e ∷ es) m = after es (next e m)
+unfoldable pub afterChanges : List Change → LentStore → LentStore
+afterChanges [] m = m
+afterChanges (e ∷ es) m = afterChanges es (afterChange e m)
 
 -- how each of them ended
 unfoldable pub ends : List Change → LentStore → List Ended
 ends [] m = []
-ends (e ∷ es) m = editEnd e m ∷ ends es (next e m)
+ends (e ∷ es) m = editEnd e m ∷ ends es (afterChange e m)
 
 -- none of them is an accepted put or remove of key k
 unfoldable pub untouched : Key → List Change → LentStore → Bool
 untouched k [] m = true
-untouched k (e ∷ es) m = not (touches k e m) && untouched k es (next e m)
+untouched k (e ∷ es) m = not (touches k e m) && untouched k es (afterChange e m)
 
 -- none of them is an accepted put or remove of a cell of the parameter that k names
 unfoldable pub outside : Key → List Change → LentStore → Bool
 outside k [] m = true
-outside k (e ∷ es) m = not (touchesParameter k e m) && outside k es (next e m)
+outside k (e ∷ es) m = not (touchesParameter k e m) && outside k es (afterChange e m)
 
 -- the same edits on a list of cells, in a buffer of `size` bytes: the cells that they leave, and how each ends
 unfoldable pub cellsAfter : ℕ → List Change → List Cell → List Cell

@@ -13,7 +13,7 @@ use Rattle.scan.specs.readers.Digits.{digitsAt, numberAt}
 use Rattle.scan.specs.Words.{begins, standsAt, firstOf}
 use Rattle.arguments.specs.declared.index.Index.the-variants.{Fixed, Variable, Loop}
 use Rattle.arguments.specs.declared.operand.Operand.{Operand}
-use Rattle.arguments.specs.declared.operand.Operand.the-variants.{Number, IntegerVariable, DecimalVariable, StringVariable, PageNumber, LineNumber, LoopCounter, RecordElement, EntryElement, Parameter, Record, Entry}
+use Rattle.arguments.specs.declared.operand.Operand.the-variants.{NumberLiteral, IntegerVariable, DecimalVariable, StringVariable, PageNumber, LineNumber, LoopCounter, RecordElement, EntryElement, Parameter, Record, Entry}
 use Rattle.arguments.specs.declared.operand.Operand.the-variants as operand
 use Rattle.arguments.specs.declared.argument.Argument.{Argument}
 use Rattle.arguments.specs.declared.argument.Filter.{Filter}
@@ -56,7 +56,7 @@ abbrev _by_ : Operand → Filter → Argument
 o by f = record { operand = o; filter = f }
 
 abbrev int : ℕ → Argument
-int n = plain (Number (Integer (pos n)))
+int n = plain (NumberLiteral (Integer (pos n)))
 
 unfoldable pub rows : List Row
 rows =
@@ -65,11 +65,11 @@ rows =
     ∷ "count {IV1,6}" is Text
     ∷ "$SEC A" is Section 5 6
     ∷ "$SETE IV1 5" is Set Assign (IntegerTarget 1) (int 5)
-    ∷ "$SETA FV99 -0.5" is Set Add (DecimalTarget 99) (plain (Number (Decimal (negsuc 499999))))
+    ∷ "$SETA FV99 -0.5" is Set Add (DecimalTarget 99) (plain (NumberLiteral (Decimal (negsuc 499999))))
     ∷ "$SETS IV2 P7|RECCNT" is Set Subtract (IntegerTarget 2) (Parameter 7 by RecordCount)
     ∷ "$SETM IV2 P7.1|ENTCNT" is Set Multiply (IntegerTarget 2) (Record 7 (Fixed 1) by EntryCount)
     ∷ "$SETD FV3 R10|ABS" is Set Divide (DecimalTarget 3) (RecordElement 10 by Absolute)
-    ∷ "$SETE SV1 \"ab\"|UPPER" is Set Assign (StringTarget 1) (operand.Text 11 13 by UpperCase)
+    ∷ "$SETE SV1 \"ab\"|UPPER" is Set Assign (StringTarget 1) (operand.StringLiteral 11 13 by UpperCase)
     ∷ "$IF IV1" is If (plain (IntegerVariable 1))
     ∷ "$IFNOT FV1|INT" is IfNot (DecimalVariable 1 by Truncated)
     ∷ "$IFEQ LOOP 1" is Compare Equal (plain LoopCounter) (int 1)
@@ -78,7 +78,7 @@ rows =
     ∷ "$IFLE T1 9" is Compare AtMost (plain (EntryElement 1)) (int 9)
     ∷ "$IFGT SV1|LEN 9" is Compare Greater (StringVariable 1 by Length) (int 9)
     ∷ "$IFGE 1 1" is Compare AtLeast (int 1) (int 1)
-    ∷ "$IFEQSS SV1 \"\"" is Compare SameString (plain (StringVariable 1)) (plain (operand.Text 13 13))
+    ∷ "$IFEQSS SV1 \"\"" is Compare SameString (plain (StringVariable 1)) (plain (operand.StringLiteral 13 13))
     ∷ "$IFEQSI P1 P1.2.LOOP" is Compare SameLetters (plain (Parameter 1)) (plain (Entry 1 (Fixed 2) Loop))
     ∷ "$ELSE" is Else
     ∷ "$ENDIF" is EndIf

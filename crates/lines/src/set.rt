@@ -50,8 +50,8 @@ fn target_of(operand: Operand, k: usize) -> TargetRead
             }
             TargetRead::NoTarget
         }
-        Operand::Number(_) => TargetRead::NoTarget,
-        Operand::Text(_, _) => TargetRead::NoTarget,
+        Operand::NumberLiteral(_) => TargetRead::NoTarget,
+        Operand::StringLiteral(_, _) => TargetRead::NoTarget,
         Operand::PageNumber => TargetRead::NoTarget,
         Operand::LineNumber => TargetRead::NoTarget,
         Operand::LoopCounter => TargetRead::NoTarget,

@@ -6,7 +6,7 @@ use native.Mathlib.Omega.{arith}
 use lib.ListN.{length}
 use Rattle.meaning.specs.Each.{Each}
 use Rattle.meaning.specs.Event.{Event, line, break, joined, breaks, pageFrom, laterPages, pages}
-use Rattle.meaning.specs.Rule.{Allowed, pageLimit}
+use Rattle.meaning.specs.Rule.{AllAllowed, pageLimit}
 
 -- The text of one list of events behind another.
 pub joined-append : (vs ws : List Event) → joined (vs ++ ws) ≡ joined vs ++ joined ws
@@ -35,13 +35,13 @@ page-count vs = omega (arith, later-count vs)
 abbrev Short : ℕ → List (List ℕ) → Type 0
 Short m page = length page ≤ m
 
-limited : (m c : ℕ) (vs : List Event) → c ≤ m → Allowed (pageLimit m) c vs → (c + length (pageFrom vs) ≤ m) × Each (Short m) (laterPages vs)
+limited : (m c : ℕ) (vs : List Event) → c ≤ m → AllAllowed (pageLimit m) c vs → (c + length (pageFrom vs) ≤ m) × Each (Short m) (laterPages vs)
 unfolding pageFrom laterPages
 limited m c [] h a = (omega arith, tt)
 limited m c (line b ∷ vs) h a = let i = limited m (suc c) vs (a .0) (a .1) in (omega (arith, i .0), i .1)
 limited m c (break b ∷ vs) h a = let i = limited m 0 vs (omega arith) (a .1) in (omega arith, (omega (arith, i .0), i .1))
 
 -- Where no line is printed on a page that has m lines, each page has at most m.
-pub pages-limited : (m : ℕ) (vs : List Event) → Allowed (pageLimit m) 0 vs → Each (λ page. length page ≤ m) (pages vs)
+pub pages-limited : (m : ℕ) (vs : List Event) → AllAllowed (pageLimit m) 0 vs → Each (λ page. length page ≤ m) (pages vs)
 unfolding pages
 pages-limited m vs a = let i = limited m 0 vs (omega arith) a in (omega (arith, i .0), i .1)

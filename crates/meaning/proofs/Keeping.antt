@@ -6,7 +6,7 @@ use Rattle.meaning.specs.Each.{Each}
 use Rattle.meaning.specs.Event.{pages}
 use Rattle.meaning.specs.Tree.{Tree, done, stop, ask, print, bind, finished, Run, run}
 use Rattle.meaning.specs.Place.{Place, placesLeft, roomLeft, from, Does}
-use Rattle.meaning.specs.Rule.{Rule, after, Allowed, Keeps, AtEnd, pageLimit}
+use Rattle.meaning.specs.Rule.{Rule, stateAfter, AllAllowed, Keeps, AtEnd, pageLimit}
 use Rattle.meaning.proofs.Events.{pages-limited}
 use Rattle.meaning.proofs.Runs.{Runs, finishes, stops, asks, asks-full, prints, prints-full, runs}
 
@@ -26,7 +26,7 @@ module _ {S : Type 0} (rule : Rule S) {Q R E L A : Type 0} where
   keeps-more (print v l t) s Φ Ψ h g = (h .0, keeps-more t (rule .next s v) Φ Ψ (h .1) g)
 
   module _ {source : Q → R} (Φ : A → S → Type 0) where
-    allowed-runs : {p r : ℕ} {t : Tree Q R E L A} {x : Run Q E L A} (s : S) → Runs source p r t x → Keeps rule t s Φ → Allowed rule s (x .events)
+    allowed-runs : {p r : ℕ} {t : Tree Q R E L A} {x : Run Q E L A} (s : S) → Runs source p r t x → Keeps rule t s Φ → AllAllowed rule s (x .events)
     allowed-runs s finishes h = tt
     allowed-runs s stops h = tt
     allowed-runs s (asks {q = q} d) h = allowed-runs s d (h (source q))
@@ -34,7 +34,7 @@ module _ {S : Type 0} (rule : Rule S) {Q R E L A : Type 0} where
     allowed-runs s (prints {v = v} fits d) h = (h .0, allowed-runs (rule .next s v) d (h .1))
     allowed-runs s (prints-full full) h = tt
 
-    end-runs : {p r : ℕ} {t : Tree Q R E L A} {x : Run Q E L A} (s : S) → Runs source p r t x → Keeps rule t s Φ → AtEnd Φ (x .end) (after rule s (x .events))
+    end-runs : {p r : ℕ} {t : Tree Q R E L A} {x : Run Q E L A} (s : S) → Runs source p r t x → Keeps rule t s Φ → AtEnd Φ (x .end) (stateAfter rule s (x .events))
     end-runs s finishes h = h
     end-runs s stops h = tt
     end-runs s (asks {q = q} d) h = end-runs s d (h (source q))
@@ -44,11 +44,11 @@ module _ {S : Type 0} (rule : Rule S) {Q R E L A : Type 0} where
 
   module _ (source : Q → R) (p r : ℕ) (t : Tree Q R E L A) (s : S) (Φ : A → S → Type 0) (h : Keeps rule t s Φ) where
     -- A run of a tree that keeps a rule prints only what is allowed.
-    pub keeps-run : Allowed rule s (run source p r t .events)
+    pub keeps-run : AllAllowed rule s (run source p r t .events)
     keeps-run = allowed-runs Φ s (runs source p r t) h
 
     -- A finished run of a tree that keeps a rule ends as the tree promises.
-    pub keeps-end : AtEnd Φ (run source p r t .end) (after rule s (run source p r t .events))
+    pub keeps-end : AtEnd Φ (run source p r t .end) (stateAfter rule s (run source p r t .events))
     keeps-end = end-runs Φ s (runs source p r t) h
 
 -- Where a tree prints no line on a page that has m lines, each page of each run has at most m.
@@ -58,4 +58,4 @@ keeps-pages m source p r t Φ h = pages-limited m (run source p r t .events) (ke
 -- What a tree keeps, the value that a call yielded has.
 pub yields : {S : Type 0} (rule : Rule S) {Q R E L A : Type 0} {source : Q → R} {t : Tree Q R E L A} {P P′ : Place Q} {a : A} (s : S) (Φ : A → S → Type 0) → Does source t P P′ (finished a) → Keeps rule t s Φ → (s′ : S) × Φ a s′
 yields rule {source = source} {t = t} {P = P} s Φ d k =
-    (after rule s (from source P t .events), subst (λ e. AtEnd Φ e (after rule s (from source P t .events))) (sym (d .did .end)) (keeps-end rule source (placesLeft P) (roomLeft P) t s Φ k))
+    (stateAfter rule s (from source P t .events), subst (λ e. AtEnd Φ e (stateAfter rule s (from source P t .events))) (sym (d .did .end)) (keeps-end rule source (placesLeft P) (roomLeft P) t s Φ k))

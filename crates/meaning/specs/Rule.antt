@@ -11,14 +11,14 @@ pub record Rule (S : Type 0) : Type 1 where
 
 module _ {S : Type 0} (rule : Rule S) where
   -- The state behind a list of events.
-  abbrev pub after : S → List Event → S
-  after s [] = s
-  after s (v ∷ vs) = after (rule .next s v) vs
+  abbrev pub stateAfter : S → List Event → S
+  stateAfter s [] = s
+  stateAfter s (v ∷ vs) = stateAfter (rule .next s v) vs
 
   -- Each event of the list is allowed where it stands.
-  abbrev pub Allowed : S → List Event → Type 0
-  Allowed s [] = Unit {0}
-  Allowed s (v ∷ vs) = rule .allowed s v × Allowed (rule .next s v) vs
+  abbrev pub AllAllowed : S → List Event → Type 0
+  AllAllowed s [] = Unit {0}
+  AllAllowed s (v ∷ vs) = rule .allowed s v × AllAllowed (rule .next s v) vs
 
   -- From state s, whatever the answers, the tree prints only what is allowed, and where it is done with a in state s′, `Φ a s′` holds.
   abbrev pub Keeps : {Q R E L A : Type 0} → Tree Q R E L A → S → (A → S → Type 0) → Type 0

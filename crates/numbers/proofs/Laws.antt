@@ -14,7 +14,7 @@ use Rattle.numbers.specs.declared.Quantity.{Quantity}
 use Rattle.numbers.specs.declared.Quantity.the-variants.{Integer}
 use Rattle.numbers.specs.declared.Rounded.the-variants.{Units, OutOfRange}
 use Rattle.numbers.specs.Range.{integerLimit, decimalLimit, within, millionths}
-use Rattle.numbers.specs.Result.{Result, success, refused, resultIn}
+use Rattle.numbers.specs.Result.{Result, success, noResult, resultIn}
 use Rattle.numbers.specs.Rounding.{rounded}
 use Rattle.numbers.specs.Arithmetic.{checked, operands, dividedBy, sumOf, differenceOf, integerProduct, integerQuotient, decimalProduct, decimalQuotient, absoluteOf, inMillionths}
 use Rattle.numbers.specs.Parts.{wholeOf}
@@ -53,7 +53,7 @@ pub checked-in : (limit : ℕ) (z : ℤ) → natAbs z ≤ limit → checked limi
 unfolding checked
 checked-in limit z h = rw (within-in limit z h)
 
-pub checked-out : (limit : ℕ) (z : ℤ) → limit < natAbs z → checked limit z ≡ refused 13
+pub checked-out : (limit : ℕ) (z : ℤ) → limit < natAbs z → checked limit z ≡ noResult 13
 unfolding checked
 checked-out limit z h = rw (within-out limit z h)
 
@@ -68,7 +68,7 @@ inside limit {a} {b} sa sb {r} e t =
     let p = and-true _ _ w in
     record { left = within-true limit a (p .0); right = within-true limit b (p .1) }
 
-pub outside : (limit : ℕ) {a b : ℤ} → SFits w64 a → SFits w64 b → {r : Bool} → r ≡ within limit (back a) && within limit (back b) → not r ≡ true → (o : Result) → refused 13 ≡ operands limit a b o
+pub outside : (limit : ℕ) {a b : ℤ} → SFits w64 a → SFits w64 b → {r : Bool} → r ≡ within limit (back a) && within limit (back b) → not r ≡ true → (o : Result) → noResult 13 ≡ operands limit a b o
 unfolding operands
 outside limit {a} {b} sa sb {r} e t o =
     let w = sym (read₂ (λ (x y : ℤ). within limit x && within limit y) sa sb e) ∙ not-true r t in
@@ -79,7 +79,7 @@ pub calculated : (f : ℤ → ℤ → ℤ) (limit : ℕ) {a b : ℤ} → SFits w
 calculated f limit {a} {b} sa sb s h e =
     read (checked limit) s (read₂ (λ (x y : ℤ). checked limit (back (f x y))) sa sb e) ∙ sym (operands-in limit a b _ h)
 
-pub by-zero : (b : ℤ) (o : Result) → natAbs b ≡ 0 → dividedBy b o ≡ refused 12
+pub by-zero : (b : ℤ) (o : Result) → natAbs b ≡ 0 → dividedBy b o ≡ noResult 12
 unfolding dividedBy
 by-zero b o e = rw e
 
@@ -89,7 +89,7 @@ by-other b o n = rw (ne-eqb _ _ n)
 
 -- ---- a result is in range
 
-unequal : {n : ℕ} {z : ℤ} → refused n ≡ success z → ⊥
+unequal : {n : ℕ} {z : ℤ} → noResult n ≡ success z → ⊥
 unequal e = let t : _≡_ {A = ℕ} 0 1 = cc in omega arith
 
 checked-bound : (limit : ℕ) (z v : ℤ) → checked limit z ≡ success v → natAbs v ≤ limit

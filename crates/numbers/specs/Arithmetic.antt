@@ -7,20 +7,20 @@ use lib.Signed.{quotZ}
 use Rattle.numbers.specs.declared.Quantity.the-variants.{Integer}
 use Rattle.numbers.specs.Sign.{signed, opposed}
 use Rattle.numbers.specs.Range.{integerLimit, decimalLimit, within, millionths}
-use Rattle.numbers.specs.Result.{Result, success, refused}
+use Rattle.numbers.specs.Result.{Result, success, noResult}
 use Rattle.numbers.specs.Rounding.{rounded}
 
 -- "A result is out of range"
 unfoldable pub checked : ℕ → ℤ → Result
-checked limit z = cond (within limit z) (success z) (refused 13)
+checked limit z = cond (within limit z) (success z) (noResult 13)
 
 -- variables and cells hold values in range; of any other operand a result is refused too
 unfoldable pub operands : ℕ → ℤ → ℤ → Result → Result
-operands limit a b o = cond (within limit a && within limit b) o (refused 13)
+operands limit a b o = cond (within limit a && within limit b) o (noResult 13)
 
 -- "The divisor is zero"
 unfoldable pub dividedBy : ℤ → Result → Result
-dividedBy b o = cond (eqb (natAbs b) 0) (refused 12) o
+dividedBy b o = cond (eqb (natAbs b) 0) (noResult 12) o
 
 -- of integers and, with their limit, of decimals
 unfoldable pub sumOf : ℕ → ℤ → ℤ → Result

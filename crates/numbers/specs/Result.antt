@@ -7,15 +7,15 @@ use Rattle.numbers.specs.declared.Number.the-variants.{Value, ZeroDiviso
 -- success with a value, or a refusal with its number
 pub data Result : Type 0 where
   success : ℤ → Result
-  refused : ℕ → Result
+  noResult : ℕ → Result
 
 -- "12. The divisor is zero. 13. A result is out of range"
 abbrev pub resultIn : Number → Result
 resultIn (Value z) = success z
-resultIn ZeroDivisor = refused 12
-resultIn OutOfRange = refused 13
+resultIn ZeroDivisor = noResult 12
+resultIn OutOfRange = noResult 13
 
 -- "0 is success"
 abbrev pub resultNumber : Result → ℕ
 resultNumber (success z) = 0
-resultNumber (refused n) = n
+resultNumber (noResult n) = n

@@ -10,7 +10,7 @@ use lib.Dec.{leb, ltb, eqb}
 use lib.ListN.{length, take}
 use Rattle.scan.specs.Line.{byteAt}
 use Rattle.texts.specs.declared.text.Piece.{Piece}
-use Rattle.texts.specs.declared.text.Piece.the-variants.{Plain, Placed}
+use Rattle.texts.specs.declared.text.Piece.the-variants.{Byte, Placed}
 use Rattle.texts.specs.declared.text.PieceRead.{PieceRead}
 use Rattle.texts.specs.declared.text.PieceRead.the-variants.{PieceTo, NoPiece}
 use Rattle.texts.specs.declared.text.FieldRead.{FieldRead}
@@ -39,7 +39,7 @@ use Rattle.output.proofs.Saying.{Says, says-bind, asks-say}
 -- ---- the pieces of a text
 
 abbrev PieceClean : Piece → Type 0
-PieceClean (Plain b) = Printable b
+PieceClean (Byte b) = Printable b
 PieceClean (Placed f) = Unit {0}
 
 abbrev ReadClean : PieceRead → Type 0
@@ -55,7 +55,7 @@ piece-clean : (l : List ℕ) (i : ℕ) → Clean l → ReadClean (pieceAt l i)
 unfolding pieceAt byteAt
 piece-clean l i h = go (leb (length l) i) refl (eqb (byteAt l i) 123) (eqb (byteAt l i) 125)
   where
-    go : (x : Bool) → leb (length l) i ≡ x → (y z : Bool) → ReadClean (cond x NoPiece (cond y (placed (fieldAt l (i + 1))) (cond z NoPiece (PieceTo (Plain (byteAt l i)) (i + 1)))))
+    go : (x : Bool) → leb (length l) i ≡ x → (y z : Bool) → ReadClean (cond x NoPiece (cond y (placed (fieldAt l (i + 1))) (cond z NoPiece (PieceTo (Byte (byteAt l i)) (i + 1)))))
     go true e y z = tt
     go false e true z = placed-clean (fieldAt l (i + 1))
     go false e false true = tt
@@ -84,13 +84,13 @@ pieces-clean l from h = pieces-within (length l) l from h
 
 rendered-clean : (ps : List Piece) (ws : List Worth) → Each PieceClean ps → Each WorthClean ws → Clean (rendered ps ws)
 rendered-clean [] ws h k = tt
-rendered-clean (Plain b ∷ ps) ws h k = (h .0, rendered-clean ps ws (h .1) k)
+rendered-clean (Byte b ∷ ps) ws h k = (h .0, rendered-clean ps ws (h .1) k)
 rendered-clean (Placed f ∷ ps) [] h k = tt
 rendered-clean (Placed f ∷ ps) (w ∷ ws) h k = each-append Printable (fieldBytes (f .width) (f .places) w) (rendered ps ws) (field-clean (f .width) (f .places) w (k .0)) (rendered-clean ps ws (h .1) (k .1))
 
 values-clean : (m : Machine) → VariablesClean (m .variables) → (l : List ℕ) → Clean l → (n : ℕ) (ps : List Piece) → Yields AnswerClean (fieldValues m l n ps) (Each WorthClean)
 values-clean m h l c n [] = tt
-values-clean m h l c n (Plain b ∷ ps) = values-clean m h l c n ps
+values-clean m h l c n (Byte b ∷ ps) = values-clean m h l c n ps
 values-clean m h l c n (Placed f ∷ ps) =
     yields-bind AnswerClean (argumentMeaning m l n (f .argument)) (λ w. bind (fieldValues m l n ps) (λ ws. done (w ∷ ws))) WorthClean (Each WorthClean) (argument-clean m n h l c (f .argument)) (λ w i.
     yields-bind AnswerClean (fieldValues m l n ps) (λ ws. done (w ∷ ws)) (Each WorthClean) (Each WorthClean) (values-clean m h l c n ps) (λ ws j. (i, j)))

@@ -17,7 +17,7 @@ use Rattle.lines.specs.declared.command.Optional.the-variants.{Given, Absent}
 use Rattle.lines.specs.declared.command.Line.{Line}
 use Rattle.lines.specs.declared.command.Line.the-variants as form
 use Rattle.lines.specs.readers.Command.{parseLine}
-use Rattle.template.specs.declared.Run.{Run}
+use Rattle.template.specs.declared.Extent.{Extent}
 use Rattle.template.specs.declared.Checked.{Checked}
 use Rattle.template.specs.declared.Checked.the-variants.{Accepted, Refused}
 use Rattle.template.specs.declared.seek.Sought.the-variants.{TableEnd}
@@ -188,7 +188,7 @@ run-says (suc n) t whole end s h = by (ltb (s .position .at) end) (λ s′ k. ru
     by true k = says-bind (lineMeaning t s) (runFrom n t end) (StateClean t) (StateClean t) (line-says t whole s h) k
     by false k = h
 
-start-clean : (t : List ℕ) (r : Run) → StateClean t (startOf r)
+start-clean : (t : List ℕ) (r : Extent) → StateClean t (startOf r)
 start-clean t r = record { variables = variables-none; heads = each-same (λ x. Clean (headLine t x)) 9 noHeading (blank-clean t) }
 
 -- What a store answers is printable where it is a string.

@@ -10,14 +10,14 @@ use Rattle.meaning.specs.Tree.{done}
 use Rattle.meaning.proofs.Yielding.{Yields, yields-bind}
 use Rattle.numbers.specs.declared.Quantity.{Quantity}
 use Rattle.numbers.specs.declared.Quantity.the-variants.{Integer, Decimal}
-use Rattle.numbers.specs.Result.{Result, success, refused}
+use Rattle.numbers.specs.Result.{Result, success, noResult}
 use Rattle.arguments.specs.declared.argument.Argument.{Argument}
 use Rattle.arguments.specs.declared.argument.Filter.{Filter}
 use Rattle.arguments.specs.declared.argument.Filter.the-variants.{Unfiltered, Absolute, Truncated, UpperCase, Length, RecordCount, EntryCount}
 use Rattle.arguments.specs.declared.index.Index.{Index}
 use Rattle.arguments.specs.declared.index.Index.the-variants.{Fixed}
 use Rattle.arguments.specs.declared.operand.Operand.{Operand}
-use Rattle.arguments.specs.declared.operand.Operand.the-variants.{Number, Text, IntegerVariable, DecimalVariable, StringVariable, PageNumber, LineNumber, LoopCounter, RecordElement, EntryElement, Parameter, Record, Entry}
+use Rattle.arguments.specs.declared.operand.Operand.the-variants.{NumberLiteral, StringLiteral, IntegerVariable, DecimalVariable, StringVariable, PageNumber, LineNumber, LoopCounter, RecordElement, EntryElement, Parameter, Record, Entry}
 use Rattle.lines.specs.declared.command.Fetch.{Fetch}
 use Rattle.lines.specs.declared.command.Operation.{Operation}
 use Rattle.lines.specs.declared.command.Target.{Target}
@@ -62,7 +62,7 @@ answered-clean (highest n) h = tt
 ranged-clean : (kind : ℤ → Quantity) (o : Result) → WorthClean (ranged kind o)
 unfolding ranged
 ranged-clean kind (success z) = tt
-ranged-clean kind (refused n) = tt
+ranged-clean kind (noResult n) = tt
 
 number-clean : (f : Filter) (q : Quantity) → WorthClean (filteredNumber f q)
 unfolding filteredNumber absolute
@@ -104,8 +104,8 @@ module _ (m : Machine) (line : ℕ) where
   module _ (h : VariablesClean (m .variables)) (s : List ℕ) (c : Clean s) where
     operand-clean : (kind : ℕ) (o : Operand) → Yields AnswerClean (operandMeaning m s line kind o) WorthClean
     unfolding operandMeaning
-    operand-clean kind (Number q) = tt
-    operand-clean kind (Text a e) = each-take Printable (e - a) (drop a s) (each-drop Printable a s c)
+    operand-clean kind (NumberLiteral q) = tt
+    operand-clean kind (StringLiteral a e) = each-take Printable (e - a) (drop a s) (each-drop Printable a s c)
     operand-clean kind (IntegerVariable n) = tt
     operand-clean kind (DecimalVariable n) = tt
     operand-clean kind (StringVariable n) = numbered-each Clean [] (m .variables .strings) n tt (h .strings)

@@ -9,7 +9,7 @@ use Rattle.meaning.proofs.Questions.{asks-then}
 use Rattle.cells.proofs.Limits.{AnswerWithin}
 use Rattle.arguments.proofs.Parsed.{Between}
 use Rattle.texts.specs.declared.text.Piece.{Piece}
-use Rattle.texts.specs.declared.text.Piece.the-variants.{Plain, Placed}
+use Rattle.texts.specs.declared.text.Piece.the-variants.{Byte, Placed}
 use Rattle.texts.specs.Pieces.{piecesOf}
 use Rattle.texts.proofs.FieldLaws.{EachLimited, fields-limited}
 use Rattle.values.specs.Machine.{Machine}
@@ -24,7 +24,7 @@ use Rattle.pages.specs.Page.{on, advancedOf, sayMeaning, breakMeaning, t
 
 values-ask : (m : Machine) → Between 1 35 (m .datasource) → (l : List ℕ) (line : ℕ) (ps : List Piece) → EachLimited l ps → AsksAllowed (fieldValues m l line ps)
 values-ask m d l line [] k = tt
-values-ask m d l line (Plain b ∷ ps) k = values-ask m d l line ps k
+values-ask m d l line (Byte b ∷ ps) k = values-ask m d l line ps k
 values-ask m d l line (Placed f ∷ ps) k =
     asks-then AnswerWithin Allowed (argumentMeaning m l line (f .argument)) (λ w. bind (fieldValues m l line ps) (λ ws. done (w ∷ ws))) (argument-asks m line d l (f .argument) (k .0 .argument)) (λ w.
     asks-then AnswerWithin Allowed (fieldValues m l line ps) (λ ws. done (w ∷ ws)) (values-ask m d l line ps (k .1)) (λ ws. tt))

@@ -7,11 +7,11 @@ use Prim.Native.Nat.{ℕ, suc, _+_}
 use native.Mathlib.Omega.{arith}
 use lib.Dec.{ltb}
 use Rattle.texts.specs.declared.text.Piece.{Piece}
-use Rattle.texts.specs.declared.text.Piece.the-variants.{Plain, Placed}
+use Rattle.texts.specs.declared.text.Piece.the-variants.{Byte, Placed}
 use Rattle.texts.specs.Pieces.{piecesOf}
 use Rattle.meaning.specs.Event.{Event, line, break, breaks}
 use Rattle.meaning.specs.Tree.{done, bind}
-use Rattle.meaning.specs.Rule.{Rule, after, Keeps}
+use Rattle.meaning.specs.Rule.{Rule, stateAfter, Keeps}
 use Rattle.meaning.proofs.Keeping.{keeps-bind}
 use Rattle.values.specs.Machine.{Machine}
 use Rattle.values.specs.Meanings.{argumentMeaning}
@@ -33,7 +33,7 @@ abbrev pub counting : Rule ℕ
 counting = record { next = breaksAfter; allowed = λ c v. Unit {0} }
 
 -- The state behind a list of events.
-pub counted : (c : ℕ) (vs : List Event) → after counting c vs ≡ c + breaks vs
+pub counted : (c : ℕ) (vs : List Event) → stateAfter counting c vs ≡ c + breaks vs
 unfolding breaks
 counted c [] = omega arith
 counted c (line b ∷ vs) = counted c vs
@@ -48,7 +48,7 @@ OnPage p c = p .number ≡ suc c
 -- The questions of a line's fields print nothing.
 pub values-give : (m : Machine) (l : List ℕ) (n : ℕ) (ps : List Piece) → Gives (fieldValues m l n ps) Anything
 values-give m l n [] = tt
-values-give m l n (Plain b ∷ ps) = values-give m l n ps
+values-give m l n (Byte b ∷ ps) = values-give m l n ps
 values-give m l n (Placed f ∷ ps) =
     gives-bind (argumentMeaning m l n (f .argument)) (λ w. bind (fieldValues m l n ps) (λ ws. done (w ∷ ws))) Anything Anything (argument-gives m l n (f .argument))
     (λ w _. gives-bind (fieldValues m l n ps) (λ ws. done (w ∷ ws)) Anything Anything (values-give m l n ps) (λ ws _. tt))

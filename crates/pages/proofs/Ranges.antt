@@ -11,7 +11,7 @@ use Rattle.numbers.proofs.Laws.{within-in}
 use Rattle.cells.proofs.Limits.{AnswerWithin}
 use Rattle.texts.specs.declared.text.Field.{Field}
 use Rattle.texts.specs.declared.text.Piece.{Piece}
-use Rattle.texts.specs.declared.text.Piece.the-variants.{Plain, Placed}
+use Rattle.texts.specs.declared.text.Piece.the-variants.{Byte, Placed}
 use Rattle.texts.specs.Pieces.{piecesOf}
 use Rattle.texts.proofs.FieldLaws.{Limited, EachLimited, fields-limited}
 use Rattle.fields.specs.Field.{widthAllowed, shown, fieldOf}
@@ -43,14 +43,14 @@ field-shown l f (string s) h k = rw (le-leb 1 (f .width) (h .least), le-leb (f .
 -- so has each field of the pieces, with these values
 abbrev pub AllShown : List Piece → List Worth → Type 0
 AllShown [] ws = Unit {0}
-AllShown (Plain b ∷ ps) ws = AllShown ps ws
+AllShown (Byte b ∷ ps) ws = AllShown ps ws
 AllShown (Placed f ∷ ps) [] = Unit {0}
 AllShown (Placed f ∷ ps) (w ∷ ws) = FieldShown f w × AllShown ps ws
 
 module _ (m : Machine) (h : MachineWithin m) (l : List ℕ) (line : ℕ) where
   pieces-shown : (ps : List Piece) → EachLimited l ps → Yields AnswerWithin (fieldValues m l line ps) (AllShown ps)
   pieces-shown [] k = tt
-  pieces-shown (Plain b ∷ ps) k = pieces-shown ps k
+  pieces-shown (Byte b ∷ ps) k = pieces-shown ps k
   pieces-shown (Placed f ∷ ps) k =
       yields-bind AnswerWithin (argumentMeaning m l line (f .argument)) (λ w. bind (fieldValues m l line ps) (λ ws. done (w ∷ ws))) WorthWithin (AllShown (Placed f ∷ ps)) (argument-within m line h l (f .argument) (k .0 .argument)) (λ w i.
       yields-bind AnswerWithin (fieldValues m l line ps) (λ ws. done (w ∷ ws)) (AllShown ps) (AllShown (Placed f ∷ ps)) (pieces-shown ps (k .1)) (λ ws j. (field-shown l f w (k .0) i, j)))

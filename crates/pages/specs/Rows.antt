@@ -26,12 +26,12 @@ use Rattle.pages.specs.Page.{newPage, sayMeaning, headLine, headFrom, he
 abbrev sample : Machine
 sample = record { variables = record { integers = []; decimals = []; strings = []; records = []; entries = [] }; counter = pos 0; datasource = 1; page = 1; row = 1 }
 
-abbrev none : List Heading
-none = replicate 9 noHeading
+abbrev noHeadings : List Heading
+noHeadings = replicate 9 noHeading
 
 -- heading 2 is defined blank on line 4, heading 1 is not
-abbrev second : List Heading
-second = noHeading ∷ record { start = 0; length = 5; from = 5; number = 4 } ∷ replicate 7 noHeading
+abbrev secondHeading : List Heading
+secondHeading = noHeading ∷ record { start = 0; length = 5; from = 5; number = 4 } ∷ replicate 7 noHeading
 
 abbrev source : Question → Answer
 source q = A.missing
@@ -55,15 +55,15 @@ ran hs n room = run source 0 room (linesMeaning (ascii "$PH2 ") (replicate n (re
 abbrev Rows : Type 0
 Rows =
     -- document 01: 60 lines without heading: one page; 61: two
-    (length (pages (ran none 60 1000 .events)) ≡ 1)
-    × (length (pages (ran none 61 1000 .events)) ≡ 2)
+    (length (pages (ran noHeadings 60 1000 .events)) ≡ 1)
+    × (length (pages (ran noHeadings 61 1000 .events)) ≡ 2)
     -- headings 1 and 2, then a blank line: 57 lines are left on the page
-    × (length (pages (ran second 57 1000 .events)) ≡ 1)
-    × (length (pages (ran second 58 1000 .events)) ≡ 2)
+    × (length (pages (ran secondHeading 57 1000 .events)) ≡ 1)
+    × (length (pages (ran secondHeading 58 1000 .events)) ≡ 2)
     -- an undefined heading's refusal names the text line due, a defined one's its $PH line, the closing blank line's the text line
-    × (ran second 1 0 .end ≡ halted (cut Output) 7)
-    × (ran second 1 1 .end ≡ halted (cut Output) 4)
-    × (ran second 1 2 .end ≡ halted (cut Output) 7)
+    × (ran secondHeading 1 0 .end ≡ halted (cut Output) 7)
+    × (ran secondHeading 1 1 .end ≡ halted (cut Output) 4)
+    × (ran secondHeading 1 2 .end ≡ halted (cut Output) 7)
 
 -- The rows hold.
 pub rows : Rows

@@ -4,7 +4,7 @@ use mathlib.Core.Bool.{false≢true}
 use mathlib.Core.List.{List}
 use Prim.Native.Nat.{ℕ, _≤_}
 use lib.ListN.{length}
-use Rattle.template.specs.declared.Run.{Run}
+use Rattle.template.specs.declared.Extent.{Extent}
 use Rattle.template.specs.declared.Checked.{Checked}
 use Rattle.template.specs.declared.Checked.the-variants.{Accepted, Refused}
 use Rattle.template.specs.Order.{templateChecked}
@@ -61,7 +61,7 @@ module _ (t name b : List ℕ) (n places : ℕ) (p p′ : List ℕ) (x : Indexed
     unfolding reportOf holdsCells checkedOutcome
     template-refused f line i j = refused-begun f line (λ room. rw (indexed .holds, sym c ∙ i)) j
 
-    pub may-start : (s : Run) → k ≡ Accepted s → r ≡ startedAt s n count places → Begun t name b n places p′ r
+    pub may-start : (s : Extent) → k ≡ Accepted s → r ≡ startedAt s n count places → Begun t name b n places p′ r
     unfolding startedAt startSaved startFlow
     may-start s i j = subst (Begun t name b n places p′) (sym j) begun
       where

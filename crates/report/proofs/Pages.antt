@@ -7,7 +7,7 @@ use native.Mathlib.Omega.{arith}
 use borrow.Author.Tests.{ltb-true}
 use lib.Dec.{ltb}
 use lib.ListN.{length}
-use Rattle.template.specs.declared.Run.{Run}
+use Rattle.template.specs.declared.Extent.{Extent}
 use Rattle.template.specs.declared.Checked.{Checked}
 use Rattle.template.specs.declared.Checked.the-variants.{Accepted, Refused}
 use Rattle.template.specs.Order.{templateChecked}
@@ -17,7 +17,7 @@ use Rattle.meaning.specs.Answer.{Answer}
 use Rattle.meaning.specs.Each.{Each}
 use Rattle.meaning.specs.Event.{breaks, pageFrom, laterPages, pages}
 use Rattle.meaning.specs.Tree.{done, stop, bind, finished, run}
-use Rattle.meaning.specs.Rule.{after, Keeps, AtEnd, pageLimit}
+use Rattle.meaning.specs.Rule.{stateAfter, Keeps, AtEnd, pageLimit}
 use Rattle.meaning.specs.Meaning.{Meaning}
 use Rattle.meaning.specs.declared.question.Question.{Question}
 use Rattle.meaning.specs.declared.refusal.Refusal.the-variants.{TooManyLines, BadStore}
@@ -106,10 +106,10 @@ stretch-counts (suc n) t end s c h = by (ltb (s .position .at) end) (λ s′ c�
     by true k = keeps-bind counting (lineMeaning t s) (stretch n t end) c Counted Counted (line-counts t s c h) k
     by false k = h
 
-module _ (source : Question → Answer) (places room : ℕ) (t : List ℕ) (r : Run) where
+module _ (source : Question → Answer) (places room : ℕ) (t : List ℕ) (r : Extent) where
   ends-counted : (m : Meaning State) → Keeps counting m 0 Counted → (s : State) → run source places room m .end ≡ finished s → s .page .number ≡ 1 + breaks (run source places room m .events)
   ends-counted m k s e =
-      let h : s .page .number ≡ suc (after counting 0 (run source places room m .events)) = subst (λ x. AtEnd Counted x (after counting 0 (run source places room m .events))) e (keeps-end counting source places room m 0 Counted k) in
+      let h : s .page .number ≡ suc (stateAfter counting 0 (run source places room m .events)) = subst (λ x. AtEnd Counted x (stateAfter counting 0 (run source places room m .events))) e (keeps-end counting source places room m 0 Counted k) in
       omega (arith, h, counted 0 (run source places room m .events))
 
   -- A run that ends with success reports PAGENUM.

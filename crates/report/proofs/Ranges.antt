@@ -7,7 +7,7 @@ use native.Mathlib.Omega.{arith}
 use borrow.Author.Tests.{ltb-true}
 use lib.Dec.{ltb}
 use lib.ListN.{length}
-use Rattle.template.specs.declared.Run.{Run}
+use Rattle.template.specs.declared.Extent.{Extent}
 use Rattle.template.specs.declared.Checked.the-variants.{Accepted}
 use Rattle.template.specs.Order.{templateChecked}
 use Rattle.template.proofs.Accepted.{accepted-runs}
@@ -57,10 +57,10 @@ stretch-in-range (suc k) t end g s c h b i r = by (ltb (s .position .at) end) re
         (λ s′ q. next s′ (q .1) (q .2) (q .0))
     by false e next = ranged t g s (omega arith) (i .sound) r
 
-pub start-in-range : (r : Run) → InRange (startOf r)
+pub start-in-range : (r : Extent) → InRange (startOf r)
 start-in-range r = range-cleared (startOf r) tt (record { least = omega arith; most = omega arith })
 
-module _ (t name : List ℕ) (r : Run) (e : templateChecked t name ≡ Accepted r) where
+module _ (t name : List ℕ) (r : Extent) (e : templateChecked t name ≡ Accepted r) where
   -- The state after any number of lines of an accepted template's run, whatever source answers it.
   pub run-in-range : (source : Question → Answer) → ((q : Question) → AnswerWithin (source q)) → (places room k : ℕ) → k ≤ 50000 → (s : State) → run source places room (stretch k t (r .end) (startOf r)) .end ≡ finished s → Ranged s
   run-in-range source every places room k h s f =

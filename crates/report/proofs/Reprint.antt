@@ -11,7 +11,7 @@ use Rattle.template.specs.Order.{templateChecked}
 use Rattle.history.specs.LentStore as history
 use Rattle.history.specs.LentStore.{inForm, answerIn, AsBefore}
 use Rattle.history.specs.Change.{Change}
-use Rattle.history.specs.History.{after}
+use Rattle.history.specs.History.{afterChanges}
 use Rattle.history.proofs.Lists.{same-form}
 use Rattle.history.proofs.Same.{same-run}
 use Rattle.meaning.specs.declared.question.Question.{Question}
@@ -31,19 +31,19 @@ reportOn t name places room m = reportOf t name (m .buffer) (m .length) places r
 -- "one claim about the whole list of edits, the empty list included", from a store of any bytes: where each question of the
 -- first report's read list is answered as before, the second report is the first
 pub reprint : (t name : List ℕ) (places room : ℕ) (es : List Change) (m : history.LentStore)
-    → AsBefore m (after es m) (reportOn t name places room m .questions)
-    → reportOn t name places room (after es m) ≡ reportOn t name places room m
+    → AsBefore m (afterChanges es m) (reportOn t name places room m .questions)
+    → reportOn t name places room (afterChanges es m) ≡ reportOn t name places room m
 unfolding reportOf checkedOutcome
-reprint t name places room es m h = by (inForm m) (inForm (after es m)) (same-form es m) h
+reprint t name places room es m h = by (inForm m) (inForm (afterChanges es m)) (same-form es m) h
   where
     -- checks 2 to 6 don't look at the store
-    checked : (k : Checked) → AsBefore m (after es m) (checkedOutcome t (answerIn m) places room k .questions)
-        → checkedOutcome t (answerIn (after es m)) places room k ≡ checkedOutcome t (answerIn m) places room k
+    checked : (k : Checked) → AsBefore m (afterChanges es m) (checkedOutcome t (answerIn m) places room k .questions)
+        → checkedOutcome t (answerIn (afterChanges es m)) places room k ≡ checkedOutcome t (answerIn m) places room k
     checked (Accepted r) h = ap ranTo (sym (same-run es m places room (runMeaning t r) h))
     checked (Refused e l) h = refl
 
-    by : (f f′ : Bool) → f′ ≡ f → AsBefore m (after es m) (cond f (checkedOutcome t (answerIn m) places room (templateChecked t name)) (refusedReport BadStore 0) .questions)
-        → cond f′ (checkedOutcome t (answerIn (after es m)) places room (templateChecked t name)) (refusedReport BadStore 0) ≡ cond f (checkedOutcome t (answerIn m) places room (templateChecked t name)) (refusedReport BadStore 0)
+    by : (f f′ : Bool) → f′ ≡ f → AsBefore m (afterChanges es m) (cond f (checkedOutcome t (answerIn m) places room (templateChecked t name)) (refusedReport BadStore 0) .questions)
+        → cond f′ (checkedOutcome t (answerIn (afterChanges es m)) places room (templateChecked t name)) (refusedReport BadStore 0) ≡ cond f (checkedOutcome t (answerIn m) places room (templateChecked t name)) (refusedReport BadStore 0)
     by true f′ e h = rw e (checked (templateChecked t name) h)
     by false f′ e h = rw e
 
@@ -99,22 +99,22 @@ same-outcome o o′ e T R T′ R′ r h f S Q T″ R″ r′ h′ f′ = record 
 -- that the first call listed is answered as before
 pub reprinted : (t name : List ℕ) (es : List Change) (m : history.LentStore)
     (T : List ℕ) (R : List Question) (T′ : List ℕ) (R′ : List Question) (r : Report) → Reported t name (m .buffer) (m .length) T R T′ R′ r
-    → AsBefore m (after es m) (take (r .questions) R′)
+    → AsBefore m (afterChanges es m) (take (r .questions) R′)
     → (S : List ℕ) (Q : List Question) (T″ : List ℕ) (R″ : List Question) (r′ : Report) → length S ≡ length T → length Q ≡ length R
-    → Reported t name (after es m .buffer) (after es m .length) S Q T″ R″ r′
+    → Reported t name (afterChanges es m .buffer) (afterChanges es m .length) S Q T″ R″ r′
     → SameReport T′ R′ r T″ R″ r′
 reprinted t name es m T R T′ R′ r h b S Q T″ R″ r′ eT eR h′ =
-    same-outcome o o′ same T R T′ R′ r h fits S Q T″ R″ r′ h′ (report-fits t name (after es m .buffer) (after es m .length) (length Q) (length S))
+    same-outcome o o′ same T R T′ R′ r h fits S Q T″ R″ r′ h′ (report-fits t name (afterChanges es m .buffer) (afterChanges es m .length) (length Q) (length S))
   where
     o : Outcome
     o = reportOn t name (length R) (length T) m
 
     o′ : Outcome
-    o′ = reportOn t name (length Q) (length S) (after es m)
+    o′ = reportOn t name (length Q) (length S) (afterChanges es m)
 
     fits : Fits o (length R) (length T)
     fits = report-fits t name (m .buffer) (m .length) (length R) (length T)
 
     same : o′ ≡ o
-    same = ap (λ (k : ℕ). reportOn t name k (length S) (after es m)) eR ∙ ap (λ (k : ℕ). reportOn t name (length R) k (after es m)) eT
-        ∙ reprint t name (length R) (length T) es m (subst (AsBefore m (after es m)) (listed-is o T R T′ R′ r h fits) b)
+    same = ap (λ (k : ℕ). reportOn t name k (length S) (afterChanges es m)) eR ∙ ap (λ (k : ℕ). reportOn t name (length R) k (afterChanges es m)) eT
+        ∙ reprint t name (length R) (length T) es m (subst (AsBefore m (afterChanges es m)) (listed-is o T R T′ R′ r h fits) b)

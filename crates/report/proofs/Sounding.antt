@@ -4,7 +4,7 @@ use mathlib.Core.List.{List}
 use Prim.Native.Nat.{ℕ}
 use native.Mathlib.Omega.{arith}
 use lib.ListN.{length-replicate}
-use Rattle.template.specs.declared.Run.{Run}
+use Rattle.template.specs.declared.Extent.{Extent}
 use Rattle.template.specs.declared.Checked.the-variants.{Accepted}
 use Rattle.template.specs.Order.{templateChecked}
 use Rattle.template.proofs.Accepted.{accepted-runs}
@@ -16,7 +16,7 @@ use Rattle.report.specs.Report.{startOf}
 use Rattle.report.specs.inner.Stretch.{Standing}
 
 -- The run of an accepted template starts so, on an empty page.
-pub start-on : (t name : List ℕ) (r : Run) → templateChecked t name ≡ Accepted r → On t 1 (startOf r) 0
+pub start-on : (t name : List ℕ) (r : Extent) → templateChecked t name ≡ Accepted r → On t 1 (startOf r) 0
 start-on t name r e =
     let k = accepted-runs t name r e in
     record {
@@ -34,5 +34,5 @@ start-on t name r e =
       next = refl;
     }
 
-pub start-standing : (t name : List ℕ) (r : Run) → templateChecked t name ≡ Accepted r → Standing t 50000 (startOf r)
+pub start-standing : (t name : List ℕ) (r : Extent) → templateChecked t name ≡ Accepted r → Standing t 50000 (startOf r)
 start-standing t name r h = record { most = omega arith; sound = start-on t name r h .sound }

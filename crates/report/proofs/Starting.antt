@@ -2,7 +2,7 @@
 use mathlib.Core.Path.{_≡_, refl}
 use mathlib.Core.List.{List}
 use Prim.Native.Nat.{ℕ}
-use Rattle.template.specs.declared.Run.{Run}
+use Rattle.template.specs.declared.Extent.{Extent}
 use Rattle.meaning.specs.Answer.{Answer}
 use Rattle.meaning.specs.declared.question.Question.{Question}
 use Rattle.values.specs.inner.State.{texts, wordsFrom, fetched, bank}
@@ -13,6 +13,6 @@ use Rattle.report.specs.Report.{startOf}
 use Rattle.report.specs.inner.Start.{startFlow, startSaved}
 use Rattle.report.specs.inner.Begun.{heldIn}
 
-pub starts-at : (run : Run) (len count places : ℕ) (rows : List (List ℕ)) (source : Question → Answer) → stateOf source (heldIn (startSaved run len count places) rows) (startFlow run) ≡ startOf run
+pub starts-at : (run : Extent) (len count places : ℕ) (rows : List (List ℕ)) (source : Question → Answer) → stateOf source (heldIn (startSaved run len count places) rows) (startFlow run) ≡ startOf run
 unfolding startSaved startFlow bank texts wordsFrom fetched opened headingIn
 starts-at run len count places rows source = refl

@@ -4,7 +4,7 @@ use mathlib.Core.List.{List, []}
 use Prim.Native.Nat.{ℕ, zero, suc, _+_}
 use lib.Dec.{ltb}
 use lib.ListN.{length}
-use Rattle.template.specs.declared.Run.{Run}
+use Rattle.template.specs.declared.Extent.{Extent}
 use Rattle.template.specs.declared.Checked.{Checked}
 use Rattle.template.specs.declared.Checked.the-variants.{Accepted, Refused}
 use Rattle.template.specs.Order.{templateChecked}
@@ -31,7 +31,7 @@ runFrom zero t end s = cond (ltb (s .position .at) end) (stop TooManyLines (s .p
 runFrom (suc n) t end s = cond (ltb (s .position .at) end) (bind (lineMeaning t s) (runFrom n t end)) (done s)
 
 -- where a run starts: "Cells ask in the selected datasource, 1 at the start."; "PAGENUM starts at 1"
-abbrev pub startOf : Run → State
+abbrev pub startOf : Extent → State
 startOf r =
     record {
       position = record { at = r .start; line = r .line };
@@ -43,7 +43,7 @@ startOf r =
     }
 
 -- "A run goes from the selected (or first) $SEC line to the line before the next $SEC (or to the end)"
-abbrev pub runMeaning : List ℕ → Run → Meaning State
+abbrev pub runMeaning : List ℕ → Extent → Meaning State
 runMeaning t r = runFrom 50000 t (r .end) (startOf r)
 
 -- what a report is: its number, the line that is named, its pages, what it printed and asked

@@ -61,18 +61,18 @@ use Rattle.report.specs.Report.{runFrom, checkedOutcome, reportOf, Outco
 use Rattle.report.specs.declared.Report.{Report}
 
 -- what a report hands back, and its text
-pub record Sheet : Type 0 where
+pub record Printout : Type 0 where
   pub report : Report
   pub text : List ℕ
 
 -- section A with these lines, the text buffer and the read list of program `sheet`
-abbrev reported : List String → Sheet
+abbrev reported : List String → Printout
 reported ls = let o : Outcome = reportOf (lines ("$SEC A" ∷ ls)) (ascii "A") [] 0 4096 65536 in record { report = reportIn o; text = textIn o }
 
 -- lines, and what is expected of them
 pub record Row : Type 0 where
-  pub computed : Sheet
-  pub expected : Sheet
+  pub computed : Printout
+  pub expected : Printout
 
 -- success, with so many pages and this text
 abbrev prints : List String → ℕ → List ℕ → Row

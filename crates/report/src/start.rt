@@ -9,7 +9,7 @@ use control::state::Flow;
 use meaning::refusal::Refusal;
 use pages::page::Page;
 use template::Checked;
-use template::Run;
+use template::Extent;
 ghost use mathlib.Core.Path.{_≡_};
 ghost use Prim.Native.Nat.{_≤_};
 ghost use lib.ListN.{length};
@@ -28,7 +28,7 @@ fn no_log() -> Log
 }
 
 // Where the lines of a run start: "Cells ask in the selected datasource, 1 at the start"; "PAGENUM starts at 1".
-fn flow(run: Run) -> Flow
+fn flow(run: Extent) -> Flow
     ensures { λ r. ⌜ r ≡ startFlow run ⌝ }
 {
     let page = Page::new();
@@ -42,7 +42,7 @@ fn flow(run: Run) -> Flow
     }
 }
 
-fn saved(run: Run, len: usize, count: usize, places: usize) -> Saved
+fn saved(run: Extent, len: usize, count: usize, places: usize) -> Saved
     ensures { λ r. ⌜ r ≡ startSaved run len count places ⌝ }
 {
     let f = flow(run);
@@ -64,7 +64,7 @@ fn saved(run: Run, len: usize, count: usize, places: usize) -> Saved
 pub fn nothing() -> Saved
     ensures { λ r. ⌜ r ≡ nothingSaved ⌝ }
 {
-    let none = Run {
+    let none = Extent {
         start: 0,
         line: 0,
         end: 0,
@@ -93,7 +93,7 @@ fn refused(refusal: Refusal, line: u32) -> Stretch
 }
 
 // The run may start.
-fn started(run: Run, len: usize, count: usize, places: usize) -> Stretch
+fn started(run: Extent, len: usize, count: usize, places: usize) -> Stretch
     ensures { λ r. ⌜ r ≡ startedAt run len count places ⌝ }
 {
     let v = saved(run, len, count, places);

@@ -5,11 +5,11 @@ use Prim.Native.Nat.{ℕ}
 use lib.IntN.{ℤ, pos}
 use Rattle.meaning.specs.Number.{numberOf, endOf, refusalNumber}
 use Rattle.cells.specs.declared.Answered.{Answered}
-use Rattle.cells.specs.declared.Answered.the-variants.{Missing, Integer, Decimal, Text, Highest}
+use Rattle.cells.specs.declared.Answered.the-variants.{Missing, Integer, Decimal, StringAt, Highest}
 use Rattle.cells.specs.declared.Asked.{Asked}
 use Rattle.cells.specs.Cell.{integerKind, decimalKind, stringKind}
 use Rattle.meaning.specs.declared.refusal.Refusal.{Refusal}
-use Rattle.template.specs.declared.Run.{Run}
+use Rattle.template.specs.declared.Extent.{Extent}
 use Rattle.template.specs.declared.Checked.{Checked}
 use Rattle.template.specs.declared.Checked.the-variants.{Accepted, Refused}
 use Rattle.station.specs.Checks.{ToldCheck}
@@ -32,7 +32,7 @@ module _ {a : Answered} where
   unfolding kindTold valueTold placeTold countTold
   hands-decimal e h = rw e (record { is-kind = refl; is-value = h; is-place = refl; is-count = refl })
 
-  pub hands-text : {i n : ℕ} → a ≡ Text i n → ToldParts a stringKind (pos 0) i n
+  pub hands-text : {i n : ℕ} → a ≡ StringAt i n → ToldParts a stringKind (pos 0) i n
   unfolding kindTold valueTold placeTold countTold
   hands-text e = rw e (record { is-kind = refl; is-value = refl; is-place = refl; is-count = refl })
 
@@ -57,7 +57,7 @@ told-edit s e q = record {
 
 -- ---- checks
 
-pub check-accepted : {x y : Checked} {run : Run} {s : ℕ} → y ≡ x → y ≡ Accepted run → s ≡ run .line → ToldCheck x 0 s 0
+pub check-accepted : {x y : Checked} {run : Extent} {s : ℕ} → y ≡ x → y ≡ Accepted run → s ≡ run .line → ToldCheck x 0 s 0
 check-accepted e h q = record { number = rw (← e, h); line = rw (← e, h); start = rw (← e, h) q }
 
 pub check-refused : {x y : Checked} {e : Refusal} {l r : ℕ} → y ≡ x → y ≡ Refused e l → r ≡ refusalNumber e → ToldCheck x l 0 r

@@ -7,7 +7,7 @@ use Rattle.meaning.specs.declared.question.Question.{Question}
 use Rattle.meaning.specs.Number.{numberOf, endOf}
 use Rattle.cells.specs.Cell.{integerKind, decimalKind, stringKind}
 use Rattle.cells.specs.declared.Answered.{Answered}
-use Rattle.cells.specs.declared.Answered.the-variants.{Missing, Integer, Decimal, Text, Highest}
+use Rattle.cells.specs.declared.Answered.the-variants.{Missing, Integer, Decimal, StringAt, Highest}
 use Rattle.cells.specs.declared.Asked.{Asked}
 use Rattle.store.specs.Edit.{Edit}
 
@@ -20,7 +20,7 @@ unfoldable pub kindTold : Answered → ℕ
 kindTold Missing = 0
 kindTold (Integer z) = integerKind
 kindTold (Decimal z) = decimalKind
-kindTold (Text i n) = stringKind
+kindTold (StringAt i n) = stringKind
 kindTold (Highest n) = 1
 
 -- a number, else 0
@@ -28,7 +28,7 @@ unfoldable pub valueTold : Answered → ℤ
 valueTold Missing = pos 0
 valueTold (Integer z) = z
 valueTold (Decimal z) = z
-valueTold (Text i n) = pos 0
+valueTold (StringAt i n) = pos 0
 valueTold (Highest n) = pos 0
 
 -- where a string's bytes begin in the store, else 0
@@ -36,7 +36,7 @@ unfoldable pub placeTold : Answered → ℕ
 placeTold Missing = 0
 placeTold (Integer z) = 0
 placeTold (Decimal z) = 0
-placeTold (Text i n) = i
+placeTold (StringAt i n) = i
 placeTold (Highest n) = 0
 
 -- a string's length or a highest number, else 0
@@ -44,7 +44,7 @@ unfoldable pub countTold : Answered → ℕ
 countTold Missing = 0
 countTold (Integer z) = 0
 countTold (Decimal z) = 0
-countTold (Text i n) = n
+countTold (StringAt i n) = n
 countTold (Highest n) = n
 
 -- what is handed back of an answer: a kind, a value, a place and a count

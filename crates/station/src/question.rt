@@ -31,7 +31,7 @@ pub fn hand_answer(
             *kind = 0x46;
             *value = z;
         }
-        Answered::Text(at, n) => {
+        Answered::StringAt(at, n) => {
             *kind = 0x53;
             *place = at;
             *count = n;

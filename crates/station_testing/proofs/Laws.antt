@@ -26,14 +26,14 @@ use Rattle.cells.proofs.Replies.{answer-handed, built, not-held, index-ready}
 use Rattle.cells.proofs.Walking.{length-offsets}
 use Rattle.template.specs.declared.seek.Skip.{Skip}
 use Rattle.station.specs.Answers.{ToldParts}
-use Rattle.station_testing.specs.Codes.{Told, ToldUnits}
+use Rattle.station_testing.specs.Codes.{ToldResult, ToldUnits}
 use Rattle.station_testing.specs.Index.{Listing, listing, listed, ToldLookUp}
 use Rattle.station_testing.specs.Jumps.{ToldSkip}
 
-pub told-of : {o o′ : Result} {v v′ : ℤ} {r : ℕ} → o ≡ o′ → Told o v v′ r → Told o′ v v′ r
+pub told-of : {o o′ : Result} {v v′ : ℤ} {r : ℕ} → o ≡ o′ → ToldResult o v v′ r → ToldResult o′ v v′ r
 told-of e t = rw e at t
 
-pub told-value : {n : Number} {z v v′ : ℤ} → n ≡ Value z → v′ ≡ z → Told (resultIn n) v v′ 0
+pub told-value : {n : Number} {z v v′ : ℤ} → n ≡ Value z → v′ ≡ z → ToldResult (resultIn n) v v′ 0
 told-value e h = record { number = rw e; value = rw e h }
 
 pub units-none : {o : Rounded} {n : ℕ} → o ≡ OutOfRange → ToldUnits o n n false

@@ -9,7 +9,7 @@ use Rattle.numbers.specs.declared.Quantity.the-variants.{Integer, Decimal}
 use Rattle.numbers.specs.declared.Rounded.{Rounded}
 use Rattle.numbers.specs.declared.Rounded.the-variants.{Units, OutOfRange}
 use Rattle.numbers.specs.Range.{integerLimit, decimalLimit}
-use Rattle.numbers.specs.Result.{Result, success, refused, resultNumber}
+use Rattle.numbers.specs.Result.{Result, success, noResult, resultNumber}
 use Rattle.numbers.specs.Arithmetic.{sumOf, differenceOf, integerProduct, integerQuotient, decimalProduct, decimalQuotient, absoluteOf, inMillionths}
 use Rattle.fields.specs.declared.Places.{Places}
 use Rattle.fields.specs.declared.Places.the-variants.{Unsaid, Said}
@@ -56,22 +56,22 @@ placesSaid false d = Unsaid
 -- the value of a success, else what was there
 abbrev pub valueOr : ℤ → Result → ℤ
 valueOr v (success z) = z
-valueOr v (refused n) = v
+valueOr v (noResult n) = v
 
 -- r is the number, and v′ what is left where v was
-pub record Told (o : Result) (v v′ : ℤ) (r : ℕ) : Type 0 where
+pub record ToldResult (o : Result) (v v′ : ℤ) (r : ℕ) : Type 0 where
   pub number : r ≡ resultNumber o
   pub value : v′ ≡ valueOr v o
 
 -- whether there are units, and the units, else what was there
-abbrev pub given : Rounded → Bool
-given (Units u) = true
-given OutOfRange = false
+abbrev pub hasUnits : Rounded → Bool
+hasUnits (Units u) = true
+hasUnits OutOfRange = false
 
 abbrev pub unitsOr : ℕ → Rounded → ℕ
 unitsOr n (Units u) = u
 unitsOr n OutOfRange = n
 
 pub record ToldUnits (o : Rounded) (n n′ : ℕ) (r : Bool) : Type 0 where
-  pub told : r ≡ given o
+  pub told : r ≡ hasUnits o
   pub units : n′ ≡ unitsOr n o

@@ -6,11 +6,11 @@ ghost use mathlib.Core.Path.{_≡_};
 ghost use Rattle.numbers.specs.Result.{resultIn};
 ghost use Rattle.numbers.specs.Parts.{wholeOf};
 ghost use Rattle.numbers.specs.Places.{roundedTo};
-ghost use Rattle.station_testing.specs.Codes.{onIntegers, onDecimals, onOne, quantityOf, comparedBy, Told, ToldUnits};
+ghost use Rattle.station_testing.specs.Codes.{onIntegers, onDecimals, onOne, quantityOf, comparedBy, ToldResult, ToldUnits};
 
 // The number of a calculation; its value, where there is one, goes to `result`.
 fn hand_back(n: Number, result: &mut i64) -> u32
-    ensures { λ r. ⌜ Told (resultIn n) (now (result .entry)) (now (result .exit)) r ⌝ }
+    ensures { λ r. ⌜ ToldResult (resultIn n) (now (result .entry)) (now (result .exit)) r ⌝ }
 {
     match n {
         Number::Value(z) => {
@@ -66,21 +66,21 @@ fn of_one(operation: u32, a: i64) -> Number
 
 #[no_mangle]
 pub extern "C" fn station_integers(operation: u32, a: i64, b: i64, result: &mut i64) -> u32
-    ensures { λ r. ⌜ Told (onIntegers operation a b) (now (result .entry)) (now (result .exit)) r ⌝ }
+    ensures { λ r. ⌜ ToldResult (onIntegers operation a b) (now (result .entry)) (now (result .exit)) r ⌝ }
 {
     hand_back(of_integers(operation, a, b), result)
 }
 
 #[no_mangle]
 pub extern "C" fn station_decimals(operation: u32, a: i64, b: i64, result: &mut i64) -> u32
-    ensures { λ r. ⌜ Told (onDecimals operation a b) (now (result .entry)) (now (result .exit)) r ⌝ }
+    ensures { λ r. ⌜ ToldResult (onDecimals operation a b) (now (result .entry)) (now (result .exit)) r ⌝ }
 {
     hand_back(of_decimals(operation, a, b), result)
 }
 
 #[no_mangle]
 pub extern "C" fn station_one(operation: u32, a: i64, result: &mut i64) -> u32
-    ensures { λ r. ⌜ Told (onOne operation a) (now (result .entry)) (now (result .exit)) r ⌝ }
+    ensures { λ r. ⌜ ToldResult (onOne operation a) (now (result .entry)) (now (result .exit)) r ⌝ }
 {
     hand_back(of_one(operation, a), result)
 }

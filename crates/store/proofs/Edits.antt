@@ -15,7 +15,7 @@ use Rattle.cells.specs.declared.index.Indexed.{Indexed}
 use Rattle.cells.specs.declared.index.Indexed.the-variants.{Count, BadStore}
 use Rattle.cells.specs.declared.request.Request.{Request}
 use Rattle.cells.specs.declared.request.Request.the-variants as R
-use Rattle.cells.specs.Cell.{Key, Cell, number, keyNumber, cellBytes, wholeCell, wholeKey}
+use Rattle.cells.specs.Cell.{Key, Cell, keyAsNumber, keyNumber, cellBytes, wholeCell, wholeKey}
 use Rattle.cells.specs.Store.{encode, cellsHeld}
 use Rattle.cells.specs.Asking.{lookup}
 use Rattle.cells.specs.inner.Index.{Indexes}
@@ -48,7 +48,7 @@ unfolding requestedKey
 bad-key none e = refl
 bad-key (some k) e = absurd (apart e)
 
-good-key : (n : ℕ) (o : Option Key) → R.Key n ≡ requestedKey o → (k : Key) × (o ≡ some k) × (n ≡ number k)
+good-key : (n : ℕ) (o : Option Key) → R.Key n ≡ requestedKey o → (k : Key) × (o ≡ some k) × (n ≡ keyAsNumber k)
 unfolding requestedKey
 good-key n none e = absurd (apart (sym e))
 good-key n (some k) e = (k, refl, cc)
@@ -147,7 +147,7 @@ module _ (b : List ℕ) (n : ℕ) (p p′ : List ℕ) (r : Indexed) (i : Indexes
           let g = index-ready b n p p′ r i count e l in
           let c = good-key k (wholeKey s) (sym u ∙ a .told) in
           let f = o .stretch (g .0) (g .1) in
-          let y : lookup (number (c .0)) (g .0) ≡ none = ap (λ (x : ℕ). lookup x (g .0)) (sym (c .2)) ∙ f .missing (omega arith) in
+          let y : lookup (keyAsNumber (c .0)) (g .0) ≡ none = ap (λ (x : ℕ). lookup x (g .0)) (sym (c .2)) ∙ f .missing (omega arith) in
           rw (g .1 .holds, c .1, y)
 
       pub slot-inside : (t .at + t .size ≤ n) × (n ≤ length b)
@@ -160,10 +160,10 @@ module _ (b : List ℕ) (n : ℕ) (p p′ : List ℕ) (r : Indexed) (i : Indexes
       remove-done a z b′ y =
           let g = index-ready b n p p′ r i count e l in
           let c = good-key k (wholeKey s) (sym u ∙ a .told) in
-          let f : Stretch b n (g .0) (number (c .0)) (t .at) (t .size) = subst (λ (x : ℕ). Stretch b n (g .0) x (t .at) (t .size)) (c .2) (o .stretch (g .0) (g .1)) in
+          let f : Stretch b n (g .0) (keyAsNumber (c .0)) (t .at) (t .size) = subst (λ (x : ℕ). Stretch b n (g .0) x (t .at) (t .size)) (c .2) (o .stretch (g .0) (g .1)) in
           let v = f .found z in
-          let m = between b n (g .0) (number (c .0)) (t .at) (t .size) f (held-some b n (g .0) (g .1 .holds)) [] (without (number (c .0)) (g .0)) (encode-without (number (c .0)) (g .0)) in
-          let x : n - t .size ≡ length (encode (without (number (c .0)) (g .0))) = omega (arith, m .0) in
+          let m = between b n (g .0) (keyAsNumber (c .0)) (t .at) (t .size) f (held-some b n (g .0) (g .1 .holds)) [] (without (keyAsNumber (c .0)) (g .0)) (encode-without (keyAsNumber (c .0)) (g .0)) in
+          let x : n - t .size ≡ length (encode (without (keyAsNumber (c .0)) (g .0))) = omega (arith, m .0) in
           rw (g .1 .holds, c .1, v .1) (λ j. record { end = Finished; length = x j; buffer = (y ∙ m .1) j })
 
 module _ (b : List ℕ) (n : ℕ) (s : List ℕ) (at size : ℕ) (w : Putting b n s at size) where

@@ -9,7 +9,7 @@ use borrow.Author.Tests.{lt-ltb, le-ltb, eqb-true, eq-eqb}
 use lib.Dec.{ltb, eqb}
 use lib.ListN.{length, getD, take, drop, length-append, take-append-drop, List·getD-append}
 use lib.Seq.{take-append-seam, drop-append-seam, getD-append-add, length-take-le, take-at}
-use Rattle.cells.specs.Cell.{Cell, number, keyNumber, keyAt, cellBytes}
+use Rattle.cells.specs.Cell.{Cell, keyAsNumber, keyNumber, keyAt, cellBytes}
 use Rattle.cells.specs.Store.{encode, rising}
 use Rattle.cells.specs.inner.Index.{Ready, Position, SizeAt}
 use Rattle.cells.proofs.Walking.{encode-append}
@@ -142,13 +142,13 @@ module _ (b : List ℕ) (n : ℕ) (index : List ℕ) (count k p : ℕ) (q : Posi
           }
 
   -- t says whether the cell there has the key
-  module _ (h : p < count) (at : ℕ) (t : Bool) (pl : at ≡ getD index p 0) (ke : at + 9 ≤ length b → t ≡ eqb (number (keyAt b (at + 1))) k) where
+  module _ (h : p < count) (at : ℕ) (t : Bool) (pl : at ≡ getD index p 0) (ke : at + 9 ≤ length b → t ≡ eqb (keyAsNumber (keyAt b (at + 1))) k) where
     module _ (cs : List Cell) (r : Ready b n index count cs) where
       here : Located b index cs p
       here = locate b n index count cs r p h
 
       key-is : t ≡ eqb (keyNumber (here .picked .cell)) k
-      key-is = ke (omega (arith, here .room)) ∙ ap (λ (x : ℕ). eqb (number (keyAt b (x + 1))) k) pl ∙ ap (λ (x : ℕ). eqb x k) (here .key ∙ here .number)
+      key-is = ke (omega (arith, here .room)) ∙ ap (λ (x : ℕ). eqb (keyAsNumber (keyAt b (x + 1))) k) pl ∙ ap (λ (x : ℕ). eqb x k) (here .key ∙ here .number)
 
       rise : rising cs ≡ true
       rise = held-some b n cs (r .holds) .holds .valid .rising

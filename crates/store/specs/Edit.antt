@@ -10,7 +10,7 @@ use Rattle.meaning.specs.declared.refusal.Refusal.{Refusal}
 use Rattle.meaning.specs.declared.refusal.Refusal.the-variants.{BadStore, BadRequest, StoreFull, NoCell}
 use Rattle.meaning.specs.declared.end.Ended.{Ended}
 use Rattle.meaning.specs.declared.end.Ended.the-variants.{Finished, Halted}
-use Rattle.cells.specs.Cell.{Key, Cell, number, keyNumber, wholeCell, wholeKey}
+use Rattle.cells.specs.Cell.{Key, Cell, keyAsNumber, keyNumber, wholeCell, wholeKey}
 use Rattle.cells.specs.Store.{capacity, encode, cellsHeld}
 use Rattle.cells.specs.Asking.{refusedWith, lookup}
 use Rattle.store.specs.declared.Edited.{Edited}
@@ -59,7 +59,7 @@ takenOut k cs (some c) = doneOn (without k cs)
 -- 15, then 17
 unfoldable pub removeOn : Option Key → List Cell → CellEdit
 removeOn none cs = refusedOn BadRequest cs
-removeOn (some k) cs = takenOut (number k) cs (lookup (number k) cs)
+removeOn (some k) cs = takenOut (keyAsNumber k) cs (lookup (keyAsNumber k) cs)
 
 -- What an edit hands back: how it ended, the length, and the buffer.
 pub record Edit : Type 0 where

@@ -17,7 +17,7 @@ use Rattle.template.specs.declared.seek.Skip.{Skip}
 use Rattle.template.specs.Lines.{linesOf}
 use Rattle.template.specs.Checks.{nestStep}
 use Rattle.template.specs.Seek.{orSkip, skipFrom, cutTo, skipped}
-use Rattle.template.specs.Opening.{Opens, Checks}
+use Rattle.template.specs.Opening.{OpenBefore, Checks}
 use Rattle.template.proofs.LineLaws.{lines-more}
 use Rattle.template.proofs.Opening.{checks-short, opens-line, opens-next, open-inside, line-turn}
 use Rattle.template.proofs.WordForm.{shape-by-word}
@@ -69,7 +69,7 @@ module _ (q : Sought) {M : List Mark} where
       record { bytes = length l + 1; lines = 1; matched = this W X l ls e (lands-around x); bytes-are = omega arith; lines-are = omega arith }
 
   module _ {t : List ℕ} (c : Checks t) where
-    search-meets : (f b m : ℕ) {p j a d : ℕ} {W : List Mark} → length t ≤ p + f → Opens t p j W → Over (topOf q) M a d W → Meets q M W (linesOf (drop p t)) b m (skipFrom q (depthOf q a d) b m (linesOf (drop p t)))
+    search-meets : (f b m : ℕ) {p j a d : ℕ} {W : List Mark} → length t ≤ p + f → OpenBefore t p j W → Over (topOf q) M a d W → Meets q M W (linesOf (drop p t)) b m (skipFrom q (depthOf q a d) b m (linesOf (drop p t)))
     unfolding skipFrom
     search-meets zero b m h o v = absurd (omega (arith, open-inside c o (over-open q v .1)))
     search-meets (suc f) b m {p} h o v =
@@ -86,7 +86,7 @@ depth-none TestEnd = refl
 depth-none TableEnd = refl
 
 -- Where checks 2 to 4 accept, behind a test (or its $ELSE, or a $BT) in M, the search passes what lies up to the match.
-pub search-is-match : {t : List ℕ} {M : List Mark} {at n : ℕ} → Checks t → (q : Sought) → Opens t at n (topOf q ∷ M) → MatchedBy q M (topOf q ∷ M) (linesOf (drop at t)) (skipFrom q 0 0 0 (linesOf (drop at t)) .bytes) (skipFrom q 0 0 0 (linesOf (drop at t)) .lines)
+pub search-is-match : {t : List ℕ} {M : List Mark} {at n : ℕ} → Checks t → (q : Sought) → OpenBefore t at n (topOf q ∷ M) → MatchedBy q M (topOf q ∷ M) (linesOf (drop at t)) (skipFrom q 0 0 0 (linesOf (drop at t)) .bytes) (skipFrom q 0 0 0 (linesOf (drop at t)) .lines)
 search-is-match {t} {M} {at} c q o =
     let k : Skip = skipFrom q 0 0 0 (linesOf (drop at t)) in
     let j = search-meets q c (length t) 0 0 (omega arith) o here in
@@ -103,7 +103,7 @@ pub record Passes (q : Sought) (M W : List Mark) (s : List ℕ) (k : Skip) : Typ
   pub passed : k .bytes ≡ min bytes (length s)
 
 -- The same of the search as a run makes it, in the part of the template that starts there.
-pub skipped-is-match : {t : List ℕ} {M : List Mark} {at n : ℕ} → Checks t → (q : Sought) → Opens t at n (topOf q ∷ M) → Passes q M (topOf q ∷ M) (drop at t) (skipped (drop at t) q)
+pub skipped-is-match : {t : List ℕ} {M : List Mark} {at n : ℕ} → Checks t → (q : Sought) → OpenBefore t at n (topOf q ∷ M) → Passes q M (topOf q ∷ M) (drop at t) (skipped (drop at t) q)
 unfolding skipped cutTo
 skipped-is-match {t} {M} {at} c q o =
     rw (le-ltb 32768 (length (drop at t)) (omega (arith, checks-short c, length-drop at t)))

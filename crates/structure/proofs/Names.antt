@@ -29,7 +29,7 @@ use Rattle.template.specs.Checks.{formCheck, hasName, cameBefore, nameStep, nam
 use Rattle.template.specs.Sections.{selects, sectionFrom, sectionEnd, selectionFrom, selected}
 use Rattle.template.proofs.LineLaws.{lines-none, lines-more}
 use Rattle.template.proofs.NameForm.{formed}
-use Rattle.grammar.specs.Line.{Spells, section}
+use Rattle.grammar.specs.Line.{Spells, section-form}
 use Rattle.grammar.proofs.Lines.{reads-what-is-spelled}
 use Rattle.structure.specs.Sections.{nameIn, nameSpelled, isIn, repeatedFrom, isSection, isNamed, chooses, chosenFrom, chosenEnd, runOf, chosenRun}
 
@@ -63,7 +63,7 @@ not-section l (NoHeading n) h = refl
 not-section l Remark h = refl
 
 section-long : (a e : ℕ) (l : List ℕ) → Spells (Section a e) l → 5 < length l
-section-long a e l (section n w) = omega (arith, w .enough)
+section-long a e l (section-form n w) = omega (arith, w .enough)
 
 no-section : {a e : ℕ} → Section a e ≡ NoForm → ⊥
 no-section q = let z : _≡_ {A = ℕ} 0 1 = cc in omega arith

@@ -20,7 +20,7 @@ use Rattle.nesting.specs.declared.Shape.the-variants.{Section}
 use Rattle.nesting.specs.Nest.{Mark, tables}
 use Rattle.template.specs.declared.Verdict.{Verdict}
 use Rattle.template.specs.declared.Verdict.the-variants.{Fine, Fault}
-use Rattle.template.specs.declared.Run.{Run}
+use Rattle.template.specs.declared.Extent.{Extent}
 use Rattle.template.specs.declared.Checked.{Checked}
 use Rattle.template.specs.declared.Checked.the-variants.{Accepted, Refused}
 use Rattle.template.specs.declared.sections.Selection.{Selection}
@@ -33,7 +33,7 @@ use Rattle.template.specs.Shape.{shapeIn, shapeOf, isFormed}
 use Rattle.template.specs.Checks.{formCheck, nestCheck, nameCheck}
 use Rattle.template.specs.Sections.{selects, sectionFrom, endAt, sectionEnd, selectionFrom, selected}
 use Rattle.template.specs.Order.{unlessFault, acceptedRun, sectionChecked, namesChecked, nestingChecked, formsChecked, templateChecked}
-use Rattle.template.specs.Opening.{Opens, first, Checks}
+use Rattle.template.specs.Opening.{OpenBefore, at-first, Checks}
 use Rattle.template.proofs.LineLaws.{lines-none, lines-more}
 use Rattle.template.proofs.NameForm.{formed}
 use Rattle.template.proofs.Opening.{checks-short, opens-line, opens-next, behind-section, line-before}
@@ -60,13 +60,13 @@ selected-section name l h f = go (begins sectionWord l) refl
 pub record SectionLine (t : List ℕ) (a k : ℕ) : Type 0 where
   pub number : ℕ
   pub marks : List Mark
-  pub opens : Opens t a number marks
+  pub opens : OpenBefore t a number marks
   pub line : k ≡ suc number
   pub inside : a < length t
   pub shape : shapeOf (lineAt t a) ≡ Section
   pub no-table : tables marks ≡ 0
 
-section-line : {t : List ℕ} {at n : ℕ} {M : List Mark} → Checks t → Opens t at n M → at < length t → (name : List ℕ) → selects name (lineAt t at) ≡ true → SectionLine t at (suc n)
+section-line : {t : List ℕ} {at n : ℕ} {M : List Mark} → Checks t → OpenBefore t at n M → at < length t → (name : List ℕ) → selects name (lineAt t at) ≡ true → SectionLine t at (suc n)
 section-line {t} {at} {n} {M} c o h name e =
     let s = selected-section name (lineAt t at) e (opens-line c o h .formed) in
     record { number = n; marks = M; opens = o; line = refl; inside = h; shape = s; no-table = behind-section c o h s .1 }
@@ -82,7 +82,7 @@ further t at to (At a k) h e = (e .0, omega (arith, e .1))
 further t at to Nowhere h e = tt
 
 -- at a line, with what is found behind it
-found-from : {t : List ℕ} {at n : ℕ} {M : List Mark} → Checks t → Opens t at n M → at < length t → (name : List ℕ) → Ends t (nextLine t at) (sectionFrom name (nextLine t at) (suc n) (linesOf (drop (nextLine t at) t))) → Ends t at (sectionFrom name at n (linesOf (drop at t)))
+found-from : {t : List ℕ} {at n : ℕ} {M : List Mark} → Checks t → OpenBefore t at n M → at < length t → (name : List ℕ) → Ends t (nextLine t at) (sectionFrom name (nextLine t at) (suc n) (linesOf (drop (nextLine t at) t))) → Ends t at (sectionFrom name at n (linesOf (drop at t)))
 unfolding sectionFrom Ends
 found-from {t} {at} {n} c o h name i =
     let l : at + (length (lineAt t at) + 1) ≡ nextLine t at = omega arith in
@@ -92,7 +92,7 @@ found-from {t} {at} {n} c o h name i =
     by true e f k = (section-line c o h name e, omega arith)
     by false e f k = further t at (nextLine t at) f (omega arith) k
 
-section-found : {t : List ℕ} → Checks t → (name : List ℕ) (f : ℕ) {at n : ℕ} {M : List Mark} → length t ≤ at + f → Opens t at n M → Ends t at (sectionFrom name at n (linesOf (drop at t)))
+section-found : {t : List ℕ} → Checks t → (name : List ℕ) (f : ℕ) {at n : ℕ} {M : List Mark} → length t ≤ at + f → OpenBefore t at n M → Ends t at (sectionFrom name at n (linesOf (drop at t)))
 unfolding sectionFrom Ends
 section-found {t} c name zero {at} {n} l o = rw (lines-none t at (omega arith)) tt
 section-found {t} c name (suc f) {at} {n} l o = by (leb (length t) at) refl (λ h. section-found c name f (omega arith) (opens-next c o h))
@@ -125,7 +125,7 @@ run-end {t} c name a k s = by (eqb (length name) 0) (sectionFrom [] (nextLine t 
 -- ---- an accepted template
 
 -- The run of a template that is accepted: its first line is a section, with no table open, and it ends in the template.
-pub record Runs (t : List ℕ) (r : Run) : Type 0 where
+pub record Runs (t : List ℕ) (r : Extent) : Type 0 where
   pub checks : Checks t
   pub short : length t ≤ 32768
   pub start : SectionLine t (r .start) (r .line)
@@ -138,16 +138,16 @@ end-inside at-end h = (h, omega arith)
 end-inside (at-section s l) h = (omega arith, omega (arith, s .inside))
 
 -- A line of a run ends in it, or the run ends with the template.
-pub line-within : {t : List ℕ} {at n a e : ℕ} {M : List Mark} → Opens t at n M → RunEnd t a e → at < e → (nextLine t at ≤ e) ⊎ (e ≡ length t)
+pub line-within : {t : List ℕ} {at n a e : ℕ} {M : List Mark} → OpenBefore t at n M → RunEnd t a e → at < e → (nextLine t at ≤ e) ⊎ (e ≡ length t)
 line-within o at-end h = inr refl
 line-within o (at-section s l) h = inl (line-before o (s .opens) h)
 
-unless : (e : Refusal) (v : Verdict) (next : Checked) (r : Run) → unlessFault e v next ≡ Accepted r → (v ≡ Fine) × (next ≡ Accepted r)
+unless : (e : Refusal) (v : Verdict) (next : Checked) (r : Extent) → unlessFault e v next ≡ Accepted r → (v ≡ Fine) × (next ≡ Accepted r)
 unfolding unlessFault
 unless e Fine next r h = (refl, h)
 unless e (Fault l) next r h = absurd (let z : _≡_ {A = ℕ} 0 1 = cc in omega arith)
 
-run-found : {t : List ℕ} → Checks t → (name : List ℕ) (f : Found) (r : Run) → Ends t 0 f → acceptedRun (selectionFrom t name f) ≡ Accepted r → Runs t r
+run-found : {t : List ℕ} → Checks t → (name : List ℕ) (f : Found) (r : Extent) → Ends t 0 f → acceptedRun (selectionFrom t name f) ≡ Accepted r → Runs t r
 unfolding selectionFrom acceptedRun Ends
 run-found {t} c name (At a k) r (s, h) e =
     let x : record { start = a; line = k; end = sectionEnd t name a k } ≡ r = cc in
@@ -157,7 +157,7 @@ run-found {t} c name (At a k) r (s, h) e =
 run-found c name Nowhere r h e = absurd (let z : _≡_ {A = ℕ} 0 1 = cc in omega arith)
 
 -- What is known of an accepted template.
-pub accepted-runs : (t name : List ℕ) (r : Run) → templateChecked t name ≡ Accepted r → Runs t r
+pub accepted-runs : (t name : List ℕ) (r : Extent) → templateChecked t name ≡ Accepted r → Runs t r
 unfolding templateChecked formsChecked nestingChecked namesChecked sectionChecked selected
 accepted-runs t name r h =
     let a = unless BadTemplate (bytesCheck t) (formsChecked t name) r h in
@@ -165,7 +165,7 @@ accepted-runs t name r h =
     let c = unless BadNesting (nestCheck t) (namesChecked t name) r (b .1) in
     let d = unless RepeatedSection (nameCheck t) (sectionChecked t name) r (c .1) in
     let k : Checks t = record { bytes = a .0; forms = b .0; nesting = c .0 } in
-    run-found k name (sectionFrom name 0 0 (linesOf t)) r (section-found k name (length t) (omega arith) first) (d .1)
+    run-found k name (sectionFrom name 0 0 (linesOf t)) r (section-found k name (length t) (omega arith) at-first) (d .1)
 
 -- ---- a refused template
 

@@ -21,7 +21,7 @@ use Rattle.template.specs.Verdicts.{firstFault, lineAllowed}
 use Rattle.template.specs.Walk.{orElse, walk}
 use Rattle.template.specs.Shape.{shapeOf, isFormed}
 use Rattle.template.specs.Checks.{formCheck, nestStep, nestEnd, nestCheck}
-use Rattle.template.specs.Opening.{Opens, first, next, Checks}
+use Rattle.template.specs.Opening.{OpenBefore, at-first, at-next, Checks}
 use Rattle.template.proofs.LineLaws.{lines-none, lines-more}
 use Rattle.template.proofs.VerdictLaws.{not-too-long}
 use Rattle.template.proofs.OrderLaws.{within-length}
@@ -40,24 +40,24 @@ passed false v n e = absurd (let z : _≡_ {A = ℕ} 0 1 = cc in omega arith)
 
 module _ {t : List ℕ} where
   -- a check of each line by itself goes on finding nothing
-  rest-fine : (passes : List ℕ → Bool) → firstFault passes 1 (linesOf t) ≡ Fine → {at n : ℕ} {M : List Mark} → Opens t at n M → firstFault passes (suc n) (linesOf (drop at t)) ≡ Fine
+  rest-fine : (passes : List ℕ → Bool) → firstFault passes 1 (linesOf t) ≡ Fine → {at n : ℕ} {M : List Mark} → OpenBefore t at n M → firstFault passes (suc n) (linesOf (drop at t)) ≡ Fine
   unfolding firstFault
-  rest-fine passes c first = c
-  rest-fine passes c (next {at} {n} o h e) =
+  rest-fine passes c at-first = c
+  rest-fine passes c (at-next {at} {n} o h e) =
       passed (passes (lineAt t at)) (firstFault passes (suc (suc n)) (linesOf (drop (nextLine t at) t))) (suc n) (rw (lines-more t at h) at (rest-fine passes c o)) .1
 
-  line-passes : (passes : List ℕ → Bool) → firstFault passes 1 (linesOf t) ≡ Fine → {at n : ℕ} {M : List Mark} → Opens t at n M → at < length t → passes (lineAt t at) ≡ true
+  line-passes : (passes : List ℕ → Bool) → firstFault passes 1 (linesOf t) ≡ Fine → {at n : ℕ} {M : List Mark} → OpenBefore t at n M → at < length t → passes (lineAt t at) ≡ true
   unfolding firstFault
   line-passes passes c {at} {n} o h =
       passed (passes (lineAt t at)) (firstFault passes (suc (suc n)) (linesOf (drop (nextLine t at) t))) (suc n) (rw (lines-more t at h) at (rest-fine passes c o)) .0
 
   -- check 4 from a place on, with what is open there
-  rest-nested : {at n : ℕ} {M : List Mark} → Opens t at n M → walk nestStep nestEnd M n (linesOf (drop at t)) ≡ nestCheck t
+  rest-nested : {at n : ℕ} {M : List Mark} → OpenBefore t at n M → walk nestStep nestEnd M n (linesOf (drop at t)) ≡ nestCheck t
   unfolding nestCheck walk orElse
-  rest-nested first = refl
-  rest-nested (next {at} o h e) = sym (rw (lines-more t at h, e)) ∙ rest-nested o
+  rest-nested at-first = refl
+  rest-nested (at-next {at} o h e) = sym (rw (lines-more t at h, e)) ∙ rest-nested o
 
-  steps-on : {at n : ℕ} {M : List Mark} → nestCheck t ≡ Fine → Opens t at n M → at < length t → (M′ : List Mark) × (nestStep M (lineAt t at) ≡ some M′)
+  steps-on : {at n : ℕ} {M : List Mark} → nestCheck t ≡ Fine → OpenBefore t at n M → at < length t → (M′ : List Mark) × (nestStep M (lineAt t at) ≡ some M′)
   unfolding walk orElse
   steps-on {at} {n} {M} c o h = go (nestStep M (lineAt t at)) refl (rw (lines-more t at h) at (rest-nested o ∙ c))
     where
@@ -66,7 +66,7 @@ module _ {t : List ℕ} where
       go none e k = absurd (let z : _≡_ {A = ℕ} 0 1 = cc (rw e at k) in omega arith)
 
   -- at the template's end
-  ends-closed : {at n : ℕ} {M : List Mark} → nestCheck t ≡ Fine → Opens t at n M → length t ≤ at → allClosed M ≡ true
+  ends-closed : {at n : ℕ} {M : List Mark} → nestCheck t ≡ Fine → OpenBefore t at n M → length t ≤ at → allClosed M ≡ true
   unfolding walk nestEnd
   ends-closed {at} {n} {M} c o h = passed (allClosed M) Fine n (rw (lines-none t at h) at (rest-nested o ∙ c)) .0
 
@@ -89,7 +89,7 @@ pub record LineOpen (t : List ℕ) (at : ℕ) (M : List Mark) : Type 0 where
   pub steps : nestStep M (lineAt t at) ≡ some marks
 
 -- A line before the template's end is short and has a form, and its nesting isn't at fault.
-pub opens-line : {t : List ℕ} {at n : ℕ} {M : List Mark} → Checks t → Opens t at n M → at < length t → LineOpen t at M
+pub opens-line : {t : List ℕ} {at n : ℕ} {M : List Mark} → Checks t → OpenBefore t at n M → at < length t → LineOpen t at M
 unfolding formCheck
 opens-line {t} {at} {n} {M} c o h =
     let f = line-passes isFormed (c .forms) o h in
@@ -103,15 +103,15 @@ opens-line {t} {at} {n} {M} c o h =
     }
 
 -- The line behind an executed line.
-pub opens-next : {t : List ℕ} {at n : ℕ} {M : List Mark} → (c : Checks t) (o : Opens t at n M) (h : at < length t) → Opens t (nextLine t at) (suc n) (opens-line c o h .marks)
-opens-next c o h = next o h (opens-line c o h .steps)
+pub opens-next : {t : List ℕ} {at n : ℕ} {M : List Mark} → (c : Checks t) (o : OpenBefore t at n M) (h : at < length t) → OpenBefore t (nextLine t at) (suc n) (opens-line c o h .marks)
+opens-next c o h = at-next o h (opens-line c o h .steps)
 
 -- Nothing but a section is open at the template's end.
-pub opens-closed : {t : List ℕ} {at n : ℕ} {M : List Mark} → Checks t → Opens t at n M → length t ≤ at → allClosed M ≡ true
+pub opens-closed : {t : List ℕ} {at n : ℕ} {M : List Mark} → Checks t → OpenBefore t at n M → length t ≤ at → allClosed M ≡ true
 opens-closed c o h = ends-closed (c .nesting) o h
 
 -- While a test or a table is open the template doesn't end.
-pub open-inside : {t : List ℕ} {at n : ℕ} {M : List Mark} → Checks t → Opens t at n M → allClosed M ≡ false → at < length t
+pub open-inside : {t : List ℕ} {at n : ℕ} {M : List Mark} → Checks t → OpenBefore t at n M → allClosed M ≡ false → at < length t
 open-inside {t} {at} c o k = by (leb (length t) at) refl
   where
     by : (b : Bool) → leb (length t) at ≡ b → at < length t
@@ -133,10 +133,10 @@ unfolding nestStep
 line-turn l {M} {M′} e = turn (shapeOf l) M M′ e
 
 -- What is open at a place is within the limits.
-pub opens-few : {t : List ℕ} {at n : ℕ} {M : List Mark} → Opens t at n M → Few at n M
+pub opens-few : {t : List ℕ} {at n : ℕ} {M : List Mark} → OpenBefore t at n M → Few at n M
 unfolding tests tables Grounded
-opens-few {t} first = record { lines = omega arith; few-tests = omega arith; few-tables = omega arith; grounded = tt }
-opens-few {t} (next {at} o h e) =
+opens-few {t} at-first = record { lines = omega arith; few-tests = omega arith; few-tables = omega arith; grounded = tt }
+opens-few {t} (at-next {at} o h e) =
     let w = line-turn (lineAt t at) e in
     let i = opens-few o in
     record {
@@ -148,43 +148,43 @@ opens-few {t} (next {at} o h e) =
 
 -- ---- the line at a place by its shape
 
-module _ {t : List ℕ} {at n : ℕ} {M : List Mark} (c : Checks t) (o : Opens t at n M) (h : at < length t) where
+module _ {t : List ℕ} {at n : ℕ} {M : List Mark} (c : Checks t) (o : OpenBefore t at n M) (h : at < length t) where
   the-turn : Turn (shapeOf (lineAt t at)) M (opens-line c o h .marks)
   the-turn = line-turn (lineAt t at) (opens-line c o h .steps)
 
-  behind-as : {M′ : List Mark} → opens-line c o h .marks ≡ M′ → Opens t (nextLine t at) (suc n) M′
-  behind-as e = subst (Opens t (nextLine t at) (suc n)) e (opens-next c o h)
+  behind-as : {M′ : List Mark} → opens-line c o h .marks ≡ M′ → OpenBefore t (nextLine t at) (suc n) M′
+  behind-as e = subst (OpenBefore t (nextLine t at) (suc n)) e (opens-next c o h)
 
   -- Behind a $SEC its section is open; no table is open before it.
-  pub behind-section : shapeOf (lineAt t at) ≡ Section → Opens t (nextLine t at) (suc n) (section ∷ []) × (tables M ≡ 0)
+  pub behind-section : shapeOf (lineAt t at) ≡ Section → OpenBefore t (nextLine t at) (suc n) (section ∷ []) × (tables M ≡ 0)
   behind-section e = let w = turn-section (rw e at the-turn) (opens-few o .grounded) in (behind-as (w .0), w .1)
 
   -- Behind a $REM the same is open.
-  pub behind-remark : shapeOf (lineAt t at) ≡ Remark → Opens t (nextLine t at) (suc n) M
+  pub behind-remark : shapeOf (lineAt t at) ≡ Remark → OpenBefore t (nextLine t at) (suc n) M
   behind-remark e = behind-as (turn-remark (rw e at the-turn))
 
   -- Behind a line that opens and closes nothing the same is open.
-  pub behind-plain : shapeOf (lineAt t at) ≡ Plain → Opens t (nextLine t at) (suc n) M
+  pub behind-plain : shapeOf (lineAt t at) ≡ Plain → OpenBefore t (nextLine t at) (suc n) M
   behind-plain e = behind-as (turn-plain (rw e at the-turn))
 
   -- Behind a test it is open.
-  pub behind-test : shapeOf (lineAt t at) ≡ Test → Opens t (nextLine t at) (suc n) (test ∷ M)
+  pub behind-test : shapeOf (lineAt t at) ≡ Test → OpenBefore t (nextLine t at) (suc n) (test ∷ M)
   behind-test e = behind-as (turn-test (rw e at the-turn))
 
   -- A $ELSE stands in a test, and behind it the test is in its $ELSE part.
-  pub behind-else : shapeOf (lineAt t at) ≡ Else → (M″ : List Mark) × (M ≡ test ∷ M″) × Opens t (nextLine t at) (suc n) (other ∷ M″)
+  pub behind-else : shapeOf (lineAt t at) ≡ Else → (M″ : List Mark) × (M ≡ test ∷ M″) × OpenBefore t (nextLine t at) (suc n) (other ∷ M″)
   behind-else e = let (r, k, l) = turn-else (rw e at the-turn) in (r, k, behind-as l)
 
   -- A $ENDIF stands in a test, and behind it the test isn't open.
-  pub behind-end-test : shapeOf (lineAt t at) ≡ EndTest → (M″ : List Mark) × ((M ≡ test ∷ M″) ⊎ (M ≡ other ∷ M″)) × Opens t (nextLine t at) (suc n) M″
+  pub behind-end-test : shapeOf (lineAt t at) ≡ EndTest → (M″ : List Mark) × ((M ≡ test ∷ M″) ⊎ (M ≡ other ∷ M″)) × OpenBefore t (nextLine t at) (suc n) M″
   behind-end-test e = (opens-line c o h .marks, turn-end-test (rw e at the-turn), opens-next c o h)
 
   -- There is room for a table that is begun, and behind its $BT it is open.
-  pub behind-table : shapeOf (lineAt t at) ≡ Table → Opens t (nextLine t at) (suc n) (table ∷ M) × (tables M < 5)
+  pub behind-table : shapeOf (lineAt t at) ≡ Table → OpenBefore t (nextLine t at) (suc n) (table ∷ M) × (tables M < 5)
   behind-table e = let w = turn-table (rw e at the-turn) in (behind-as (w .0), w .1)
 
   -- A $ET stands in a table, and behind it the table isn't open.
-  pub behind-end-table : shapeOf (lineAt t at) ≡ EndTable → (M″ : List Mark) × (M ≡ table ∷ M″) × Opens t (nextLine t at) (suc n) M″
+  pub behind-end-table : shapeOf (lineAt t at) ≡ EndTable → (M″ : List Mark) × (M ≡ table ∷ M″) × OpenBefore t (nextLine t at) (suc n) M″
   behind-end-table e = (opens-line c o h .marks, turn-end-table (rw e at the-turn), opens-next c o h)
 
 -- ---- where lines start
@@ -194,10 +194,10 @@ lineStart : List ℕ → ℕ → ℕ
 lineStart t zero = 0
 lineStart t (suc n) = nextLine t (lineStart t n)
 
-starts : {t : List ℕ} {at n : ℕ} {M : List Mark} → Opens t at n M → at ≡ lineStart t n
+starts : {t : List ℕ} {at n : ℕ} {M : List Mark} → OpenBefore t at n M → at ≡ lineStart t n
 unfolding lineStart
-starts first = refl
-starts {t} (next o h e) = ap (nextLine t) (starts o)
+starts at-first = refl
+starts {t} (at-next o h e) = ap (nextLine t) (starts o)
 
 starts-rise : (t : List ℕ) (i k : ℕ) → lineStart t i ≤ lineStart t (i + k)
 unfolding lineStart
@@ -205,7 +205,7 @@ starts-rise t i zero = let e : i + 0 ≡ i = omega arith in omega (arith, ap (li
 starts-rise t i (suc k) = let e : i + suc k ≡ suc (i + k) = omega arith in omega (arith, starts-rise t i k, ap (lineStart t) e)
 
 -- A line ends before any line behind it starts.
-pub line-before : {t : List ℕ} {at e n k : ℕ} {M W : List Mark} → Opens t at n M → Opens t e k W → at < e → nextLine t at ≤ e
+pub line-before : {t : List ℕ} {at e n k : ℕ} {M W : List Mark} → OpenBefore t at n M → OpenBefore t e k W → at < e → nextLine t at ≤ e
 unfolding lineStart
 line-before {t} {at} {e} {n} {k} o p h = go (leb (suc n) k) refl
   where

@@ -15,7 +15,7 @@ use Rattle.template.specs.declared.forms.Faults.{Faults}
 use Rattle.template.specs.declared.forms.Faults.the-variants.{NoFault, InForm, InNesting}
 use Rattle.template.specs.declared.Checked.{Checked}
 use Rattle.template.specs.declared.Checked.the-variants.{Accepted, Refused}
-use Rattle.template.specs.declared.Run.{Run}
+use Rattle.template.specs.declared.Extent.{Extent}
 use Rattle.template.specs.declared.sections.Selection.{Selection}
 use Rattle.template.specs.declared.sections.Selection.the-variants.{Lines, NotThere}
 use Rattle.template.specs.Sections.{selected}
@@ -69,7 +69,7 @@ within-length t w q k = go (ltb 32768 (length t)) refl
         let z : _≡_ {A = ℕ} 0 1 = cc in absurd (omega arith)
 
 module _ (t name : List ℕ) (w : Selection) (q : w ≡ selected t name) where
-  pub accepted : (run : Run) → w ≡ Lines run → Accepted run ≡ sectionChecked t name
+  pub accepted : (run : Extent) → w ≡ Lines run → Accepted run ≡ sectionChecked t name
   unfolding sectionChecked acceptedRun
   accepted run k = rw (← q, k)
 

@@ -11,9 +11,9 @@ use Rattle.template.specs.Verdicts.{bytesCheck}
 use Rattle.template.specs.Checks.{formCheck, nestStep, nestCheck}
 
 -- n lines stand before the line that starts at `at`, and M is open before it
-pub data Opens (t : List ℕ) : ℕ → ℕ → List Mark → Type 0 where
-  first : Opens t 0 0 []
-  next : {at n : ℕ} {M M′ : List Mark} → Opens t at n M → at < length t → nestStep M (lineAt t at) ≡ some M′ → Opens t (at + length (lineAt t at) + 1) (suc n) M′
+pub data OpenBefore (t : List ℕ) : ℕ → ℕ → List Mark → Type 0 where
+  at-first : OpenBefore t 0 0 []
+  at-next : {at n : ℕ} {M M′ : List Mark} → OpenBefore t at n M → at < length t → nestStep M (lineAt t at) ≡ some M′ → OpenBefore t (at + length (lineAt t at) + 1) (suc n) M′
 
 -- checks 2 to 4 find nothing at fault
 pub record Checks (t : List ℕ) : Type 0 where

@@ -47,13 +47,13 @@ lines [] = []
 lines (l ∷ ls) = ascii l ++ (10 ∷ lines ls)
 
 -- what the checks say of a template, or where a search goes on
-pub data Result : Type 0 where
-  checkIs : Checked → Result
-  found : Skip → Result
+pub data Finding : Type 0 where
+  checkIs : Checked → Finding
+  skipIs : Skip → Finding
 
 pub record Row : Type 0 where
-  pub computed : Result
-  pub expected : Result
+  pub computed : Finding
+  pub expected : Finding
 
 -- a template, the caller's name, and what is expected
 abbrev check : List ℕ → String → Checked → Row
@@ -64,7 +64,7 @@ runIs start line end = Accepted (record { start = start; line = line; end = end 
 
 -- what stands behind the line that seeks, and how many bytes and lines are passed over
 abbrev seek : List ℕ → Sought → ℕ → ℕ → Row
-seek t q bytes n = record { computed = found (skipped t q); expected = found (record { bytes = bytes; lines = n }) }
+seek t q bytes n = record { computed = skipIs (skipped t q); expected = skipIs (record { bytes = bytes; lines = n }) }
 
 abbrev two : List ℕ
 two = lines ("$REM first" ∷ "$SEC A" ∷ "text" ∷ "$SEC B" ∷ "text" ∷ [])

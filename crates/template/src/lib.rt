@@ -29,7 +29,7 @@ pub enum Verdict {
 }
 
 // A run's lines: where the first starts, its number, and where the line behind the last would start.
-pub struct Run {
+pub struct Extent {
     pub start: usize,
     pub line: u32,
     pub end: usize,
@@ -37,7 +37,7 @@ pub struct Run {
 
 // An accepted template's run, or why it is refused and the line named.
 pub enum Checked {
-    Accepted(Run),
+    Accepted(Extent),
     Refused(Refusal, u32),
 }
 

@@ -1,5 +1,5 @@
 // 6: "The section asked for isn't there, or the name is empty and there is no $SEC."
-use crate::Run;
+use crate::Extent;
 use crate::names;
 ghost use mathlib.Core.Path.{_≡_};
 ghost use Prim.Native.Nat.{_+_, _<_, _≤_};
@@ -9,7 +9,7 @@ ghost use Rattle.template.specs.Sections.{selects, sectionFrom, sectionE
 ghost use Rattle.template.specs.inner.Within.{Within};
 
 pub enum Selection {
-    Lines(Run),
+    Lines(Extent),
     NotThere,
 }
 
@@ -75,5 +75,5 @@ pub fn select(template: &[u8], name: &[u8]) -> Selection
         return Selection::NotThere;
     };
     let end = section_end(template, name, start, line);
-    Selection::Lines(Run { start, line, end })
+    Selection::Lines(Extent { start, line, end })
 }

@@ -32,7 +32,7 @@ use Rattle.texts.specs.declared.text.Field.{Field}
 use Rattle.texts.specs.declared.text.FieldRead.{FieldRead}
 use Rattle.texts.specs.declared.text.FieldRead.the-variants.{FieldTo, NoField}
 use Rattle.texts.specs.declared.text.Piece.{Piece}
-use Rattle.texts.specs.declared.text.Piece.the-variants.{Plain, Placed}
+use Rattle.texts.specs.declared.text.Piece.the-variants.{Byte, Placed}
 use Rattle.texts.specs.declared.text.PieceRead.{PieceRead}
 use Rattle.texts.specs.declared.text.PieceRead.the-variants.{PieceTo, NoPiece}
 use Rattle.texts.specs.readers.Text.{placesAt, placesOf, widthNext, fieldOf, fieldAt, placed, pieceAt, before, piecesWithin, textPieces}
@@ -60,7 +60,7 @@ FieldKnown l k (FieldTo f next) = Limited l f × (k + questionsOf (f .argument .
 FieldKnown l k NoField = Unit {0}
 
 abbrev PieceKnown : List ℕ → ℕ → PieceRead → Type 0
-PieceKnown l k (PieceTo (Plain b) next) = (k ≤ next + 4) × (next ≤ length l)
+PieceKnown l k (PieceTo (Byte b) next) = (k ≤ next + 4) × (next ≤ length l)
 PieceKnown l k (PieceTo (Placed f) next) = Limited l f × (k + questionsOf (f .argument .operand) ≤ next) × (next ≤ length l)
 PieceKnown l k NoPiece = Unit {0}
 
@@ -116,7 +116,7 @@ pub piece-ends : (l : List ℕ) (i : ℕ) (p : Piece) (next : ℕ) → pieceAt l
 piece-ends l i p next e = go p (subst (PieceKnown l (i + 5)) e (piece-known l i))
   where
     go : (q : Piece) → PieceKnown l (i + 5) (PieceTo q next) → i < next
-    go (Plain b) k = omega (arith, k .0)
+    go (Byte b) k = omega (arith, k .0)
     go (Placed f) k = omega (arith, k .1)
 
 module _ (l : List ℕ) (i : ℕ) (f : Field) (next : ℕ) (e : pieceAt l i ≡ PieceTo (Placed f) next) where
@@ -131,18 +131,18 @@ module _ (l : List ℕ) (i : ℕ) (f : Field) (next : ℕ) (e : pieceAt l i ≡ 
 -- each is within its limits
 abbrev pub EachLimited : List ℕ → List Piece → Type 0
 EachLimited l [] = Unit {0}
-EachLimited l (Plain b ∷ ps) = EachLimited l ps
+EachLimited l (Byte b ∷ ps) = EachLimited l ps
 EachLimited l (Placed f ∷ ps) = Limited l f × EachLimited l ps
 
 -- how many of them ask
 abbrev pub askingCount : List Piece → ℕ
 askingCount [] = 0
-askingCount (Plain b ∷ ps) = askingCount ps
+askingCount (Byte b ∷ ps) = askingCount ps
 askingCount (Placed f ∷ ps) = questionsOf (f .argument .operand) + askingCount ps
 
 one-question : (o : Operand) → questionsOf o ≤ 1
-one-question (O.Number q) = omega arith
-one-question (O.Text start end) = omega arith
+one-question (O.NumberLiteral q) = omega arith
+one-question (O.StringLiteral start end) = omega arith
 one-question (O.IntegerVariable n) = omega arith
 one-question (O.DecimalVariable n) = omega arith
 one-question (O.StringVariable n) = omega arith
@@ -157,7 +157,7 @@ one-question (O.Entry n r e) = omega arith
 
 asking-fields : (ps : List Piece) → askingCount ps ≤ fieldCount ps
 asking-fields [] = omega arith
-asking-fields (Plain b ∷ ps) = asking-fields ps
+asking-fields (Byte b ∷ ps) = asking-fields ps
 asking-fields (Placed f ∷ ps) = omega (arith, one-question (f .argument .operand), asking-fields ps)
 
 -- what the pieces from i on take of the line
@@ -171,7 +171,7 @@ takes-none l i h = record { bytes = omega arith; each = tt }
 takes-more : (l : List ℕ) (i : ℕ) (p : Piece) (next : ℕ) (o : Option (List Piece)) → i ≤ length l → PieceKnown l (i + 5) (PieceTo p next) → (next ≤ length l → Takes l next (read o)) → Takes l i (read (before p o))
 unfolding read before
 takes-more l i p next none h e rest = takes-none l i h
-takes-more l i (Plain b) next (some ps) h e rest = let r = rest (e .1) in record { bytes = omega (arith, e .0, r .bytes); each = r .each }
+takes-more l i (Byte b) next (some ps) h e rest = let r = rest (e .1) in record { bytes = omega (arith, e .0, r .bytes); each = r .each }
 takes-more l i (Placed f) next (some ps) h e rest = let r = rest (e .2) in record { bytes = omega (arith, e .1, r .bytes); each = (e .0, r .each) }
 
 takes : (n : ℕ) (l : List ℕ) (i : ℕ) → i ≤ length l → Takes l i (read (piecesWithin n l i))

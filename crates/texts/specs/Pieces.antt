@@ -3,7 +3,7 @@ use mathlib.Core.List.{List, [], _∷_}
 use mathlib.Core.Option.{Option, none, some}
 use Prim.Native.Nat.{ℕ, _+_}
 use Rattle.texts.specs.declared.text.Piece.{Piece}
-use Rattle.texts.specs.declared.text.Piece.the-variants.{Plain, Placed}
+use Rattle.texts.specs.declared.text.Piece.the-variants.{Byte, Placed}
 use Rattle.texts.specs.readers.Text.{textPieces}
 
 -- the pieces of an accepted text, which always has some
@@ -18,5 +18,5 @@ piecesOf l from = read (textPieces l from)
 -- how many fields there are
 abbrev pub fieldCount : List Piece → ℕ
 fieldCount [] = 0
-fieldCount (Plain b ∷ ps) = fieldCount ps
+fieldCount (Byte b ∷ ps) = fieldCount ps
 fieldCount (Placed f ∷ ps) = 1 + fieldCount ps

@@ -23,7 +23,7 @@ use Rattle.texts.specs.readers.Text.{placesAt, placesOf, widthNext, fiel
 
 -- the integer 1
 abbrev one : Argument
-one = record { operand = operand.Number (Integer (pos 1)); filter = Unfiltered }
+one = record { operand = operand.NumberLiteral (Integer (pos 1)); filter = Unfiltered }
 
 abbrev Rows : Type 0
 Rows =
@@ -37,7 +37,7 @@ Rows =
     × (fieldAt (ascii "1,9.6}") 0 ≡ FieldTo (record { argument = one; width = 9; places = (Said 6) }) 6)
     × (fieldAt (ascii "1,9.7}") 0 ≡ NoField)
     -- a field ends where its form ends, whatever its string holds
-    × (pieceAt (ascii "{\"}{\",2}") 0 ≡ PieceTo (Placed (record { argument = record { operand = operand.Text 2 4; filter = Unfiltered }; width = 2; places = Unsaid })) 8)
+    × (pieceAt (ascii "{\"}{\",2}") 0 ≡ PieceTo (Placed (record { argument = record { operand = operand.StringLiteral 2 4; filter = Unfiltered }; width = 2; places = Unsaid })) 8)
     -- a closing brace in plain text
     × (textFits (ascii "a}") 0 ≡ false)
     -- four fields of 32 with 4 and with 5 bytes more

@@ -36,7 +36,7 @@ pub enum FieldRead {
 }
 
 pub enum Piece {
-    Plain(u8),
+    Byte(u8),
     Placed(Field),
 }
 
@@ -112,7 +112,7 @@ pub fn piece_at(line: &[u8], at: usize) -> PieceRead
     if b == b'}' {
         return PieceRead::NoPiece;
     }
-    PieceRead::PieceTo(Piece::Plain(b), at + 1)
+    PieceRead::PieceTo(Piece::Byte(b), at + 1)
 }
 
 // The bytes from a place on up to the next brace, each of which is a piece.
@@ -128,7 +128,7 @@ fn width_of(piece: Piece) -> usize
     ensures { λ r. ⌜ r ≡ widthOf piece ⌝ }
 {
     match piece {
-        Piece::Plain(_) => 1,
+        Piece::Byte(_) => 1,
         Piece::Placed(field) => field.width,
     }
 }

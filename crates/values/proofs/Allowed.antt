@@ -25,7 +25,7 @@ use Rattle.arguments.specs.declared.argument.Filter.the-variants.{Unfiltered, A
 use Rattle.arguments.specs.declared.index.Index.{Index}
 use Rattle.arguments.specs.declared.index.Index.the-variants.{Fixed}
 use Rattle.arguments.specs.declared.operand.Operand.{Operand}
-use Rattle.arguments.specs.declared.operand.Operand.the-variants.{Number, Text, IntegerVariable, DecimalVariable, StringVariable, PageNumber, LineNumber, LoopCounter, RecordElement, EntryElement, Parameter, Record, Entry}
+use Rattle.arguments.specs.declared.operand.Operand.the-variants.{NumberLiteral, StringLiteral, IntegerVariable, DecimalVariable, StringVariable, PageNumber, LineNumber, LoopCounter, RecordElement, EntryElement, Parameter, Record, Entry}
 use Rattle.arguments.specs.Admitted.{entries, neither, countOf, admits}
 use Rattle.arguments.proofs.Parsed.{Between, OperandWithin, ArgumentWithin}
 use Rattle.values.specs.declared.fetch.Along.{Along}
@@ -120,8 +120,8 @@ module _ (m : Machine) (line : ℕ) where
   module _ (d : Between 1 35 (m .datasource)) (s : List ℕ) where
     operand-asks : (f : Filter) (o : Operand) → OperandWithin s o → admits f (countOf o) ≡ true → AsksAllowed (operandMeaning m s line (questionKind f) o)
     unfolding operandMeaning countOf
-    operand-asks f (Number q) b a = tt
-    operand-asks f (Text x y) b a = tt
+    operand-asks f (NumberLiteral q) b a = tt
+    operand-asks f (StringLiteral x y) b a = tt
     operand-asks f (IntegerVariable n) b a = tt
     operand-asks f (DecimalVariable n) b a = tt
     operand-asks f (StringVariable n) b a = tt

@@ -9,7 +9,7 @@ use Rattle.meaning.specs.Answer.{Answer}
 use Rattle.meaning.specs.Tree.{done, stop, ask, print, bind, finished}
 use Rattle.meaning.specs.Meaning.{Meaning, asksEach}
 use Rattle.meaning.specs.Place.{Place, Does, placesLeft, roomLeft, from}
-use Rattle.meaning.specs.Rule.{Rule, after, Keeps, AtEnd}
+use Rattle.meaning.specs.Rule.{Rule, stateAfter, Keeps, AtEnd}
 use Rattle.meaning.specs.declared.question.Question.{Question}
 use Rattle.meaning.specs.declared.refusal.Refusal.{Refusal}
 use Rattle.meaning.specs.declared.refusal.Refusal.the-variants.{BadIndex}
@@ -18,7 +18,7 @@ use Rattle.arguments.specs.declared.argument.Argument.{Argument}
 use Rattle.arguments.specs.declared.index.Index.{Index}
 use Rattle.arguments.specs.declared.index.Index.the-variants.{Fixed}
 use Rattle.arguments.specs.declared.operand.Operand.{Operand}
-use Rattle.arguments.specs.declared.operand.Operand.the-variants.{Number, Text, IntegerVariable, DecimalVariable, StringVariable, PageNumber, LineNumber, LoopCounter, RecordElement, EntryElement, Parameter, Record, Entry}
+use Rattle.arguments.specs.declared.operand.Operand.the-variants.{NumberLiteral, StringLiteral, IntegerVariable, DecimalVariable, StringVariable, PageNumber, LineNumber, LoopCounter, RecordElement, EntryElement, Parameter, Record, Entry}
 use Rattle.values.specs.declared.fetch.Along.{Along}
 use Rattle.values.specs.Machine.{Machine}
 use Rattle.values.specs.Indexes.{indexNumber, limited, indexValue}
@@ -54,7 +54,7 @@ module _ {A : Type 0} where
 -- Where a call led such a tree to a, Φ a holds.
 pub gives-does : {A : Type 0} (source : Question → Answer) (t : Meaning A) (P P′ : Place Question) (a : A) (Φ : A → Type 0) → Gives t Φ → Does source t P P′ (finished a) → Φ a
 gives-does {A} source t P P′ a Φ h d =
-    subst (λ e. AtEnd (λ x s. Φ x × (s ≡ 0)) e (after nothing 0 (from source P t .events))) (sym (d .did .end)) (keeps-end nothing source (placesLeft P) (roomLeft P) t 0 (λ x s. Φ x × (s ≡ 0)) (gives-keeps nothing t 0 Φ h)) .0
+    subst (λ e. AtEnd (λ x s. Φ x × (s ≡ 0)) e (stateAfter nothing 0 (from source P t .events))) (sym (d .did .end)) (keeps-end nothing source (placesLeft P) (roomLeft P) t 0 (λ x s. Φ x × (s ≡ 0)) (gives-keeps nothing t 0 Φ h)) .0
   where
     nothing : Rule ℕ
     nothing = record { next = λ s v. s; allowed = λ s v. ⊥ }
@@ -83,8 +83,8 @@ cell-gives m line kind p i j =
 
 operand-gives : (m : Machine) (s : List ℕ) (line kind : ℕ) (o : Operand) → Gives (operandMeaning m s line kind o) Anything
 unfolding operandMeaning
-operand-gives m s line kind (Number q) = tt
-operand-gives m s line kind (Text a e) = tt
+operand-gives m s line kind (NumberLiteral q) = tt
+operand-gives m s line kind (StringLiteral a e) = tt
 operand-gives m s line kind (IntegerVariable n) = tt
 operand-gives m s line kind (DecimalVariable n) = tt
 operand-gives m s line kind (StringVariable n) = tt

@@ -23,7 +23,7 @@ use Rattle.arguments.specs.declared.argument.Filter.the-variants.{Unfiltered, A
 use Rattle.arguments.specs.declared.index.Index.{Index}
 use Rattle.arguments.specs.declared.index.Index.the-variants.{Fixed, Variable, Loop}
 use Rattle.arguments.specs.declared.operand.Operand.{Operand}
-use Rattle.arguments.specs.declared.operand.Operand.the-variants.{Number, Text, IntegerVariable, DecimalVariable, StringVariable, PageNumber, LineNumber, LoopCounter, RecordElement, EntryElement, Parameter, Record, Entry}
+use Rattle.arguments.specs.declared.operand.Operand.the-variants.{NumberLiteral, StringLiteral, IntegerVariable, DecimalVariable, StringVariable, PageNumber, LineNumber, LoopCounter, RecordElement, EntryElement, Parameter, Record, Entry}
 use Rattle.arguments.proofs.Parsed.{Between, QuantityWithin, IndexWithin, OperandWithin, ArgumentWithin}
 use Rattle.values.specs.Letters.{upper}
 use Rattle.values.specs.declared.fetch.Along.{Along}
@@ -178,8 +178,8 @@ module _ (m : Machine) (line : ℕ) where
   module _ (h : MachineWithin m) (s : List ℕ) where
     operand-within : (kind : ℕ) (o : Operand) → OperandWithin s o → Yields AnswerWithin (operandMeaning m s line kind o) WorthWithin
     unfolding operandMeaning
-    operand-within kind (Number q) b = b
-    operand-within kind (Text a e) b = omega (arith, length-take (e - a) (drop a s), b .short)
+    operand-within kind (NumberLiteral q) b = b
+    operand-within kind (StringLiteral a e) b = omega (arith, length-take (e - a) (drop a s), b .short)
     operand-within kind (IntegerVariable n) b = numbered-each IntegerWithin (pos 0) (m .variables .integers) n (omega arith) (h .variables .integers .each)
     operand-within kind (DecimalVariable n) b = numbered-each DecimalWithin (pos 0) (m .variables .decimals) n (omega arith) (h .variables .decimals .each)
     operand-within kind (StringVariable n) b = numbered-each Short [] (m .variables .strings) n (omega arith) (h .variables .strings .each)
@@ -213,8 +213,8 @@ IndexThere m (Variable n) = (d : ℤ) → numbered (pos 0) (m .variables .intege
 IndexThere m Loop = Unit {0}
 
 abbrev pub There : Machine → Operand → Type 0
-There m (Number q) = Unit {0}
-There m (Text a e) = Unit {0}
+There m (NumberLiteral q) = Unit {0}
+There m (StringLiteral a e) = Unit {0}
 There m (IntegerVariable n) = (d : ℤ) → numbered (pos 0) (m .variables .integers) n ≡ numbered d (m .variables .integers) n
 There m (DecimalVariable n) = (d : ℤ) → numbered (pos 0) (m .variables .decimals) n ≡ numbered d (m .variables .decimals) n
 There m (StringVariable n) = (d : List ℕ) → numbered [] (m .variables .strings) n ≡ numbered d (m .variables .strings) n
@@ -238,8 +238,8 @@ module _ (m : Machine) (h : MachineWithin m) where
 
   -- A variable that a parsed line names is one of the machine's.
   pub operand-there : (s : List ℕ) (o : Operand) → OperandWithin s o → There m o
-  operand-there s (Number q) b = tt
-  operand-there s (Text a e) b = tt
+  operand-there s (NumberLiteral q) b = tt
+  operand-there s (StringLiteral a e) b = tt
   operand-there s (IntegerVariable n) b = λ d. numbered-there (pos 0) d (m .variables .integers) n (counted (m .variables .integers) 99 n (h .variables .integers .count) b)
   operand-there s (DecimalVariable n) b = λ d. numbered-there (pos 0) d (m .variables .decimals) n (counted (m .variables .decimals) 99 n (h .variables .decimals .count) b)
   operand-there s (StringVariable n) b = λ d. numbered-there [] d (m .variables .strings) n (counted (m .variables .strings) 99 n (h .variables .strings .count) b)

@@ -1,12 +1,12 @@
 -- Which parameter an operand asks for.
 use Prim.Native.Nat.{ℕ}
 use Rattle.arguments.specs.declared.operand.Operand.{Operand}
-use Rattle.arguments.specs.declared.operand.Operand.the-variants.{Number, Text, IntegerVariable, DecimalVariable, StringVariable, PageNumber, LineNumber, LoopCounter, RecordElement, EntryElement, Parameter, Record, Entry}
+use Rattle.arguments.specs.declared.operand.Operand.the-variants.{NumberLiteral, StringLiteral, IntegerVariable, DecimalVariable, StringVariable, PageNumber, LineNumber, LoopCounter, RecordElement, EntryElement, Parameter, Record, Entry}
 
 -- the parameter of a cell, 1 where there is none: "n 1–65,535"
 unfoldable pub parameterOf : Operand → ℕ
-parameterOf (Number q) = 1
-parameterOf (Text a e) = 1
+parameterOf (NumberLiteral q) = 1
+parameterOf (StringLiteral a e) = 1
 parameterOf (IntegerVariable n) = 1
 parameterOf (DecimalVariable n) = 1
 parameterOf (StringVariable n) = 1

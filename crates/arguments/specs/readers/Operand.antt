@@ -16,7 +16,7 @@ use Rattle.arguments.specs.declared.index.IndexRead.the-variants.{IndexT
 use Rattle.arguments.specs.declared.literal.LiteralRead.{LiteralRead}
 use Rattle.arguments.specs.declared.literal.LiteralRead.the-variants.{LiteralTo, NoLiteral}
 use Rattle.arguments.specs.declared.operand.Operand.{Operand}
-use Rattle.arguments.specs.declared.operand.Operand.the-variants.{Number, Text, IntegerVariable, DecimalVariable, StringVariable, PageNumber, LineNumber, LoopCounter, RecordElement, EntryElement, Parameter, Record, Entry}
+use Rattle.arguments.specs.declared.operand.Operand.the-variants.{NumberLiteral, StringLiteral, IntegerVariable, DecimalVariable, StringVariable, PageNumber, LineNumber, LoopCounter, RecordElement, EntryElement, Parameter, Record, Entry}
 use Rattle.arguments.specs.declared.operand.OperandRead.{OperandRead}
 use Rattle.arguments.specs.declared.operand.OperandRead.the-variants.{OperandTo, NoOperand}
 use Rattle.arguments.specs.readers.Literal.{literalAt}
@@ -28,7 +28,7 @@ stringEnd l at = at + length (span InString (window l at 16))
 
 -- "a string in double quotes", behind the first
 unfoldable pub stringAt : List ℕ → ℕ → OperandRead
-stringAt l at = cond (byteIs l (stringEnd l at) "\"") (OperandTo (Text at (stringEnd l at)) (stringEnd l at + 1)) NoOperand
+stringAt l at = cond (byteIs l (stringEnd l at) "\"") (OperandTo (StringLiteral at (stringEnd l at)) (stringEnd l at + 1)) NoOperand
 
 -- "a cell Pn, Pn.r or Pn.r.e, n 1–65,535", behind the P
 unfoldable pub entryOf : ℕ → Index → IndexRead → OperandRead
@@ -76,7 +76,7 @@ namedAt l at = firstOf NoOperand names l at
 
 -- a number, or what a name begins: no name begins with a digit or `-`
 unfoldable pub numberOr : OperandRead → LiteralRead → OperandRead
-numberOr other (LiteralTo q next) = OperandTo (Number q) next
+numberOr other (LiteralTo q next) = OperandTo (NumberLiteral q) next
 numberOr other NoLiteral = other
 
 -- "Arguments: an integer ..; a decimal ..; a string ..; IVn, FVn, SVn ..; PAGENUM; LINENUM; LOOP; Rn, Tn ..; a cell"

@@ -11,11 +11,11 @@ use Rattle.meaning.specs.Answer.{missing, cell}
 use Rattle.meaning.specs.declared.question.Question.{Question}
 use Rattle.cells.specs.declared.Answered.{Answered}
 use Rattle.cells.specs.declared.Answered.the-variants as A
-use Rattle.cells.specs.declared.Answered.the-variants.{Missing, Integer, Decimal, Text}
+use Rattle.cells.specs.declared.Answered.the-variants.{Missing, Integer, Decimal, StringAt}
 use Rattle.cells.specs.declared.index.Indexed.{Indexed}
 use Rattle.cells.specs.declared.index.Indexed.the-variants.{Count, BadStore}
 use Rattle.cells.specs.Bytes.{pairAt}
-use Rattle.cells.specs.Cell.{Cell, number, keyNumber, keyAt, cellAllowed, cellBytes}
+use Rattle.cells.specs.Cell.{Cell, keyAsNumber, keyNumber, keyAt, cellAllowed, cellBytes}
 use Rattle.cells.specs.Store.{cellsHeld}
 use Rattle.cells.specs.Asking.{questionAllowed, lookup, found, answer, cellStart, stringStart, meant}
 
@@ -50,12 +50,12 @@ unfoldable pub InStore : List ℕ → ℕ → ℕ → Answered → Type 0
 InStore b n i Missing = Unit {0}
 InStore b n i (Integer z) = Unit {0}
 InStore b n i (Decimal z) = Unit {0}
-InStore b n i (Text j k) = (j ≡ i) × (j + k ≤ n) × (n ≤ length b)
+InStore b n i (StringAt j k) = (j ≡ i) × (j + k ≤ n) × (n ≤ length b)
 InStore b n i (A.Highest m) = Unit {0}
 
 -- the number of the key of the i-th cell
 abbrev pub keyIn : List ℕ → List ℕ → ℕ → ℕ
-keyIn b starts i = number (keyAt b (getD starts i 0 + 1))
+keyIn b starts i = keyAsNumber (keyAt b (getD starts i 0 + 1))
 
 -- the keys of the cells rise, are within their limits, and lie in b with a byte behind each
 pub record Sorted (b starts : List ℕ) (count : ℕ) : Type 0 where

@@ -6,7 +6,7 @@ use Prim.Native.Nat.{ℕ, _≤_}
 use lib.ListN.{length}
 use Rattle.cells.specs.declared.request.Request.{Request}
 use Rattle.cells.specs.declared.request.Request.the-variants as R
-use Rattle.cells.specs.Cell.{Key, Cell, number, keyNumber}
+use Rattle.cells.specs.Cell.{Key, Cell, keyAsNumber, keyNumber}
 
 unfoldable pub requested : Option Cell → Request
 requested none = R.Bad
@@ -14,7 +14,7 @@ requested (some c) = R.Key (keyNumber c)
 
 unfoldable pub requestedKey : Option Key → Request
 requestedKey none = R.Bad
-requestedKey (some k) = R.Key (number k)
+requestedKey (some k) = R.Key (keyAsNumber k)
 
 -- r tells which cell the bytes s are, if any; a cell is short
 pub record CellAsked (s : List ℕ) (o : Option Cell) (r : Request) : Type 0 where

@@ -3,19 +3,19 @@ use mathlib.Core.Bool.{Bool, true, false, not}
 use Rattle.numbers.specs.declared.Quantity.{Quantity}
 use Rattle.numbers.specs.Order.{lessThan, atMost, equalTo}
 use Rattle.lines.specs.declared.command.Comparison.{Comparison}
-use Rattle.commands.specs.declared.test.Kind.{Kind}
-use Rattle.commands.specs.declared.test.Kind.the-variants.{Numbers, Strings}
+use Rattle.commands.specs.declared.test.Comparands.{Comparands}
+use Rattle.commands.specs.declared.test.Comparands.the-variants.{Numbers, Strings}
 use Rattle.lines.specs.declared.command.Comparison.the-variants.{SameString, SameLetters, Equal, NotEqual, Less, AtMost, Greater, AtLeast}
 
-unfoldable pub kindOf : Comparison → Kind
-kindOf SameString = Strings false
-kindOf SameLetters = Strings true
-kindOf Equal = Numbers
-kindOf NotEqual = Numbers
-kindOf Less = Numbers
-kindOf AtMost = Numbers
-kindOf Greater = Numbers
-kindOf AtLeast = Numbers
+unfoldable pub comparandsOf : Comparison → Comparands
+comparandsOf SameString = Strings false
+comparandsOf SameLetters = Strings true
+comparandsOf Equal = Numbers
+comparandsOf NotEqual = Numbers
+comparandsOf Less = Numbers
+comparandsOf AtMost = Numbers
+comparandsOf Greater = Numbers
+comparandsOf AtLeast = Numbers
 
 -- whether a test of numbers holds; no test of strings does
 unfoldable pub numbersHold : Comparison → Quantity → Quantity → Bool

@@ -19,8 +19,8 @@ use Rattle.commands.specs.declared.settle.Phrase.{Phrase}
 use Rattle.commands.specs.declared.settle.Phrase.the-variants as P
 use Rattle.commands.specs.declared.settle.Judged.{Judged}
 use Rattle.commands.specs.declared.settle.Judged.the-variants as J
-use Rattle.commands.specs.declared.settle.Verdict.{Verdict}
-use Rattle.commands.specs.declared.settle.Verdict.the-variants as Ve
+use Rattle.commands.specs.declared.settle.Assigned.{Assigned}
+use Rattle.commands.specs.declared.settle.Assigned.the-variants as Ve
 use Rattle.commands.specs.Settling.{Settled, settled, against, andThen, integerFrom, quantityFrom, stringFrom}
 
 -- a result or why there is none, as the code has it
@@ -40,7 +40,7 @@ abbrev pub judgedOf : Judged → Settled Bool
 judgedOf (J.Holds b) = settled b
 judgedOf (J.Refused e) = against e
 
-abbrev pub verdictOf : Verdict → Settled (Unit {0})
+abbrev pub verdictOf : Assigned → Settled (Unit {0})
 verdictOf Ve.Passed = settled tt
 verdictOf (Ve.Refused e) = against e
 

@@ -6,7 +6,7 @@ use Prim.Native.Nat.{ℕ, suc, _≤_, _<_}
 use lib.ListN.{length}
 use Rattle.nesting.specs.Nest.{Mark, section, test, other, table}
 use Rattle.texts.specs.readers.Text.{textFits}
-use Rattle.template.specs.Opening.{Opens, Checks}
+use Rattle.template.specs.Opening.{OpenBefore, Checks}
 use Rattle.meaning.specs.Each.{Each}
 use Rattle.values.specs.Machine.{Variables}
 use Rattle.commands.specs.declared.table.Table.{Table}
@@ -21,13 +21,13 @@ Tabled t ts (section ∷ M) = Tabled t ts M
 Tabled t ts (test ∷ M) = Tabled t ts M
 Tabled t ts (other ∷ M) = Tabled t ts M
 Tabled t [] (table ∷ M) = ⊥
-Tabled t (x ∷ ts) (table ∷ M) = (n : ℕ) × Opens t (x .start) n (table ∷ M) × (x .line ≡ suc n) × Tabled t ts M
+Tabled t (x ∷ ts) (table ∷ M) = (n : ℕ) × OpenBefore t (x .start) n (table ∷ M) × (x .line ≡ suc n) × Tabled t ts M
 
 -- where the run stands, by place and number of the line due
 pub record Nested (t : List ℕ) (at line : ℕ) (ts : List Table) : Type 0 where
   pub before : ℕ
   pub marks : List Mark
-  pub opens : Opens t at before marks
+  pub opens : OpenBefore t at before marks
   pub number : line ≡ suc before
   pub tabled : Tabled t ts marks
 

@@ -2,7 +2,7 @@
 use mathlib.Core.List.{List}
 use Prim.Native.Nat.{ℕ}
 use Rattle.arguments.specs.declared.operand.Operand.{Operand}
-use Rattle.arguments.specs.declared.operand.Operand.the-variants.{Number, Text, IntegerVariable, DecimalVariable, StringVariable, PageNumber, LineNumber, LoopCounter, RecordElement, EntryElement, Parameter, Record, Entry}
+use Rattle.arguments.specs.declared.operand.Operand.the-variants.{NumberLiteral, StringLiteral, IntegerVariable, DecimalVariable, StringVariable, PageNumber, LineNumber, LoopCounter, RecordElement, EntryElement, Parameter, Record, Entry}
 use Rattle.arguments.specs.declared.operand.OperandRead.{OperandRead}
 use Rattle.arguments.specs.declared.operand.OperandRead.the-variants.{OperandTo, NoOperand}
 use Rattle.arguments.specs.readers.Index.{indexAt}
@@ -32,8 +32,8 @@ unfoldable pub targetOf : Operand → Operation → TargetRead
 targetOf (IntegerVariable n) word = TargetIs (IntegerTarget n)
 targetOf (DecimalVariable n) word = TargetIs (DecimalTarget n)
 targetOf (StringVariable n) word = stringTarget n word
-targetOf (Number q) word = NoTarget
-targetOf (Text a e) word = NoTarget
+targetOf (NumberLiteral q) word = NoTarget
+targetOf (StringLiteral a e) word = NoTarget
 targetOf PageNumber word = NoTarget
 targetOf LineNumber word = NoTarget
 targetOf LoopCounter word = NoTarget

@@ -15,7 +15,7 @@ use Rattle.meaning.specs.declared.question.Question.{Question}
 use Rattle.cells.specs.Cell.{Cell}
 use Rattle.cells.specs.inner.Index.{Ready}
 use Rattle.texts.specs.declared.text.Piece.{Piece}
-use Rattle.texts.specs.declared.text.Piece.the-variants.{Plain, Placed}
+use Rattle.texts.specs.declared.text.Piece.the-variants.{Byte, Placed}
 use Rattle.texts.specs.readers.Text.{textFits}
 use Rattle.values.specs.declared.scene.Scene.{Scene}
 use Rattle.values.specs.inner.Word.{questions}
@@ -42,7 +42,7 @@ worked s w = record { bytes = s; wrong = w }
 
 abbrev pub pass : Machine → List ℕ → ℕ → List Piece → List ℕ → Bool → Meaning Worked
 pass m l line [] made w = done (worked made w)
-pass m l line (Plain b ∷ ps) made w = pass m l line ps (made ++ b ∷ []) w
+pass m l line (Byte b ∷ ps) made w = pass m l line ps (made ++ b ∷ []) w
 pass m l line (Placed f ∷ ps) made w =
     bind (argumentMeaning m l line (f .argument)) (λ v. pass m l line ps (made ++ fieldBytes (f .width) (f .places) v) (w || isWrong v))
 

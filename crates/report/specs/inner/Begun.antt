@@ -4,7 +4,7 @@ use mathlib.Core.Bool.{true, false}
 use mathlib.Core.List.{List, []}
 use Prim.Native.Nat.{ℕ, _≤_}
 use lib.ListN.{length, take}
-use Rattle.template.specs.declared.Run.{Run}
+use Rattle.template.specs.declared.Extent.{Extent}
 use Rattle.template.specs.declared.Checked.the-variants.{Accepted}
 use Rattle.template.specs.Order.{templateChecked}
 use Rattle.meaning.specs.Answer.{Answer}
@@ -30,7 +30,7 @@ pub record Untouched (o : Outcome) (r : Report) : Type 0 where
 -- before the first line: the checks have refused the call, or the run may start, whatever the rows of SV hold
 pub record Begun (t name b : List ℕ) (n places : ℕ) (index : List ℕ) (r : Stretch) : Type 0 where
   pub refused : r .more ≡ false → (room : ℕ) → Untouched (reportOf t name b n places room) (r .report)
-  pub run : r .more ≡ true → Run
+  pub run : r .more ≡ true → Extent
   pub accepted : (m : r .more ≡ true) → templateChecked t name ≡ Accepted (run m)
   pub start : (m : r .more ≡ true) (rows : List (List ℕ)) (source : Question → Answer) → stateOf source (heldIn (r .saved) rows) (r .saved .flow) ≡ startOf (run m)
   pub end : (m : r .more ≡ true) → r .saved .end ≡ run m .end

@@ -4,7 +4,7 @@ use mathlib.Core.List.{List}
 use Prim.Native.Nat.{ℕ, _+_}
 use lib.IntN.{pos}
 use lib.ListN.{replicate}
-use Rattle.template.specs.declared.Run.{Run}
+use Rattle.template.specs.declared.Extent.{Extent}
 use Rattle.meaning.specs.Number.{refusalNumber, numberOf, lineNamed, endOf}
 use Rattle.meaning.specs.declared.refusal.Refusal.{Refusal}
 use Rattle.meaning.specs.declared.end.Ended.{Ended}
@@ -19,7 +19,7 @@ unfoldable pub noLog : Log
 noLog = record { at = 0; n = 0; words = replicate 512 0 }
 
 -- the first line of the run, no table open
-unfoldable pub startFlow : Run → Flow
+unfoldable pub startFlow : Extent → Flow
 startFlow r =
     record {
       at = r .start;
@@ -31,7 +31,7 @@ startFlow r =
     }
 
 -- nothing printed, nothing asked, every variable blank
-unfoldable pub startSaved : Run → ℕ → ℕ → ℕ → Saved
+unfoldable pub startSaved : Extent → ℕ → ℕ → ℕ → Saved
 startSaved r len count places =
     record {
       flow = startFlow r;
@@ -56,7 +56,7 @@ nothingSaved = startSaved (record { start = 0; line = 0; end = 0 }) 0 0 0
 unfoldable pub refusedAt : Refusal → ℕ → Stretch
 refusedAt e line = record { more = false; log = noLog; report = emptyReport (refusalNumber e) line; saved = nothingSaved }
 
-unfoldable pub startedAt : Run → ℕ → ℕ → ℕ → Stretch
+unfoldable pub startedAt : Extent → ℕ → ℕ → ℕ → Stretch
 startedAt r len count places = record { more = true; log = noLog; report = emptyReport 0 0; saved = startSaved r len count places }
 
 -- "pages (PAGENUM at the end)"; the questions stand on the read list from a place on

@@ -20,7 +20,7 @@ use Rattle.texts.specs.declared.text.PlacesRead.the-variants.{PlacesTo, 
 use Rattle.texts.specs.declared.text.FieldRead.{FieldRead}
 use Rattle.texts.specs.declared.text.FieldRead.the-variants.{FieldTo, NoField}
 use Rattle.texts.specs.declared.text.Piece.{Piece}
-use Rattle.texts.specs.declared.text.Piece.the-variants.{Plain, Placed}
+use Rattle.texts.specs.declared.text.Piece.the-variants.{Byte, Placed}
 use Rattle.texts.specs.declared.text.PieceRead.{PieceRead}
 use Rattle.texts.specs.declared.text.PieceRead.the-variants.{PieceTo, NoPiece}
 
@@ -61,7 +61,7 @@ pieceAt l at =
     cond (leb (length l) at) NoPiece
     (cond (byteIs l at "{") (placed (fieldAt l (at + 1)))
     (cond (byteIs l at "}") NoPiece
-    (PieceTo (Plain (byteAt l at)) (at + 1))))
+    (PieceTo (Byte (byteAt l at)) (at + 1))))
 
 unfoldable pub before : Piece → Option (List Piece) → Option (List Piece)
 before p (some ps) = some (p ∷ ps)

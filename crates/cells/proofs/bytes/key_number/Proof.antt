@@ -1,6 +1,6 @@
 -- The bytes are those that the definition reads.
 use native.Mathlib.Omega.{arith}
-use Rattle.cells.specs.Cell.{number, keyAt}
+use Rattle.cells.specs.Cell.{keyAsNumber, keyAt}
 use borrow.Author.Needs.{needs}
 use Rattle.cells.proofs.bytes.key_number.Statement.{statement}
 use Rattle.cells.proofs.bytes.key_number.Tie as tie
@@ -48,7 +48,7 @@ add-result-3 : tie.Need-add-result-3
 add-result-3 c = search needs
 
 returns : tie.Need-returns
-unfolding number keyAt
+unfolding keyAsNumber keyAt
 returns c = (omega arith, omega arith)
 
 pub key-number-spec : {M : Type 1} → statement M

@@ -1,6 +1,6 @@
 -- Within the limits nothing overflows.
 use native.Mathlib.Omega.{arith}
-use Rattle.cells.specs.Cell.{number}
+use Rattle.cells.specs.Cell.{keyAsNumber}
 use Rattle.cells.proofs.CellForm.{limits}
 use borrow.Author.Needs.{needs}
 use Rattle.cells.proofs.question.number_of.Statement.{statement}
@@ -37,7 +37,7 @@ add-result-2 : tie.Need-add-result-2
 add-result-2 c = let l = limits _ (c .before .before .before .before .pre) in omega arith
 
 returns : tie.Need-returns
-unfolding number
+unfolding keyAsNumber
 returns c = let l = limits _ (c .before .before .before .before .pre) in (omega arith, omega arith)
 
 pub number-of-spec : {M : Type 1} → statement M

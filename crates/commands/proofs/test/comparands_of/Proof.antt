@@ -1,8 +1,8 @@
 -- By the cases of the definition.
-use Rattle.commands.specs.inner.Kinds.{kindOf}
+use Rattle.commands.specs.inner.Kinds.{comparandsOf}
 use borrow.Author.Needs.{needs}
-use Rattle.commands.proofs.test.kind_of.Statement.{statement}
-use Rattle.commands.proofs.test.kind_of.Tie as tie
+use Rattle.commands.proofs.test.comparands_of.Statement.{statement}
+use Rattle.commands.proofs.test.comparands_of.Tie as tie
 
 enum-told : tie.Need-enum-told
 enum-told c = search needs
@@ -29,39 +29,39 @@ enum-told-8 : tie.Need-enum-told-8
 enum-told-8 c = search needs
 
 returns : tie.Need-returns
-unfolding kindOf
+unfolding comparandsOf
 returns c = rw (c .enum-told .given .1)
 
 returns-2 : tie.Need-returns-2
-unfolding kindOf
+unfolding comparandsOf
 returns-2 c = rw (c .enum-told2 .given .1)
 
 returns-3 : tie.Need-returns-3
-unfolding kindOf
+unfolding comparandsOf
 returns-3 c = rw (c .enum-told3 .given .1)
 
 returns-4 : tie.Need-returns-4
-unfolding kindOf
+unfolding comparandsOf
 returns-4 c = rw (c .enum-told4 .given .1)
 
 returns-5 : tie.Need-returns-5
-unfolding kindOf
+unfolding comparandsOf
 returns-5 c = rw (c .enum-told5 .given .1)
 
 returns-6 : tie.Need-returns-6
-unfolding kindOf
+unfolding comparandsOf
 returns-6 c = rw (c .enum-told6 .given .1)
 
 returns-7 : tie.Need-returns-7
-unfolding kindOf
+unfolding comparandsOf
 returns-7 c = rw (c .enum-told7 .given .1)
 
 returns-8 : tie.Need-returns-8
-unfolding kindOf
+unfolding comparandsOf
 returns-8 c = rw (c .enum-told8 .given .1)
 
-pub kind-of-spec : {M : Type 1} → statement M
-kind-of-spec =
+pub comparands-of-spec : {M : Type 1} → statement M
+comparands-of-spec =
     tie.close
     (tie.spec
     enum-told
