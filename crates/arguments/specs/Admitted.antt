@@ -7,8 +7,8 @@ use Rattle.arguments.specs.declared.argument.Filter.the-variants.{Unfilt
 
 -- "|RECCNT on Pn, |ENTCNT on Pn.r": the count that may follow an operand
 pub data Count : Type 0 where
-  records : Count
-  entries : Count
+  ofRecords : Count
+  ofEntries : Count
   neither : Count
 
 unfoldable pub countOf : Operand → Count
@@ -22,8 +22,8 @@ countOf LineNumber = neither
 countOf LoopCounter = neither
 countOf (RecordElement n) = neither
 countOf (EntryElement n) = neither
-countOf (Parameter n) = records
-countOf (Record n r) = entries
+countOf (Parameter n) = ofRecords
+countOf (Record n r) = ofEntries
 countOf (Entry n r e) = neither
 
 -- "RECCNT and ENTCNT elsewhere are 3. Other filters may stand after any argument"
@@ -33,9 +33,9 @@ admits Absolute c = true
 admits Truncated c = true
 admits UpperCase c = true
 admits Length c = true
-admits RecordCount records = true
-admits RecordCount entries = false
+admits RecordCount ofRecords = true
+admits RecordCount ofEntries = false
 admits RecordCount neither = false
-admits EntryCount records = false
-admits EntryCount entries = true
+admits EntryCount ofRecords = false
+admits EntryCount ofEntries = true
 admits EntryCount neither = false

@@ -10,7 +10,7 @@ use borrow.Author.Tests.{le-leb, lt-leb, leb-true, leb-false}
 use lib.Dec.{leb}
 use lib.ListN.{length, getD, take, drop, set, replicate, length-replicate, replicate-append-replicate, length-drop, drop-of-length-le}
 use lib.Seq.{sets, length-sets, take-suc, drop-cons, length-take-le, take-all, set-comm, getD-set-other, getD-take, getD-drop}
-use Rattle.buffers.specs.Buffer.{room, part, stored, shifted, Stored, Shifted}
+use Rattle.buffers.specs.Buffer.{hasRoom, part, stored, shifted, Stored, Shifted}
 
 module _ {A : Type 0} where
   -- one stretch after another is both as one
@@ -104,20 +104,20 @@ moved-up d b from to k j inv h f t =
     rw e (copied-down d b (part b from k) to j 0 inv (omega arith))
 
 -- room, and what it says
-pub room-true : (b : List ℕ) (n k : ℕ) → n + k ≤ length b → room b n k ≡ true
-unfolding room
+pub room-true : (b : List ℕ) (n k : ℕ) → n + k ≤ length b → hasRoom b n k ≡ true
+unfolding hasRoom
 room-true b n k h = le-leb _ _ h
 
-pub room-false : (b : List ℕ) (n k : ℕ) → length b < n + k → room b n k ≡ false
-unfolding room
+pub room-false : (b : List ℕ) (n k : ℕ) → length b < n + k → hasRoom b n k ≡ false
+unfolding hasRoom
 room-false b n k h = lt-leb _ _ h
 
-pub room-fits : (b : List ℕ) (n k : ℕ) → room b n k ≡ true → n + k ≤ length b
-unfolding room
+pub room-fits : (b : List ℕ) (n k : ℕ) → hasRoom b n k ≡ true → n + k ≤ length b
+unfolding hasRoom
 room-fits b n k e = leb-true _ _ e
 
-pub room-short : (b : List ℕ) (n k : ℕ) → room b n k ≡ false → length b < n + k
-unfolding room
+pub room-short : (b : List ℕ) (n k : ℕ) → hasRoom b n k ≡ false → length b < n + k
+unfolding hasRoom
 room-short b n k e = leb-false _ _ e
 
 -- what is stored, with room and without; its length is the buffer's
@@ -131,7 +131,7 @@ stored-not b n s h = rw (room-false b n (length s) h)
 
 pub length-stored : (b : List ℕ) (n : ℕ) (s : List ℕ) → length (stored b n s) ≡ length b
 unfolding stored
-length-stored b n s = go (room b n (length s))
+length-stored b n s = go (hasRoom b n (length s))
   where
     go : (r : Bool) → length (cond r (sets b n s) b) ≡ length b
     go true = length-sets b n s
@@ -139,32 +139,32 @@ length-stored b n s = go (room b n (length s))
 
 -- the answers of `write` and `fill`, for k bytes
 module _ (b : List ℕ) (n : ℕ) (s : List ℕ) (k : ℕ) (l : length s ≡ k) where
-  pub stored-told : (b′ : List ℕ) → room b n k ≡ true → b′ ≡ sets b n s → Stored b n s b′ true
+  pub stored-told : (b′ : List ℕ) → hasRoom b n k ≡ true → b′ ≡ sets b n s → Stored b n s b′ true
   stored-told b′ e h =
       record { told = rw (l, e); buffer = h ∙ sym (stored-in b n s (omega (arith, room-fits b n k e))) }
 
-  pub stored-refused : room b n k ≡ false → Stored b n s b false
+  pub stored-refused : hasRoom b n k ≡ false → Stored b n s b false
   stored-refused e = record { told = rw (l, e); buffer = sym (stored-not b n s (omega (arith, room-short b n k e))) }
 
 -- the answers of `shift`
 module _ (b : List ℕ) (from to k : ℕ) where
-  pub shifted-told : (b′ : List ℕ) → room b from k ≡ true → room b to k ≡ true → b′ ≡ sets b to (part b from k) → Shifted b from to k b′ true
+  pub shifted-told : (b′ : List ℕ) → hasRoom b from k ≡ true → hasRoom b to k ≡ true → b′ ≡ sets b to (part b from k) → Shifted b from to k b′ true
   unfolding shifted
   shifted-told b′ e e′ h = record { told = rw (e, e′); buffer = rw (e, e′) h }
 
-  pub shifted-from : room b from k ≡ false → Shifted b from to k b false
+  pub shifted-from : hasRoom b from k ≡ false → Shifted b from to k b false
   unfolding shifted
   shifted-from e = record { told = rw e; buffer = rw e }
 
-  pub shifted-to : room b from k ≡ true → room b to k ≡ false → Shifted b from to k b false
+  pub shifted-to : hasRoom b from k ≡ true → hasRoom b to k ≡ false → Shifted b from to k b false
   unfolding shifted
   shifted-to e e′ = record { told = rw (e, e′); buffer = rw (e, e′) }
 
 -- the code's test for room, which cannot overflow
-pub room-tail : (b : List ℕ) (n k : ℕ) → n ≤ length b → leb k (length b - n) ≡ room b n k
+pub room-tail : (b : List ℕ) (n k : ℕ) → n ≤ length b → leb k (length b - n) ≡ hasRoom b n k
 room-tail b n k h = go (leb k (length b - n)) refl
   where
-    go : (r : Bool) → leb k (length b - n) ≡ r → r ≡ room b n k
+    go : (r : Bool) → leb k (length b - n) ≡ r → r ≡ hasRoom b n k
     go true e = sym (room-true b n k (omega (arith, leb-true k (length b - n) e)))
     go false e = sym (room-false b n k (omega (arith, leb-false k (length b - n) e)))
 

@@ -6,11 +6,11 @@ ghost use mathlib.Core.Path.{_≡_};
 ghost use Prim.Native.Nat.{_+_, _≤_, _<_};
 ghost use lib.ListN.{length, replicate};
 ghost use lib.Seq.{sets};
-ghost use Rattle.buffers.specs.Buffer.{room, part, Stored, Shifted};
+ghost use Rattle.buffers.specs.Buffer.{hasRoom, part, Stored, Shifted};
 
 // Whether `count` bytes at `at` lie in the buffer.
 pub fn has_room(buffer: &[u8], at: usize, count: usize) -> bool
-    ensures { λ r. ⌜ r ≡ room (now (buffer .entry)) at count ⌝ }
+    ensures { λ r. ⌜ r ≡ hasRoom (now (buffer .entry)) at count ⌝ }
 {
     if at <= buffer.len() {
         return count <= buffer.len() - at;

@@ -16,7 +16,7 @@ use Rattle.cells.specs.declared.Answered.{Answered}
 use Rattle.cells.specs.declared.Answered.the-variants.{Missing, Integer, Decimal, StringAt, Highest}
 use Rattle.cells.specs.Bytes.{pair, pairAt}
 use Rattle.cells.specs.Cell.{Cell, keyBytes, keyAsNumber, keyNumber, keyAt, cellAllowed, cellBytes}
-use Rattle.cells.specs.Store.{encode, allowed}
+use Rattle.cells.specs.Store.{encode, cellsAllowed}
 use Rattle.cells.specs.Asking.{lookup, found, highestOf, cellStart, meant}
 use Rattle.cells.specs.inner.Index as I
 use Rattle.cells.specs.inner.Index.{Ready, InStore, Position, ValueAt, CellAnswer, LastOf, nothing, last}
@@ -174,7 +174,7 @@ pub record Range (m : Cell → Bool) (f : Cell → ℕ) (low end : ℕ) : Type 0
   pub means : (c : Cell) → cellAllowed c ≡ true → low ≤ keyNumber c → keyNumber c < end → m c ≡ true
   pub rises : (c d : Cell) → cellAllowed c ≡ true → cellAllowed d ≡ true → m c ≡ true → m d ≡ true → keyNumber c ≤ keyNumber d → f c ≤ f d
 
-pub highest-in : (m : Cell → Bool) (f : Cell → ℕ) (low end offset : ℕ) → Range m f low end → ((c : Cell) → f c ≡ pairAt (cellBytes c) offset) → (cs : List Cell) → allowed cs ≡ true → (r : ℕ) → LastOf cs low end offset r → r ≡ highestOf m f cs
+pub highest-in : (m : Cell → Bool) (f : Cell → ℕ) (low end offset : ℕ) → Range m f low end → ((c : Cell) → f c ≡ pairAt (cellBytes c) offset) → (cs : List Cell) → cellsAllowed cs ≡ true → (r : ℕ) → LastOf cs low end offset r → r ≡ highestOf m f cs
 highest-in m f low end offset g o cs a r (nothing n) =
     sym (highest-none m f cs (each-split (λ c. m c ≡ false) cs (λ xs c ys e. go c (allowed-in cs xs c ys a e) (n xs c ys e) (m c) refl)))
   where

@@ -14,8 +14,8 @@ use Rattle.meaning.specs.Answer.{Value, integer, decimal, string}
 use Rattle.meaning.specs.Answer as A
 use Rattle.numbers.specs.declared.Quantity.the-variants as Q
 use Rattle.numbers.specs.Range.{integerLimit, decimalLimit, within}
-use Rattle.cells.specs.Bytes.{pair, quad, octet, pairAt, quadAt, octetAt, inComplement, fromComplement, word, long, begins}
-use Rattle.cells.specs.Cell.{Key, between, keyAllowed, keyBytes, keyAsNumber, each, printable, Kind, integers, decimals, strings, kinds, rowIn, kindAndBody, kindByte, valueAllowed, valueBytes, integerKind, decimalKind, stringKind, Cell, cellAllowed, cellBytes, keyAt, cellBy, cellOf, passing, front}
+use Rattle.cells.specs.Bytes.{pair, quad, octet, pairAt, quadAt, octetAt, inComplement, fromComplement, wordRange, longRange, begins}
+use Rattle.cells.specs.Cell.{Key, between, keyAllowed, keyBytes, keyAsNumber, each, printable, Kind, integerRow, decimalRow, stringRow, kinds, rowIn, kindAndBody, kindByte, valueAllowed, valueBytes, integerKind, decimalKind, stringKind, Cell, cellAllowed, cellBytes, keyAt, cellBy, cellOf, passing, front}
 use Rattle.cells.specs.inner.Tests.{sizeBy, sizeOf, zeros, stringFormed, valueFormed, sizeFound, frontSize, Sized}
 use Rattle.cells.proofs.BigEndian.{Bytes, and-true, both, begins-self, begins-says, pair-reads, quad-reads, octet-reads, signed-unsigned, unsigned-signed, quad-below, octet-below, next, pair-back, quad-back, octet-back, quad-at, octet-at}
 
@@ -91,28 +91,28 @@ pub record Sound (k : Kind) : Type 0 where
   pub sized : (x : k .Body) → k .allowed x ≡ true → length (k .bytes x) ≡ k .size
   pub reads : (x : k .Body) (r : List ℕ) → k .allowed x ≡ true → k .read (k .bytes x ++ r) ≡ x
 
-integers-sound : Sound integers
+integers-sound : Sound integerRow
 unfolding pair quad pairAt quadAt within
 integers-sound =
     record {
       sized = λ z e. refl;
       reads = λ z r e.
           let h : natAbs z ≤ integerLimit = leb-true _ _ e in
-          rw (quad-reads (inComplement word z)) (signed-unsigned word z (omega arith));
+          rw (quad-reads (inComplement wordRange z)) (signed-unsigned wordRange z (omega arith));
     }
 
-decimals-sound : Sound decimals
+decimals-sound : Sound decimalRow
 unfolding pair quad octet pairAt quadAt octetAt within
 decimals-sound =
     record {
       sized = λ z e. refl;
       reads = λ z r e.
           let h : natAbs z ≤ decimalLimit = leb-true _ _ e in
-          rw (quad-reads (inComplement long z / 4294967296), quad-reads (inComplement long z % 4294967296), octet-reads (inComplement long z))
-          (signed-unsigned long z (omega arith));
+          rw (quad-reads (inComplement longRange z / 4294967296), quad-reads (inComplement longRange z % 4294967296), octet-reads (inComplement longRange z))
+          (signed-unsigned longRange z (omega arith));
     }
 
-strings-sound : Sound strings
+strings-sound : Sound stringRow
 strings-sound =
     record {
       sized = λ t e.
@@ -251,15 +251,15 @@ module _ (s : List ℕ) (bytes : Bytes s) where
   read-front v n h k e a b =
       record { value = v; read = ap front (sym (cell-back v n h k e)) ∙ front-cell (record { key = keyAt s 1; value = v }) (drop n s) (both a b) }
 
-  formed-integer : getD s 0 0 ≡ integerKind → 12 ≤ length s → keyAllowed (keyAt s 1) ≡ true → within integerLimit (fromComplement word (quadAt s 8)) ≡ true → FrontOf s
+  formed-integer : getD s 0 0 ≡ integerKind → 12 ≤ length s → keyAllowed (keyAt s 1) ≡ true → within integerLimit (fromComplement wordRange (quadAt s 8)) ≡ true → FrontOf s
   unfolding kindByte valueBytes valueAllowed
   formed-integer k h a e =
-      read-front (integer (fromComplement word (quadAt s 8))) 12 (omega arith) (sym k) (rw (unsigned-signed word (quadAt s 8) (quad-below s bytes 8)) (quad-back s bytes 8 (omega arith))) a e
+      read-front (integer (fromComplement wordRange (quadAt s 8))) 12 (omega arith) (sym k) (rw (unsigned-signed wordRange (quadAt s 8) (quad-below s bytes 8)) (quad-back s bytes 8 (omega arith))) a e
 
-  formed-decimal : getD s 0 0 ≡ decimalKind → 16 ≤ length s → keyAllowed (keyAt s 1) ≡ true → within decimalLimit (fromComplement long (octetAt s 8)) ≡ true → FrontOf s
+  formed-decimal : getD s 0 0 ≡ decimalKind → 16 ≤ length s → keyAllowed (keyAt s 1) ≡ true → within decimalLimit (fromComplement longRange (octetAt s 8)) ≡ true → FrontOf s
   unfolding kindByte valueBytes valueAllowed
   formed-decimal k h a e =
-      read-front (decimal (fromComplement long (octetAt s 8))) 16 (omega arith) (sym k) (rw (unsigned-signed long (octetAt s 8) (octet-below s bytes 8)) (octet-back s bytes 8 (omega arith))) a e
+      read-front (decimal (fromComplement longRange (octetAt s 8))) 16 (omega arith) (sym k) (rw (unsigned-signed longRange (octetAt s 8) (octet-below s bytes 8)) (octet-back s bytes 8 (omega arith))) a e
 
   formed-string : getD s 0 0 ≡ stringKind → 25 ≤ length s → keyAllowed (keyAt s 1) ≡ true → stringFormed s ≡ true → FrontOf s
   unfolding kindByte valueBytes valueAllowed stringFormed
@@ -305,15 +305,15 @@ module _ (k : Key) (r : List ℕ) where
   abbrev laid : Value → List ℕ
   laid v = cellBytes (record { key = k; value = v }) ++ r
 
-  read-integer : (z : ℤ) → valueAllowed (integer z) ≡ true → fromComplement word (quadAt (laid (integer z)) 8) ≡ z
+  read-integer : (z : ℤ) → valueAllowed (integer z) ≡ true → fromComplement wordRange (quadAt (laid (integer z)) 8) ≡ z
   unfolding valueAllowed valueBytes
   read-integer z e =
-      ap (fromComplement word) (sym (quad-at (laid (integer z)) 8 0) ∙ ap (λ (l : List ℕ). quadAt l 0) (value-behind (record { key = k; value = integer z }) r)) ∙ integers-sound .reads z r e
+      ap (fromComplement wordRange) (sym (quad-at (laid (integer z)) 8 0) ∙ ap (λ (l : List ℕ). quadAt l 0) (value-behind (record { key = k; value = integer z }) r)) ∙ integers-sound .reads z r e
 
-  read-decimal : (z : ℤ) → valueAllowed (decimal z) ≡ true → fromComplement long (octetAt (laid (decimal z)) 8) ≡ z
+  read-decimal : (z : ℤ) → valueAllowed (decimal z) ≡ true → fromComplement longRange (octetAt (laid (decimal z)) 8) ≡ z
   unfolding valueAllowed valueBytes
   read-decimal z e =
-      ap (fromComplement long) (sym (octet-at (laid (decimal z)) 8 0) ∙ ap (λ (l : List ℕ). octetAt l 0) (value-behind (record { key = k; value = decimal z }) r)) ∙ decimals-sound .reads z r e
+      ap (fromComplement longRange) (sym (octet-at (laid (decimal z)) 8 0) ∙ ap (λ (l : List ℕ). octetAt l 0) (value-behind (record { key = k; value = decimal z }) r)) ∙ decimals-sound .reads z r e
 
   formed-text : (s : List ℕ) → valueAllowed (string s) ≡ true → stringFormed (laid (string s)) ≡ true
   unfolding valueAllowed cellBytes kindByte keyBytes valueBytes pair
@@ -352,11 +352,11 @@ unfolding sizeOf sizeBy
 size-decimal k e = rw e
 
 -- a kind that is none of the others is the last
-pub string-row : (k : ℕ) → (k ≡ integerKind → ⊥) → (k ≡ decimalKind → ⊥) → 0 < sizeOf k → rowIn kinds k ≡ some strings
+pub string-row : (k : ℕ) → (k ≡ integerKind → ⊥) → (k ≡ decimalKind → ⊥) → 0 < sizeOf k → rowIn kinds k ≡ some stringRow
 unfolding sizeOf sizeBy
 string-row k a b h = go (eqb k stringKind) refl
   where
-    go : (t : Bool) → eqb k stringKind ≡ t → rowIn kinds k ≡ some strings
+    go : (t : Bool) → eqb k stringKind ≡ t → rowIn kinds k ≡ some stringRow
     go true e = rw (ne-eqb _ _ a, ne-eqb _ _ b, e)
     go false e = let z : 0 < 0 = rw (ne-eqb _ _ a, ne-eqb _ _ b, e) at h in absurd (omega arith)
 
@@ -368,7 +368,7 @@ pub size-least : (k : ℕ) → 0 < sizeOf k → 12 ≤ sizeOf k
 unfolding sizeOf sizeBy
 size-least k h = go (eqb k integerKind) (eqb k decimalKind) (eqb k stringKind) h
   where
-    go : (p q r : Bool) → 0 < sizeBy (cond p (some integers) (cond q (some decimals) (cond r (some strings) none))) → 12 ≤ sizeBy (cond p (some integers) (cond q (some decimals) (cond r (some strings) none)))
+    go : (p q r : Bool) → 0 < sizeBy (cond p (some integerRow) (cond q (some decimalRow) (cond r (some stringRow) none))) → 12 ≤ sizeBy (cond p (some integerRow) (cond q (some decimalRow) (cond r (some stringRow) none)))
     go true q r h = omega arith
     go false true r h = omega arith
     go false false true h = omega arith
@@ -378,7 +378,7 @@ pub size-most : (k : ℕ) → sizeOf k ≤ 25
 unfolding sizeOf sizeBy
 size-most k = go (eqb k integerKind) (eqb k decimalKind) (eqb k stringKind)
   where
-    go : (p q r : Bool) → sizeBy (cond p (some integers) (cond q (some decimals) (cond r (some strings) none))) ≤ 25
+    go : (p q r : Bool) → sizeBy (cond p (some integerRow) (cond q (some decimalRow) (cond r (some stringRow) none))) ≤ 25
     go true q r = omega arith
     go false true r = omega arith
     go false false true = omega arith

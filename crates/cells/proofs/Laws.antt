@@ -8,7 +8,7 @@ use borrow.Author.Tests.{le-leb, lt-leb, lt-ltb, le-ltb, eq-eqb, ne-eqb, not-tru
 use lib.Dec.{leb, ltb}
 use lib.ListN.{length, getD, take, drop, drop-of-length-le}
 use Rattle.numbers.specs.Range.{integerLimit, decimalLimit, within}
-use Rattle.cells.specs.Bytes.{quadAt, octetAt, fromComplement, word, long}
+use Rattle.cells.specs.Bytes.{quadAt, octetAt, fromComplement, wordRange, longRange}
 use Rattle.cells.specs.Cell.{between, each, printable, integerKind, decimalKind, stringKind}
 use Rattle.cells.specs.inner.Tests.{sizeBy, sizeOf, zeros, stringFormed, valueFormed}
 use Rattle.cells.proofs.BigEndian.{next}
@@ -95,11 +95,11 @@ module _ (k : ℕ) where
   size-of-none n m l = rw (ne-eqb _ _ n, ne-eqb _ _ m, ne-eqb _ _ l)
 
 module _ (s : List ℕ) (r : Bool) where
-  pub value-of-integer : getD s 0 0 ≡ integerKind → (n : ℕ) → n ≡ quadAt s 8 → r ≡ within integerLimit (fromComplement word n) → r ≡ valueFormed s
+  pub value-of-integer : getD s 0 0 ≡ integerKind → (n : ℕ) → n ≡ quadAt s 8 → r ≡ within integerLimit (fromComplement wordRange n) → r ≡ valueFormed s
   unfolding valueFormed
   value-of-integer e n q f = rw (eq-eqb _ _ e, ← q) f
 
-  pub value-of-decimal : (getD s 0 0 ≡ integerKind → ⊥) → getD s 0 0 ≡ decimalKind → (n : ℕ) → n ≡ octetAt s 8 → r ≡ within decimalLimit (fromComplement long n) → r ≡ valueFormed s
+  pub value-of-decimal : (getD s 0 0 ≡ integerKind → ⊥) → getD s 0 0 ≡ decimalKind → (n : ℕ) → n ≡ octetAt s 8 → r ≡ within decimalLimit (fromComplement longRange n) → r ≡ valueFormed s
   unfolding valueFormed
   value-of-decimal n e m q f = rw (ne-eqb _ _ n, eq-eqb _ _ e, ← q) f
 

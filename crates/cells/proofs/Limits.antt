@@ -18,7 +18,7 @@ use Rattle.meaning.specs.declared.question.Question.{Question}
 use Rattle.meaning.specs.declared.refusal.Refusal.the-variants.{BadRequest}
 use Rattle.cells.specs.declared.Answered.{Answered}
 use Rattle.cells.specs.Cell.{Cell, keyAsNumber, keyNumber, printable, valueAllowed, cellAllowed}
-use Rattle.cells.specs.Store.{allowed, cellsHeld}
+use Rattle.cells.specs.Store.{cellsAllowed, cellsHeld}
 use Rattle.cells.specs.inner.Index.{Ready, Answers}
 use Rattle.cells.specs.Asking.{Query, theCell, highestRecord, highestEntry, queryOf, questionAllowed, lookup, found, highestOf, ofParameter, ofRecord, queryAnswer, answer, answeredAsk, refusedAsk, replied, askOf, meant}
 use Rattle.cells.proofs.BigEndian.{and-true}
@@ -57,13 +57,13 @@ value-within (A.number (Q.Integer z)) h = within-true integerLimit z h
 value-within (A.number (Q.Decimal z)) h = within-true decimalLimit z h
 value-within (string s) h = leb-true (length s) 16 (and-true (leb (length s) 16) (printable s) h .0)
 
-highest-within : (m : Cell → Bool) (f : Cell → ℕ) → ((c : Cell) → cellAllowed c ≡ true → f c ≤ 999) → (cs : List Cell) → allowed cs ≡ true → highestOf m f cs ≤ 999
-unfolding allowed highestOf
+highest-within : (m : Cell → Bool) (f : Cell → ℕ) → ((c : Cell) → cellAllowed c ≡ true → f c ≤ 999) → (cs : List Cell) → cellsAllowed cs ≡ true → highestOf m f cs ≤ 999
+unfolding cellsAllowed highestOf
 highest-within m f g [] h = omega arith
 highest-within m f g (c ∷ cs) h = go (m c) (highest-within m f g cs (t .1))
   where
-    t : (cellAllowed c ≡ true) × (allowed cs ≡ true)
-    t = and-true (cellAllowed c) (allowed cs) h
+    t : (cellAllowed c ≡ true) × (cellsAllowed cs ≡ true)
+    t = and-true (cellAllowed c) (cellsAllowed cs) h
 
     go : (b : Bool) → highestOf m f cs ≤ 999 → max (cond b (f c) 0) (highestOf m f cs) ≤ 999
     go true r = omega (arith, g c (t .0))
@@ -71,19 +71,19 @@ highest-within m f g (c ∷ cs) h = go (m c) (highest-within m f g cs (t .1))
 
 -- What every allowed value has, an answer's value has, whatever the store holds.
 module _ (P : Value → Type 0) (every : (v : Value) → valueAllowed v ≡ true → P v) where
-  lookup-has : (n : ℕ) (cs : List Cell) → allowed cs ≡ true → AnswerHas P (found (lookup n cs))
-  unfolding allowed found lookup
+  lookup-has : (n : ℕ) (cs : List Cell) → cellsAllowed cs ≡ true → AnswerHas P (found (lookup n cs))
+  unfolding cellsAllowed found lookup
   lookup-has n [] h = tt
   lookup-has n (c ∷ cs) h = go (eqb (keyNumber c) n) (lookup-has n cs (t .1))
     where
-      t : (cellAllowed c ≡ true) × (allowed cs ≡ true)
-      t = and-true (cellAllowed c) (allowed cs) h
+      t : (cellAllowed c ≡ true) × (cellsAllowed cs ≡ true)
+      t = and-true (cellAllowed c) (cellsAllowed cs) h
 
       go : (b : Bool) → AnswerHas P (found (lookup n cs)) → AnswerHas P (found (cond b (some c) (lookup n cs)))
       go true r = every (c .value) (value-allowed c (t .0))
       go false r = r
 
-  query-has : (o : Option Query) (cs : List Cell) → allowed cs ≡ true → AnswerHas P (queryAnswer o cs)
+  query-has : (o : Option Query) (cs : List Cell) → cellsAllowed cs ≡ true → AnswerHas P (queryAnswer o cs)
   unfolding queryAnswer
   query-has none cs h = tt
   query-has (some (theCell k)) cs h = lookup-has (keyAsNumber k) cs h
@@ -94,7 +94,7 @@ module _ (P : Value → Type 0) (every : (v : Value) → valueAllowed v ≡ true
   unfolding askOf replied answer
   ask-has b n q = go (cellsHeld b n) refl
     where
-      by : (t : Bool) (cs : List Cell) → allowed cs ≡ true → AnswerHas P (cond t (answeredAsk (answer q cs)) (refusedAsk BadRequest) .answer)
+      by : (t : Bool) (cs : List Cell) → cellsAllowed cs ≡ true → AnswerHas P (cond t (answeredAsk (answer q cs)) (refusedAsk BadRequest) .answer)
       by true cs h = query-has (queryOf q) cs h
       by false cs h = tt
 

@@ -11,7 +11,7 @@ use lib.ListN.{length, getD, take, drop, length-append, length-drop, take-append
 use lib.Seq.{getD-drop, drop-append-seam, getD-at, length-take-le}
 use Rattle.cells.specs.Bytes.{pairAt, quadAt, octetAt}
 use Rattle.cells.specs.Cell.{Cell, keyAsNumber, keyNumber, keyAt, cellAllowed, cellBytes, kindByte}
-use Rattle.cells.specs.Store.{encode, allowed, above, rising, cells, cellsHeld}
+use Rattle.cells.specs.Store.{encode, cellsAllowed, above, rising, cells, cellsHeld}
 use Rattle.cells.specs.inner.Index.{offsets, Ready, keyIn, Sorted, First}
 use Rattle.cells.proofs.BigEndian.{and-true, key-at}
 use Rattle.cells.proofs.CellForm.{number-small, cell-key, cell-size, size-least, known-kind, key-allowed, value-allowed}
@@ -89,13 +89,13 @@ keys-rise (c ∷ cs) i zero e h l = absurd (omega arith)
 keys-rise (c ∷ cs) zero (suc j) e h l = above-at (keyNumber c) cs j (and-true (above (keyNumber c) cs) (rising cs) e .0) (omega arith)
 keys-rise (c ∷ cs) (suc i) (suc j) e h l = keys-rise cs i j (and-true (above (keyNumber c) cs) (rising cs) e .1) (omega arith) (omega arith)
 
-allowed-at : (xs : List Cell) (c : Cell) (ys : List Cell) → allowed (xs ++ (c ∷ ys)) ≡ true → cellAllowed c ≡ true
-unfolding allowed
-allowed-at [] c ys e = and-true (cellAllowed c) (allowed ys) e .0
-allowed-at (x ∷ xs) c ys e = allowed-at xs c ys (and-true (cellAllowed x) (allowed (xs ++ (c ∷ ys))) e .1)
+allowed-at : (xs : List Cell) (c : Cell) (ys : List Cell) → cellsAllowed (xs ++ (c ∷ ys)) ≡ true → cellAllowed c ≡ true
+unfolding cellsAllowed
+allowed-at [] c ys e = and-true (cellAllowed c) (cellsAllowed ys) e .0
+allowed-at (x ∷ xs) c ys e = allowed-at xs c ys (and-true (cellAllowed x) (cellsAllowed (xs ++ (c ∷ ys))) e .1)
 
-pub allowed-in : (cs xs : List Cell) (c : Cell) (ys : List Cell) → allowed cs ≡ true → cs ≡ xs ++ (c ∷ ys) → cellAllowed c ≡ true
-allowed-in cs xs c ys a e = allowed-at xs c ys (ap allowed (sym e) ∙ a)
+pub allowed-in : (cs xs : List Cell) (c : Cell) (ys : List Cell) → cellsAllowed cs ≡ true → cs ≡ xs ++ (c ∷ ys) → cellAllowed c ≡ true
+allowed-in cs xs c ys a e = allowed-at xs c ys (ap cellsAllowed (sym e) ∙ a)
 
 pub cell-least : (c : Cell) → cellAllowed c ≡ true → 12 ≤ length (cellBytes c)
 cell-least c a =

@@ -15,7 +15,7 @@ use Rattle.meaning.specs.declared.refusal.Refusal.the-variants.{BadRequest}
 use Rattle.cells.specs.Bytes.{pair}
 use Rattle.cells.specs.Cell.{Key, Cell, keyAsNumber, keyNumber, keyBytes, kindByte, valueBytes, cellBytes}
 use Rattle.cells.specs.Store.{encode, cellsHeld}
-use Rattle.cells.specs.Asking.{asked, questionAllowed, lookup, found, queryAnswer, answer, answeredAsk, refusedAsk, replied, askOf, cellStart, stringStart}
+use Rattle.cells.specs.Asking.{keyAsked, questionAllowed, lookup, found, queryAnswer, answer, answeredAsk, refusedAsk, replied, askOf, cellStart, stringStart}
 use Rattle.cells.proofs.Questions.{by-query}
 use Rattle.cells.proofs.Locating.{held-some}
 
@@ -84,6 +84,6 @@ string-stands b n q = go (cellsHeld b n) refl
         short : 0 + length (encode cs) ≤ n
         short = omega (arith, ap length (held-some b n cs e .holds .bytes), length-take-le n b (held-some b n cs e .inside))
 
-        by : (t : Bool) → Stands b n (cellStart (keyAsNumber (asked q)) cs + 9) (cond t (answeredAsk (answer q cs)) (refusedAsk BadRequest) .answer)
-        by true = by-query q (λ o. Stands b n (cellStart (keyAsNumber (asked q)) cs + 9) (queryAnswer o cs)) tt (moved b n (found (lookup (keyAsNumber (asked q)) cs)) (omega arith) (lookup-stands b n (keyAsNumber (asked q)) 0 cs (drop n b) bytes short)) tt tt
+        by : (t : Bool) → Stands b n (cellStart (keyAsNumber (keyAsked q)) cs + 9) (cond t (answeredAsk (answer q cs)) (refusedAsk BadRequest) .answer)
+        by true = by-query q (λ o. Stands b n (cellStart (keyAsNumber (keyAsked q)) cs + 9) (queryAnswer o cs)) tt (moved b n (found (lookup (keyAsNumber (keyAsked q)) cs)) (omega arith) (lookup-stands b n (keyAsNumber (keyAsked q)) 0 cs (drop n b) bytes short)) tt tt
         by false = tt

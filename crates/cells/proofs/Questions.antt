@@ -13,7 +13,7 @@ use Rattle.cells.specs.declared.Answered.{Answered}
 use Rattle.cells.specs.declared.Answered.the-variants.{Missing, Highest}
 use Rattle.cells.specs.Bytes.{pair, pairAt}
 use Rattle.cells.specs.Cell.{Key, keyOf, Cell, between, keyAllowed, keyBytes, keyAsNumber, cellBytes}
-use Rattle.cells.specs.Asking.{asked, Query, theCell, highestRecord, highestEntry, unused, queryOf, queryAllowed, questionAllowed, lookup, found, highestOf, ofParameter, ofRecord, queryAnswer, answer, stringStart, meant}
+use Rattle.cells.specs.Asking.{keyAsked, Query, theCell, highestRecord, highestEntry, unused, queryOf, queryAllowed, questionAllowed, lookup, found, highestOf, ofParameter, ofRecord, queryAnswer, answer, stringStart, meant}
 use Rattle.cells.specs.inner.Tests.{unusedZero}
 use Rattle.cells.specs.inner.Index as I
 use Rattle.cells.specs.inner.Index.{Ready, InStore, CellAnswer, Answers, reachOf, offsetOf}
@@ -90,11 +90,11 @@ and-none false = refl
 
 module _ (q : Question) where
   -- what holds of the three questions that the numbers can ask, and of none, holds of what they ask
-  pub by-query : (P : Option Query → Type 0) → P none → P (some (theCell (asked q))) → P (some (highestRecord (q .datasource) (q .parameter))) → P (some (highestEntry (q .datasource) (q .parameter) (q .«record»))) → P (queryOf q)
+  pub by-query : (P : Option Query → Type 0) → P none → P (some (theCell (keyAsked q))) → P (some (highestRecord (q .datasource) (q .parameter))) → P (some (highestEntry (q .datasource) (q .parameter) (q .«record»))) → P (queryOf q)
   unfolding queryOf unused
   by-query P n x y z = go (eqb (q .kind) 1) (eqb (q .kind) 2) (eqb (q .kind) 3) (eqb (q .«record») 0) (eqb (q .entry) 0)
     where
-      go : (a b c r e : Bool) → P (cond a (some (theCell (asked q))) (cond b (cond r (cond e (some (highestRecord (q .datasource) (q .parameter))) none) none) (cond c (cond e (some (highestEntry (q .datasource) (q .parameter) (q .«record»))) none) none)))
+      go : (a b c r e : Bool) → P (cond a (some (theCell (keyAsked q))) (cond b (cond r (cond e (some (highestRecord (q .datasource) (q .parameter))) none) none) (cond c (cond e (some (highestEntry (q .datasource) (q .parameter) (q .«record»))) none) none)))
       go true b c r e = x
       go false true c true true = y
       go false true c true false = n
@@ -104,21 +104,21 @@ module _ (q : Question) where
       go false false false r e = n
 
   -- a question is within its limits where its four numbers are, and those that its kind doesn't use are 0
-  pub by-numbers : questionAllowed q ≡ keyAllowed (asked q) && unusedZero q
+  pub by-numbers : questionAllowed q ≡ keyAllowed (keyAsked q) && unusedZero q
   unfolding questionAllowed queryOf queryAllowed unused unusedZero
   by-numbers = go (eqb (q .kind) 1) (eqb (q .kind) 2) (eqb (q .kind) 3) (eqb (q .«record») 0) refl (eqb (q .entry) 0) refl
     where
-      go : (a b c r : Bool) → eqb (q .«record») 0 ≡ r → (e : Bool) → eqb (q .entry) 0 ≡ e → queryAllowed (cond a (some (theCell (asked q))) (cond b (cond r (cond e (some (highestRecord (q .datasource) (q .parameter))) none) none) (cond c (cond e (some (highestEntry (q .datasource) (q .parameter) (q .«record»))) none) none))) ≡ keyAllowed (asked q) && cond a true (cond b (r && e) (cond c e false))
-      go true b c r i e j = sym (and-one (keyAllowed (asked q)))
+      go : (a b c r : Bool) → eqb (q .«record») 0 ≡ r → (e : Bool) → eqb (q .entry) 0 ≡ e → queryAllowed (cond a (some (theCell (keyAsked q))) (cond b (cond r (cond e (some (highestRecord (q .datasource) (q .parameter))) none) none) (cond c (cond e (some (highestEntry (q .datasource) (q .parameter) (q .«record»))) none) none))) ≡ keyAllowed (keyAsked q) && cond a true (cond b (r && e) (cond c e false))
+      go true b c r i e j = sym (and-one (keyAllowed (keyAsked q)))
       go false true c true i true j = rw (eqb-true (q .«record») 0 i, eqb-true (q .entry) 0 j) (sym (and-one (keyAllowed (keyOf (q .datasource) (q .parameter) 0 0))))
-      go false true c true i false j = sym (and-none (keyAllowed (asked q)))
-      go false true c false i e j = sym (and-none (keyAllowed (asked q)))
+      go false true c true i false j = sym (and-none (keyAllowed (keyAsked q)))
+      go false true c false i e j = sym (and-none (keyAllowed (keyAsked q)))
       go false false true r i true j = rw (eqb-true (q .entry) 0 j) (sym (and-one (keyAllowed (keyOf (q .datasource) (q .parameter) (q .«record») 0))))
-      go false false true r i false j = sym (and-none (keyAllowed (asked q)))
-      go false false false r i e j = sym (and-none (keyAllowed (asked q)))
+      go false false true r i false j = sym (and-none (keyAllowed (keyAsked q)))
+      go false false false r i e j = sym (and-none (keyAllowed (keyAsked q)))
 
   module _ (cs : List Cell) where
-    pub answer-one : q .kind ≡ 1 → answer q cs ≡ found (lookup (keyAsNumber (asked q)) cs)
+    pub answer-one : q .kind ≡ 1 → answer q cs ≡ found (lookup (keyAsNumber (keyAsked q)) cs)
     unfolding answer queryOf queryAnswer
     answer-one e = rw (eq-eqb _ _ e)
 
@@ -133,12 +133,12 @@ module _ (q : Question) where
 
 -- ---- the tests of `allowed`
 
-module _ (q : Question) (t : Bool) (k : t ≡ keyAllowed (asked q)) where
+module _ (q : Question) (t : Bool) (k : t ≡ keyAllowed (keyAsked q)) where
   pub refused-limits : not t ≡ true → false ≡ questionAllowed q
   refused-limits n = rw (by-numbers q, sym k ∙ not-true t n)
 
   module _ (n : not t ≡ false) where
-    inside : keyAllowed (asked q) ≡ true
+    inside : keyAllowed (keyAsked q) ≡ true
     inside = sym k ∙ not-false t n
 
     pub allowed-one : q .kind ≡ 1 → true ≡ questionAllowed q
@@ -174,13 +174,13 @@ module _ (b index : List ℕ) (count : ℕ) (q : Question) (t : Bool) (k : t ≡
     whole : questionAllowed q ≡ true
     whole = sym k ∙ not-false t n
 
-    parts : (keyAllowed (asked q) ≡ true) × (unusedZero q ≡ true)
-    parts = and-true (keyAllowed (asked q)) (unusedZero q) (sym (by-numbers q) ∙ whole)
+    parts : (keyAllowed (keyAsked q) ≡ true) × (unusedZero q ≡ true)
+    parts = and-true (keyAllowed (keyAsked q)) (unusedZero q) (sym (by-numbers q) ∙ whole)
 
-    pub key-inside : keyAllowed (asked q) ≡ true
+    pub key-inside : keyAllowed (keyAsked q) ≡ true
     key-inside = parts .0
 
-    module _ (key : ℕ) (e : key ≡ keyAsNumber (asked q)) where
+    module _ (key : ℕ) (e : key ≡ keyAsNumber (keyAsked q)) where
       pub answers-cell : q .kind ≡ 1 → (r : Answered) → CellAnswer b index count key r → Answers b index count q r
       unfolding stringStart
       answers-cell o r c = record { answer = λ m cs d. rw (whole, answer-one q cs o, ← e) (c .found m cs d); inside = λ m cs d. rw (← e) (c .inside m cs d) }
@@ -197,7 +197,7 @@ module _ (b index : List ℕ) (count : ℕ) (q : Question) (t : Bool) (k : t ≡
                 (eqb-true _ _ (a .0), eqb-true _ _ (a .1))
 
             range : Range (ofParameter (q .datasource) (q .parameter)) (λ c. c .key .recordNumber) key (key + 4294967296)
-            range = rw e (parameter-range (asked q) (limits (asked q) key-inside) (zeros .1) (zeros .0))
+            range = rw e (parameter-range (keyAsked q) (limits (keyAsked q) key-inside) (zeros .1) (zeros .0))
 
             go : (m : ℕ) (cs : List Cell) → Ready b m index count cs → highest r ≡ cond (questionAllowed q) (answer q cs) missing
             go m cs d =
@@ -216,7 +216,7 @@ module _ (b index : List ℕ) (count : ℕ) (q : Question) (t : Bool) (k : t ≡
             three = third (eqb (q .kind) 3) refl (rw (ne-eqb _ _ o, ne-eqb _ _ w) at (parts .1))
 
             range : Range (ofRecord (q .datasource) (q .parameter) (q .«record»)) (λ c. c .key .entryNumber) key (key + 65536)
-            range = rw e (record-range (asked q) (limits (asked q) key-inside) (three .1))
+            range = rw e (record-range (keyAsked q) (limits (keyAsked q) key-inside) (three .1))
 
             go : (m : ℕ) (cs : List Cell) → Ready b m index count cs → highest r ≡ cond (questionAllowed q) (answer q cs) missing
             go m cs d =

@@ -18,7 +18,7 @@ use Rattle.cells.specs.declared.Answered.the-variants.{Missing, Integer,
 use Rattle.cells.specs.declared.index.Indexed.{Indexed}
 use Rattle.cells.specs.declared.index.Indexed.the-variants.{Count, BadStore}
 use Rattle.cells.specs.Cell.{Cell, cellAllowed, cellBytes}
-use Rattle.cells.specs.Store.{encode, allowed, cellsHeld}
+use Rattle.cells.specs.Store.{encode, cellsAllowed, cellsHeld}
 use Rattle.cells.specs.inner.Index.{offsets, counted, Filled, Indexes, Ready, InStore, Answers}
 use Rattle.cells.specs.Asking.{questionAllowed, answer, refusedWith, replied, askOf, stringStart, handed, askedOf, meant}
 use Rattle.cells.proofs.BigEndian.{and-true}
@@ -61,11 +61,11 @@ some-counted none p p′ n e f = absurd (no-count (sym e))
 some-counted (some cs) p p′ n e f = record { cells = cs; held = refl; tally = cc; filled = f }
 
 -- 65,536 bytes hold at most 5,461 cells
-pub encode-least : (cs : List Cell) → allowed cs ≡ true → 12 * length cs ≤ length (encode cs)
-unfolding encode allowed
+pub encode-least : (cs : List Cell) → cellsAllowed cs ≡ true → 12 * length cs ≤ length (encode cs)
+unfolding encode cellsAllowed
 encode-least [] a = omega arith
 encode-least (c ∷ cs) a =
-    let t = and-true (cellAllowed c) (allowed cs) a in
+    let t = and-true (cellAllowed c) (cellsAllowed cs) a in
     omega (arith, length-append (cellBytes c) (encode cs), cell-least c (t .0), encode-least cs (t .1))
 
 module _ (b : List ℕ) (n : ℕ) (p p′ : List ℕ) (r : Indexed) (i : Indexes p (cellsHeld b n) p′ r) where

@@ -8,13 +8,13 @@ use native.Mathlib.Omega.{arith}
 use lib.ListN.{length, drop, length-append}
 use lib.Seq.{drop-append-seam}
 use Rattle.cells.specs.Cell.{Cell, cellAllowed, cellBytes, front}
-use Rattle.cells.specs.Store.{encode, allowed, rising, before, cellRun, ordered, cells}
+use Rattle.cells.specs.Store.{encode, cellsAllowed, rising, withFirst, cellRun, ordered, cells}
 use Rattle.cells.proofs.BigEndian.{and-true, both}
 use Rattle.cells.proofs.CellForm.{front-cell, Front, front-some}
 
 -- cells within the limits, with rising keys
 pub record Valid (cs : List Cell) : Type 0 where
-  pub allowed : allowed cs ≡ true
+  pub allowed : cellsAllowed cs ≡ true
   pub rising : rising cs ≡ true
 
 -- the run s is that of the cells cs
@@ -26,36 +26,36 @@ pub record Holds (s : List ℕ) (cs : List Cell) : Type 0 where
 
 abbrev continued : ℕ → List ℕ → Option Cell → Option (List Cell)
 continued n s none = none
-continued n s (some c) = before c (cellRun n (drop (length (cellBytes c)) s))
+continued n s (some c) = withFirst c (cellRun n (drop (length (cellBytes c)) s))
 
 run-step : (n b : ℕ) (t : List ℕ) → cellRun (suc n) (b ∷ t) ≡ continued n (b ∷ t) (front (b ∷ t))
 unfolding cellRun
 run-step n b t = go (front (b ∷ t))
   where
-    go : (o : Option Cell) → elim o [ none ↦ none | some c ↦ before c (cellRun n (drop (length (cellBytes c)) (b ∷ t))) ] ≡ continued n (b ∷ t) o
+    go : (o : Option Cell) → elim o [ none ↦ none | some c ↦ withFirst c (cellRun n (drop (length (cellBytes c)) (b ∷ t))) ] ≡ continued n (b ∷ t) o
     go none = refl
     go (some c) = refl
 
-run-cell : (c : Cell) (s : List ℕ) (n : ℕ) → cellAllowed c ≡ true → cellRun (suc n) (cellBytes c ++ s) ≡ before c (cellRun n s)
+run-cell : (c : Cell) (s : List ℕ) (n : ℕ) → cellAllowed c ≡ true → cellRun (suc n) (cellBytes c ++ s) ≡ withFirst c (cellRun n s)
 unfolding cellBytes
 run-cell c s n e =
-    run-step n _ _ ∙ ap (continued n (cellBytes c ++ s)) (front-cell c s e) ∙ ap (λ (x : List ℕ). before c (cellRun n x)) (drop-append-seam (cellBytes c) s)
+    run-step n _ _ ∙ ap (continued n (cellBytes c ++ s)) (front-cell c s e) ∙ ap (λ (x : List ℕ). withFirst c (cellRun n x)) (drop-append-seam (cellBytes c) s)
 
 pub cell-some : (c : Cell) → 0 < length (cellBytes c)
 unfolding cellBytes
 cell-some c = omega arith
 
-run-encode : (cs : List Cell) (n : ℕ) → length (encode cs) ≤ n → allowed cs ≡ true → cellRun n (encode cs) ≡ some cs
-unfolding encode allowed before cellRun
+run-encode : (cs : List Cell) (n : ℕ) → length (encode cs) ≤ n → cellsAllowed cs ≡ true → cellRun n (encode cs) ≡ some cs
+unfolding encode cellsAllowed withFirst cellRun
 run-encode [] zero h e = refl
 run-encode [] (suc n) h e = refl
 run-encode (c ∷ cs) zero h e = absurd (omega (arith, length-append (cellBytes c) (encode cs), cell-some c))
 run-encode (c ∷ cs) (suc n) h e =
-    let t = and-true (cellAllowed c) (allowed cs) e in
-    run-cell c (encode cs) n (t .0) ∙ ap (before c) (run-encode cs n (omega (arith, length-append (cellBytes c) (encode cs), cell-some c)) (t .1))
+    let t = and-true (cellAllowed c) (cellsAllowed cs) e in
+    run-cell c (encode cs) n (t .0) ∙ ap (withFirst c) (run-encode cs n (omega (arith, length-append (cellBytes c) (encode cs), cell-some c)) (t .1))
 
 abbrev Found : List ℕ → List Cell → Type 0
-Found s cs = (encode cs ≡ s) × (allowed cs ≡ true)
+Found s cs = (encode cs ≡ s) × (cellsAllowed cs ≡ true)
 
 pub some-inj : {A : Type 0} {x y : A} → some x ≡ some y → x ≡ y
 some-inj e = cc
@@ -64,16 +64,16 @@ pub none-some : {A : Type 0} {x : A} → none ≡ some x → ⊥
 none-some e = let z : _≡_ {A = ℕ} 0 1 = cc in omega arith
 
 run-stop : (s : List ℕ) (cs : List Cell) → cellRun zero s ≡ some cs → Found s cs
-unfolding cellRun encode allowed
+unfolding cellRun encode cellsAllowed
 run-stop [] cs e = subst (Found []) (some-inj e) (refl, refl)
 run-stop (b ∷ t) cs e = absurd (none-some e)
 
 run-more : (n : ℕ) → ((s : List ℕ) (cs : List Cell) → cellRun n s ≡ some cs → Found s cs) → (s : List ℕ) (cs : List Cell) → cellRun (suc n) s ≡ some cs → Found s cs
-unfolding cellRun encode allowed before
+unfolding cellRun encode cellsAllowed withFirst
 run-more n ih [] cs e = subst (Found []) (some-inj e) (refl, refl)
 run-more n ih (b ∷ t) cs e = go (front (b ∷ t)) refl (sym (run-step n b t) ∙ e)
   where
-    behind : (c : Cell) → Front (b ∷ t) c → (o : Option (List Cell)) → cellRun n (drop (length (cellBytes c)) (b ∷ t)) ≡ o → before c o ≡ some cs → Found (b ∷ t) cs
+    behind : (c : Cell) → Front (b ∷ t) c → (o : Option (List Cell)) → cellRun n (drop (length (cellBytes c)) (b ∷ t)) ≡ o → withFirst c o ≡ some cs → Found (b ∷ t) cs
     behind c f none r x = absurd (none-some x)
     behind c f (some ds) r x =
         let g = ih (drop (length (cellBytes c)) (b ∷ t)) ds r in

@@ -16,8 +16,8 @@ use mir.Val.{SFits, toZ, ofZ}
 use mir.ValLaws.{toZ-ofZ}
 use Rattle.meaning.specs.Answer.{integer, decimal, string, cell}
 use Rattle.cells.specs.declared.Answered.the-variants.{Missing, Integer, Decimal, StringAt}
-use Rattle.cells.specs.Bytes.{quadAt, octetAt, fromComplement, word, long}
-use Rattle.cells.specs.Cell.{Kind, integers, decimals, strings, kinds, rowIn, kindByte, integerKind, decimalKind, Cell, cellAllowed, cellBytes, cellBy, cellOf}
+use Rattle.cells.specs.Bytes.{quadAt, octetAt, fromComplement, wordRange, longRange}
+use Rattle.cells.specs.Cell.{Kind, integerRow, decimalRow, stringRow, kinds, rowIn, kindByte, integerKind, decimalKind, Cell, cellAllowed, cellBytes, cellBy, cellOf}
 use Rattle.cells.specs.inner.Tests.{sizeOf}
 use Rattle.cells.specs.Asking.{meant}
 use Rattle.cells.specs.inner.Index.{InStore, ValueAt, SizeAt}
@@ -102,19 +102,19 @@ module _ (b : List ℕ) (at : ℕ) where
   unfolding InStore
   value-short room size r s h = record { value = λ c q a e. absurd (omega (arith, has-room c q a e)); inside = λ c q a e. tt }
 
-  pub value-integer : getD b at 0 ≡ integerKind → (n : ℕ) → n ≡ quadAt b (at + 8) → (z : ℤ) → z ≡ fromComplement word n → ValueAt b at (Integer z)
+  pub value-integer : getD b at 0 ≡ integerKind → (n : ℕ) → n ≡ quadAt b (at + 8) → (z : ℤ) → z ≡ fromComplement wordRange n → ValueAt b at (Integer z)
   unfolding meant InStore
   value-integer k n q z s =
       record {
-        value = λ c r a e. ap (λ (x : ℤ). cell (integer x)) (s ∙ ap (fromComplement word) (q ∙ sym (quad-at (drop at b) 8 0 ∙ quad-at b at 8))) ∙ ap cell (value-by c r a e integers (rw (eq-eqb _ _ k)));
+        value = λ c r a e. ap (λ (x : ℤ). cell (integer x)) (s ∙ ap (fromComplement wordRange) (q ∙ sym (quad-at (drop at b) 8 0 ∙ quad-at b at 8))) ∙ ap cell (value-by c r a e integerRow (rw (eq-eqb _ _ k)));
         inside = λ c r a e. tt;
       }
 
-  pub value-decimal : (getD b at 0 ≡ integerKind → ⊥) → getD b at 0 ≡ decimalKind → (n : ℕ) → n ≡ octetAt b (at + 8) → (z : ℤ) → z ≡ fromComplement long n → ValueAt b at (Decimal z)
+  pub value-decimal : (getD b at 0 ≡ integerKind → ⊥) → getD b at 0 ≡ decimalKind → (n : ℕ) → n ≡ octetAt b (at + 8) → (z : ℤ) → z ≡ fromComplement longRange n → ValueAt b at (Decimal z)
   unfolding meant InStore
   value-decimal j k n q z s =
       record {
-        value = λ c r a e. ap (λ (x : ℤ). cell (decimal x)) (s ∙ ap (fromComplement long) (q ∙ sym (octet-at (drop at b) 8 0 ∙ octet-at b at 8))) ∙ ap cell (value-by c r a e decimals (rw (ne-eqb _ _ j, eq-eqb _ _ k)));
+        value = λ c r a e. ap (λ (x : ℤ). cell (decimal x)) (s ∙ ap (fromComplement longRange) (q ∙ sym (octet-at (drop at b) 8 0 ∙ octet-at b at 8))) ∙ ap cell (value-by c r a e decimalRow (rw (ne-eqb _ _ j, eq-eqb _ _ k)));
         inside = λ c r a e. tt;
       }
 
@@ -133,7 +133,7 @@ module _ (b : List ℕ) (at : ℕ) where
         record {
           value = λ c r a e.
               ap₂ (λ (x : ℕ) (l : List ℕ). cell (string (take x l))) (q ∙ sym (getD-drop 8 (drop at b) 0 0 ∙ getD-drop at b 8 0)) (sym (drop-drop 1 8 (drop at b) ∙ drop-drop 9 at b))
-              ∙ ap cell (value-by c r a e strings (string-row _ j k (known c r a e)));
+              ∙ ap cell (value-by c r a e stringRow (string-row _ j k (known c r a e)));
           inside = λ c r a e.
               let s : getD (cellBytes c ++ r) 8 0 ≤ 16 = string-short (c .key) (c .value) r (value-allowed c a) (λ z. j (kind-is c r a e ∙ z)) (λ z. k (kind-is c r a e ∙ z)) in
               let z : length (cellBytes c) ≡ 25 = cell-size (c .key) (c .value) (value-allowed c a) ∙ ap sizeOf (sym (kind-is c r a e)) ∙ size-string _ j k (known c r a e) in

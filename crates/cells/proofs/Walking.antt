@@ -15,7 +15,7 @@ use Rattle.cells.specs.declared.index.Indexed.{Indexed}
 use Rattle.cells.specs.declared.index.Indexed.the-variants.{Count, BadStore}
 use Rattle.cells.specs.Cell.{Cell, keyAsNumber, keyNumber, keyAt, cellAllowed, cellBytes, front}
 use Rattle.cells.specs.inner.Tests.{sizeFound, frontSize, Sized}
-use Rattle.cells.specs.Store.{encode, allowed, above, rising, cells, cellsHeld}
+use Rattle.cells.specs.Store.{encode, cellsAllowed, above, rising, cells, cellsHeld}
 use Rattle.cells.specs.inner.Index.{offsets, counted, Filled, Indexes}
 use Rattle.cells.proofs.BigEndian.{and-true, both, append-same}
 use Rattle.cells.proofs.CellForm.{cell-key, front-cell, Front, front-some}
@@ -28,11 +28,11 @@ unfolding encode
 encode-append [] ys = refl
 encode-append (x ∷ xs) ys = ap (λ (l : List ℕ). cellBytes x ++ l) (encode-append xs ys) ∙ sym (append-assoc (cellBytes x) (encode xs) (encode ys))
 
-pub allowed-append : (xs ys : List Cell) → allowed xs ≡ true → allowed ys ≡ true → allowed (xs ++ ys) ≡ true
-unfolding allowed
+pub allowed-append : (xs ys : List Cell) → cellsAllowed xs ≡ true → cellsAllowed ys ≡ true → cellsAllowed (xs ++ ys) ≡ true
+unfolding cellsAllowed
 allowed-append [] ys e f = f
 allowed-append (x ∷ xs) ys e f =
-    let t = and-true (cellAllowed x) (allowed xs) e in
+    let t = and-true (cellAllowed x) (cellsAllowed xs) e in
     both (t .0) (allowed-append xs ys (t .1) f)
 
 pub offsets-append : (xs ys : List Cell) (at : ℕ) → offsets at (xs ++ ys) ≡ offsets at xs ++ offsets (at + length (encode xs)) ys
@@ -88,15 +88,15 @@ pub record Behind (xs cs : List Cell) (r : List ℕ) : Type 0 where
   pub rest : List Cell
   pub cells : cs ≡ xs ++ rest
   pub bytes : encode rest ≡ r
-  pub allowed : allowed rest ≡ true
+  pub allowed : cellsAllowed rest ≡ true
 
-pub behind : (xs cs : List Cell) (r : List ℕ) → allowed xs ≡ true → allowed cs ≡ true → encode cs ≡ encode xs ++ r → Behind xs cs r
-unfolding encode allowed
+pub behind : (xs cs : List Cell) (r : List ℕ) → cellsAllowed xs ≡ true → cellsAllowed cs ≡ true → encode cs ≡ encode xs ++ r → Behind xs cs r
+unfolding encode cellsAllowed
 behind [] cs r a b e = record { rest = cs; cells = refl; bytes = e; allowed = b }
 behind (x ∷ xs) [] r a b e = absurd (omega (arith, ap length e, length-append (cellBytes x ++ encode xs) r, length-append (cellBytes x) (encode xs), cell-some x))
 behind (x ∷ xs) (c ∷ cs) r a b e =
-    let p = and-true (cellAllowed x) (allowed xs) a in
-    let q = and-true (cellAllowed c) (allowed cs) b in
+    let p = and-true (cellAllowed x) (cellsAllowed xs) a in
+    let q = and-true (cellAllowed c) (cellsAllowed cs) b in
     let f : cellBytes c ++ encode cs ≡ cellBytes x ++ (encode xs ++ r) = e ∙ append-assoc (cellBytes x) (encode xs) r in
     let s : some c ≡ some x = sym (front-cell c (encode cs) (q .0)) ∙ ap front f ∙ front-cell x (encode xs ++ r) (p .0) in
     let w : c ≡ x = cc in
@@ -129,7 +129,7 @@ pub record Walked (bs places₀ : List ℕ) (at count least : ℕ) (starts : Lis
   pub next : (c : Cell) (cs : List Cell) → rising (read ++ (c ∷ cs)) ≡ true → least ≤ keyNumber c
 
 pub walk-start : (bs starts : List ℕ) → Walked bs starts 0 0 0 starts
-unfolding encode offsets allowed rising
+unfolding encode offsets cellsAllowed rising
 walk-start bs starts =
     record {
       read = [];
@@ -173,7 +173,7 @@ module _ (bs places₀ : List ℕ) (at count least : ℕ) (starts : List ℕ) (w
         ∙ ap (sets places₀ 0) (sym (offsets-append (w .read) (c ∷ []) 0))
 
     one-more : 1 ≤ size → Walked bs places₀ (at + size) (count + 1) (key + 1) (set starts count at)
-    unfolding allowed
+    unfolding cellsAllowed
     one-more h =
         record {
           read = w .read ++ (c ∷ []);
@@ -195,13 +195,13 @@ module _ (bs places₀ : List ℕ) (at count least : ℕ) (starts : List ℕ) (w
   -- a refusal: no run of cells can go on like this
   module _ (more : at < length bs) where
     none-held : ((c : Cell) (cs : List Cell) → front (drop at bs) ≡ some c → rising (w .read ++ (c ∷ cs)) ≡ true → drop at bs ≡ cellBytes c ++ encode cs → ⊥) → cells bs ≡ none
-    unfolding encode allowed
+    unfolding encode cellsAllowed
     none-held never = go (cells bs) refl
       where
-        found : (cs : List Cell) → Holds bs cs → (rest : List Cell) → cs ≡ w .read ++ rest → encode rest ≡ drop at bs → allowed rest ≡ true → ⊥
+        found : (cs : List Cell) → Holds bs cs → (rest : List Cell) → cs ≡ w .read ++ rest → encode rest ≡ drop at bs → cellsAllowed rest ≡ true → ⊥
         found cs h [] q r a = omega (arith, ap length r, length-drop at bs)
         found cs h (c ∷ rest) q r a =
-            let t = and-true (cellAllowed c) (allowed rest) a in
+            let t = and-true (cellAllowed c) (cellsAllowed rest) a in
             never c rest (ap front (sym r) ∙ front-cell c (encode rest) (t .0)) (ap rising (sym q) ∙ h .valid .rising) (sym r)
 
         go : (o : Option (List Cell)) → cells bs ≡ o → o ≡ none

@@ -21,8 +21,8 @@ use Rattle.cells.specs.Cell.{Key, keyOf, Cell, keyAsNumber, keyNumber, k
 use Rattle.cells.specs.Store.{cellsHeld}
 
 -- the key that the four numbers are
-abbrev pub asked : Question → Key
-asked q = keyOf (q .datasource) (q .parameter) (q .«record») (q .entry)
+abbrev pub keyAsked : Question → Key
+keyAsked q = keyOf (q .datasource) (q .parameter) (q .«record») (q .entry)
 
 -- What is asked, by its kind, with the numbers that are used for it.
 pub data Query : Type 0 where
@@ -42,7 +42,7 @@ unfoldable pub queryOf : Question → Option Query
 queryOf q =
     cond
     (eqb (q .kind) 1)
-    (some (theCell (asked q)))
+    (some (theCell (keyAsked q)))
     (cond
     (eqb (q .kind) 2)
     (unused (q .«record») (unused (q .entry) (some (highestRecord (q .datasource) (q .parameter)))))
@@ -124,7 +124,7 @@ cellStart n (c ∷ cs) = cond (eqb (keyNumber c) n) 0 (length (cellBytes c) + ce
 -- string that is answered begin in the store
 unfoldable pub stringStart : Question → Option (List Cell) → ℕ
 stringStart q none = 0
-stringStart q (some cs) = cellStart (keyAsNumber (asked q)) cs + (1 + 7 + 1)
+stringStart q (some cs) = cellStart (keyAsNumber (keyAsked q)) cs + (1 + 7 + 1)
 
 -- an answer as it is handed back: a string as a part of the store, by its place and its length
 unfoldable pub handed : ℕ → Answer → Answered

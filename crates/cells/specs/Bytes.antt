@@ -34,11 +34,11 @@ inComplement m (negsuc n) = m - suc n
 unfoldable pub fromComplement : ℕ → ℕ → ℤ
 fromComplement m n = cond (ltb (2 * n) m) (pos n) (negsuc (m - suc n))
 
-abbrev pub word : ℕ
-word = 4294967296
+abbrev pub wordRange : ℕ
+wordRange = 4294967296
 
-abbrev pub long : ℕ
-long = 18446744073709551616
+abbrev pub longRange : ℕ
+longRange = 18446744073709551616
 
 -- s begins with p; s is p
 unfoldable pub begins : List ℕ → List ℕ → Bool

@@ -10,7 +10,7 @@ use Rattle.meaning.specs.Answer.{Value, integer, decimal, string}
 use Rattle.meaning.specs.Answer as A
 use Rattle.numbers.specs.declared.Quantity.the-variants as Q
 use Rattle.numbers.specs.Range.{integerLimit, decimalLimit, within}
-use Rattle.cells.specs.Bytes.{pair, quad, octet, pairAt, quadAt, octetAt, inComplement, fromComplement, word, long, begins, equalBytes}
+use Rattle.cells.specs.Bytes.{pair, quad, octet, pairAt, quadAt, octetAt, inComplement, fromComplement, wordRange, longRange, begins, equalBytes}
 
 -- "Key: datasource 1–35 (1 byte), parameter 1–65,535, record 0–999, entry 0–999 (2 bytes each)."
 pub record Key : Type 0 where
@@ -65,34 +65,34 @@ pub record Kind : Type 1 where
   pub read : List ℕ → Body
 
 -- "0x49 integer (4 bytes)"; "Values lie within ±2,000,000,000"
-abbrev pub integers : Kind
-integers =
+abbrev pub integerRow : Kind
+integerRow =
     record {
       Body = ℤ;
       value = integer;
       byte = 73;
       size = 4;
       allowed = within integerLimit;
-      bytes = λ z. quad (inComplement word z);
-      read = λ s. fromComplement word (quadAt s 0);
+      bytes = λ z. quad (inComplement wordRange z);
+      read = λ s. fromComplement wordRange (quadAt s 0);
     }
 
 -- "0x46 decimal (8 bytes, a count of millionths)"; "so within ±2×10^15 millionths"
-abbrev pub decimals : Kind
-decimals =
+abbrev pub decimalRow : Kind
+decimalRow =
     record {
       Body = ℤ;
       value = decimal;
       byte = 70;
       size = 8;
       allowed = within decimalLimit;
-      bytes = λ z. octet (inComplement long z);
-      read = λ s. fromComplement long (octetAt s 0);
+      bytes = λ z. octet (inComplement longRange z);
+      read = λ s. fromComplement longRange (octetAt s 0);
     }
 
 -- "0x53 string (a length 0–16, then 16 bytes: that many of 0x20–0x7E, the rest zero)"
-abbrev pub strings : Kind
-strings =
+abbrev pub stringRow : Kind
+stringRow =
     record {
       Body = List ℕ;
       value = string;
@@ -105,7 +105,7 @@ strings =
 
 -- "Kinds: 0x49 integer .., 0x46 decimal .., 0x53 string"
 abbrev pub kinds : List Kind
-kinds = integers ∷ decimals ∷ strings ∷ []
+kinds = integerRow ∷ decimalRow ∷ stringRow ∷ []
 
 -- the row with a byte of kind
 abbrev pub rowIn : List Kind → ℕ → Option Kind
@@ -118,9 +118,9 @@ pub record Kinded : Type 1 where
   pub body : kind .Body
 
 abbrev pub kindAndBody : Value → Kinded
-kindAndBody (A.number (Q.Integer z)) = record { kind = integers; body = z }
-kindAndBody (A.number (Q.Decimal z)) = record { kind = decimals; body = z }
-kindAndBody (string t) = record { kind = strings; body = t }
+kindAndBody (A.number (Q.Integer z)) = record { kind = integerRow; body = z }
+kindAndBody (A.number (Q.Decimal z)) = record { kind = decimalRow; body = z }
+kindAndBody (string t) = record { kind = stringRow; body = t }
 
 -- the columns of a value's row
 unfoldable pub kindByte : Value → ℕ
@@ -133,13 +133,13 @@ unfoldable pub valueBytes : Value → List ℕ
 valueBytes v = kindAndBody v .kind .bytes (kindAndBody v .body)
 
 abbrev pub integerKind : ℕ
-integerKind = integers .byte
+integerKind = integerRow .byte
 
 abbrev pub decimalKind : ℕ
-decimalKind = decimals .byte
+decimalKind = decimalRow .byte
 
 abbrev pub stringKind : ℕ
-stringKind = strings .byte
+stringKind = stringRow .byte
 
 -- ---- cells
 

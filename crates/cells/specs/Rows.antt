@@ -11,7 +11,7 @@ use Rattle.meaning.specs.declared.question.Question.{Question}
 use Rattle.numbers.specs.Range.{within}
 use Rattle.cells.specs.Bytes.{pair, quad, octet, pairAt, quadAt, octetAt, inComplement, fromComplement, begins}
 use Rattle.cells.specs.Cell.{Key, keyOf, Cell, between, keyAllowed, keyBytes, keyAsNumber, each, valueAllowed, cellAllowed, kindByte, valueBytes, cellBytes, keyAt, cellBy, cellOf, passing, front}
-use Rattle.cells.specs.Store.{encode, above, rising, before, cellRun, ordered, cells}
+use Rattle.cells.specs.Store.{encode, above, rising, withFirst, cellRun, ordered, cells}
 use Rattle.cells.specs.Asking.{lookup, found, unused, queryOf, queryAllowed, questionAllowed, highestOf, ofParameter, ofRecord, queryAnswer, answer, cellStart, stringStart}
 
 abbrev cellWith : Key → Value → Cell
@@ -87,7 +87,7 @@ unfolding
     encode
     above
     rising
-    before
+    withFirst
     cellRun
     ordered
     cells

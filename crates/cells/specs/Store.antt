@@ -16,9 +16,9 @@ encode [] = []
 encode (c ∷ cs) = cellBytes c ++ encode cs
 
 -- every cell lies within the limits
-unfoldable pub allowed : List Cell → Bool
-allowed [] = true
-allowed (c ∷ cs) = cellAllowed c && allowed cs
+unfoldable pub cellsAllowed : List Cell → Bool
+cellsAllowed [] = true
+cellsAllowed (c ∷ cs) = cellAllowed c && cellsAllowed cs
 
 -- every key is above n
 unfoldable pub above : ℕ → List Cell → Bool
@@ -31,9 +31,9 @@ rising [] = true
 rising (c ∷ cs) = above (keyNumber c) cs && rising cs
 
 -- with a cell put before what was read
-unfoldable pub before : Cell → Option (List Cell) → Option (List Cell)
-before c none = none
-before c (some cs) = some (c ∷ cs)
+unfoldable pub withFirst : Cell → Option (List Cell) → Option (List Cell)
+withFirst c none = none
+withFirst c (some cs) = some (c ∷ cs)
 
 -- the cells that s is a run of, at most n of them, or none
 unfoldable pub cellRun : ℕ → List ℕ → Option (List Cell)
@@ -41,7 +41,7 @@ cellRun zero s = elim s [ [] ↦ some [] | b ∷ t ↦ none ]
 cellRun (suc n) s =
     elim s [
       | [] ↦ some []
-      | b ∷ t ↦ elim (front (b ∷ t)) [ none ↦ none | some c ↦ before c (cellRun n (drop (length (cellBytes c)) (b ∷ t))) ]
+      | b ∷ t ↦ elim (front (b ∷ t)) [ none ↦ none | some c ↦ withFirst c (cellRun n (drop (length (cellBytes c)) (b ∷ t))) ]
     ]
 
 unfoldable pub ordered : Option (List Cell) → Option (List Cell)

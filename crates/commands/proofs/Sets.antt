@@ -22,7 +22,7 @@ use Rattle.commands.specs.declared.settle.Taken.{Taken}
 use Rattle.commands.specs.declared.settle.Taken.the-variants.{Value, Refused}
 use Rattle.commands.specs.declared.settle.Assigned.{Assigned}
 use Rattle.commands.specs.declared.settle.Assigned.the-variants as Ve
-use Rattle.commands.specs.Settling.{Settled, settled, against, resultOf}
+use Rattle.commands.specs.Settling.{Settled, settled, refusedFor, resultOf}
 use Rattle.commands.specs.Setting.{asVariable, newFrom, integerNew, decimalNew, stringNew, withIntegers, withDecimals, withStrings, setOf}
 use Rattle.commands.specs.inner.Taking.{takenOf, verdictOf, mapped, Takes}
 use Rattle.commands.specs.inner.Assigning.{Rowed, StoresNumber, StoresString, Assigns}
@@ -54,7 +54,7 @@ module _ (l : List ℤ) (from n : ℕ) (t : Taken) where
 -- what is stored, put into the machine
 stored-in : {A B C : Type 0} (f : A → B) (a : A) (x : Settled A) (y : Settled C) → x ≡ mapped (λ _. a) y → mapped f x ≡ mapped (λ _. f a) y
 stored-in f a x (settled c) e = rw e
-stored-in f a x (against r) e = rw e
+stored-in f a x (refusedFor r) e = rw e
 
 module _ (line store : List ℕ) (numbers : List ℤ) (rows : List (List ℕ)) (words : List ℕ) (o : Operation) (t : Target) (w : Worth) (n : ℕ) (v : Assigned) (r : Rowed rows) where
   abbrev Here : Strings

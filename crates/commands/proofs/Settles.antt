@@ -16,19 +16,19 @@ use Rattle.values.specs.declared.worth.Worth.the-variants as W
 use Rattle.values.specs.inner.Yielding.{meant}
 use Rattle.commands.specs.declared.settle.Taken.{Taken}
 use Rattle.commands.specs.declared.settle.Taken.the-variants.{Value, Refused}
-use Rattle.commands.specs.Settling.{settled, against, integerFrom, quantityFrom, decimalFrom, resultOf, millionthsOf}
+use Rattle.commands.specs.Settling.{settled, refusedFor, integerFrom, quantityFrom, decimalFrom, resultOf, millionthsOf}
 use Rattle.commands.specs.inner.Taking.{takenOf, integerOr, Takes}
 
 module _ (n : Number) where
-  pub result-value : (z m : ℤ) → n ≡ N.Value z → m ≡ z → settled m ≡ resultOf (resultIn n)
+  pub result-value : (z m : ℤ) → n ≡ N.Computed z → m ≡ z → settled m ≡ resultOf (resultIn n)
   unfolding resultOf
   result-value z m h e = rw (h, e)
 
-  pub result-zero : n ≡ N.ZeroDivisor → against R.ZeroDivisor ≡ resultOf (resultIn n)
+  pub result-zero : n ≡ N.ZeroDivisor → refusedFor R.ZeroDivisor ≡ resultOf (resultIn n)
   unfolding resultOf
   result-zero h = rw h
 
-  pub result-out : n ≡ N.OutOfRange → against R.OutOfRange ≡ resultOf (resultIn n)
+  pub result-out : n ≡ N.OutOfRange → refusedFor R.OutOfRange ≡ resultOf (resultIn n)
   unfolding resultOf
   result-out h = rw h
 

@@ -21,7 +21,7 @@ use Rattle.commands.specs.declared.settle.Phrase.{Phrase}
 use Rattle.commands.specs.declared.settle.Phrase.the-variants.{String, NoString}
 use Rattle.commands.specs.declared.settle.Judged.{Judged}
 use Rattle.commands.specs.declared.settle.Judged.the-variants.{Holds, Refused}
-use Rattle.commands.specs.Settling.{settled, against}
+use Rattle.commands.specs.Settling.{settled, refusedFor}
 use Rattle.commands.specs.Testing.{zeroTest, zeroJudged, ofNumbers, ofStrings, judged, compared}
 use Rattle.commands.specs.inner.Kinds.{comparandsOf, numbersHold}
 use Rattle.commands.specs.declared.test.Comparands.{Comparands}
@@ -46,12 +46,12 @@ module _ (c : Comparison) (v w : Worth) (a : Amount) (d : TakesQuantity v a) whe
     numbers-both q r k e = record { same = λ s. rw (← (d .same s), ← (d′ .same s), h, k, e) }
 
 module _ (s : Strings) (i : Bool) (v w : Worth) (a : Phrase) (d : TakesText v a) where
-  pub strings-first : (e : Refusal) → a ≡ NoString e → against e ≡ ofStrings i (meant s v) (meant s w)
+  pub strings-first : (e : Refusal) → a ≡ NoString e → refusedFor e ≡ ofStrings i (meant s v) (meant s w)
   unfolding ofStrings
   strings-first e h = rw (← (d .same s), h)
 
   module _ (p : Text) (h : a ≡ String p) (b : Phrase) (d′ : TakesText w b) where
-    pub strings-second : (e : Refusal) → b ≡ NoString e → against e ≡ ofStrings i (meant s v) (meant s w)
+    pub strings-second : (e : Refusal) → b ≡ NoString e → refusedFor e ≡ ofStrings i (meant s v) (meant s w)
     unfolding ofStrings
     strings-second e k = rw (← (d .same s), ← (d′ .same s), h, k)
 
@@ -83,12 +83,12 @@ kind-numbers Greater v w h = refl
 kind-numbers AtLeast v w h = refl
 
 module _ (s : Strings) (c : Comparison) (v w : Worth) (a : Bool) (d : Lacks v a) where
-  pub compared-first : a ≡ true → against R.MissingArgument ≡ compared c (meant s v) (meant s w)
+  pub compared-first : a ≡ true → refusedFor R.MissingArgument ≡ compared c (meant s v) (meant s w)
   unfolding compared
   compared-first h = rw (← (d .same s), h)
 
   module _ (h : a ≡ false) (b : Bool) (d′ : Lacks w b) where
-    pub compared-second : b ≡ true → against R.MissingArgument ≡ compared c (meant s v) (meant s w)
+    pub compared-second : b ≡ true → refusedFor R.MissingArgument ≡ compared c (meant s v) (meant s w)
     unfolding compared
     compared-second k = rw (← (d .same s), ← (d′ .same s), h, k)
 

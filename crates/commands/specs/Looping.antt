@@ -14,14 +14,14 @@ use Rattle.lines.specs.declared.command.Optional.{Optional}
 use Rattle.lines.specs.declared.command.Optional.the-variants.{Given, Absent}
 use Rattle.values.specs.Machine.{Machine}
 use Rattle.commands.specs.declared.table.Table.{Table}
-use Rattle.commands.specs.Settling.{Settled, settled, against, concluded, integerMeaning}
+use Rattle.commands.specs.Settling.{Settled, settled, refusedFor, concluded, integerMeaning}
 
 -- "LOOP is the innermost table's counter, 0 outside"; the open tables stand the innermost first
 unfoldable pub loop : List Table → ℕ
 loop [] = 0
 loop (t ∷ ts) = t .counter
 
--- the open tables, and whether the run goes on where the line leads
+-- the open tables, and whether the run goes on elsewhere than at the next line: for $BT behind its $ET, for $ET at the line after $BT
 pub record Looping : Type 0 where
   pub tables : List Table
   pub elsewhere : Bool
@@ -62,7 +62,7 @@ counting ts c =
 
 -- "$ET adds k"; 13: "or $ET's k is below 1"
 unfoldable pub counted : List Table → ℤ → Settled Looping
-counted ts k = cond (ltZ k (pos 1)) (against OutOfRange) (settled (counting ts (innermost ts .counter + natAbs k)))
+counted ts k = cond (ltZ k (pos 1)) (refusedFor OutOfRange) (settled (counting ts (innermost ts .counter + natAbs k)))
 
 -- "$ET [k]"; "(default 1)"
 unfoldable pub endMeaning : Machine → List ℕ → ℕ → List Table → Optional → Meaning Looping

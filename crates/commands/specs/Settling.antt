@@ -19,41 +19,41 @@ use Rattle.values.specs.Meanings.{argumentMeaning}
 
 pub data Settled (A : Type 0) : Type 0 where
   settled : A → Settled A
-  against : Refusal → Settled A
+  refusedFor : Refusal → Settled A
 
 abbrev pub andThen : {A B : Type 0} → Settled A → (A → Settled B) → Settled B
 andThen (settled a) f = f a
-andThen (against e) f = against e
+andThen (refusedFor e) f = refusedFor e
 
 -- behind the arguments' 8 and 9: "then 10 to 14"
 abbrev pub concluded : {A : Type 0} → ℕ → Settled A → Meaning A
 concluded line (settled a) = done a
-concluded line (against e) = stop e line
+concluded line (refusedFor e) = stop e line
 
 -- 10: "A command's argument is missing." 11: "A value has the wrong kind."
 unfoldable pub integerFrom : Worth → Settled ℤ
-integerFrom missing = against MissingArgument
-integerFrom wrong = against WrongKind
+integerFrom missing = refusedFor MissingArgument
+integerFrom wrong = refusedFor WrongKind
 integerFrom (number (Integer z)) = settled z
-integerFrom (number (Decimal z)) = against WrongKind
-integerFrom (string s) = against WrongKind
+integerFrom (number (Decimal z)) = refusedFor WrongKind
+integerFrom (string s) = refusedFor WrongKind
 
 unfoldable pub quantityFrom : Worth → Settled Quantity
-quantityFrom missing = against MissingArgument
-quantityFrom wrong = against WrongKind
+quantityFrom missing = refusedFor MissingArgument
+quantityFrom wrong = refusedFor WrongKind
 quantityFrom (number q) = settled q
-quantityFrom (string s) = against WrongKind
+quantityFrom (string s) = refusedFor WrongKind
 
 unfoldable pub stringFrom : Worth → Settled (List ℕ)
-stringFrom missing = against MissingArgument
-stringFrom wrong = against WrongKind
-stringFrom (number q) = against WrongKind
+stringFrom missing = refusedFor MissingArgument
+stringFrom wrong = refusedFor WrongKind
+stringFrom (number q) = refusedFor WrongKind
 stringFrom (string s) = settled s
 
 -- 12: "The divisor is zero." 13: "A result is out of range"
 unfoldable pub resultOf : N.Result → Settled ℤ
 resultOf (N.success z) = settled z
-resultOf (N.noResult n) = against (cond (eqb n 12) ZeroDivisor OutOfRange)
+resultOf (N.noResult n) = refusedFor (cond (eqb n 12) ZeroDivisor OutOfRange)
 
 -- a number where a decimal is taken
 unfoldable pub millionthsOf : Quantity → Settled ℤ

@@ -25,7 +25,7 @@ fn integer_result(o: Operation, a: i64, b: i64) -> Number
     ensures { λ r. ⌜ resultIn r ≡ integerResult o a b ⌝ }
 {
     match o {
-        Operation::Assign => Number::Value(b),
+        Operation::Assign => Number::Computed(b),
         Operation::Add => integer::add(a, b),
         Operation::Subtract => integer::subtract(a, b),
         Operation::Multiply => integer::multiply(a, b),
@@ -37,7 +37,7 @@ fn decimal_result(o: Operation, a: i64, b: i64) -> Number
     ensures { λ r. ⌜ resultIn r ≡ decimalResult o a b ⌝ }
 {
     match o {
-        Operation::Assign => Number::Value(b),
+        Operation::Assign => Number::Computed(b),
         Operation::Add => decimal::add(a, b),
         Operation::Subtract => decimal::subtract(a, b),
         Operation::Multiply => decimal::multiply(a, b),

@@ -45,7 +45,7 @@ pub fn result_of(number: Number) -> Taken
     ensures { λ r. ⌜ takenOf r ≡ resultOf (resultIn number) ⌝ }
 {
     match number {
-        Number::Value(z) => Taken::Value(z),
+        Number::Computed(z) => Taken::Value(z),
         Number::ZeroDivisor => Taken::Refused(Refusal::ZeroDivisor),
         Number::OutOfRange => Taken::Refused(Refusal::OutOfRange),
     }

@@ -24,7 +24,7 @@ use Rattle.values.specs.Worth.{Worth}
 use Rattle.values.specs.Meanings.{argumentMeaning}
 use Rattle.values.proofs.Allowed.{Allowed, AsksAllowed, argument-asks, fetch-asks}
 use Rattle.commands.specs.declared.table.Table.{Table}
-use Rattle.commands.specs.Settling.{Settled, settled, against, concluded, integerFrom, integerMeaning}
+use Rattle.commands.specs.Settling.{Settled, settled, refusedFor, concluded, integerFrom, integerMeaning}
 use Rattle.commands.specs.Setting.{setOf, setMeaning}
 use Rattle.commands.specs.Testing.{zeroJudged, compared, zeroMeaning, testMeaning}
 use Rattle.control.specs.Fetching.{withRecords, withEntries, recordsMeaning, entriesMeaning}
@@ -33,7 +33,7 @@ use Rattle.control.specs.Selecting.{datasourceFrom, datasourceMeaning}
 
 concluded-asks : {A : Type 0} (line : ℕ) (x : Settled A) → AsksAllowed (concluded line x)
 concluded-asks line (settled a) = tt
-concluded-asks line (against e) = tt
+concluded-asks line (refusedFor e) = tt
 
 module _ (m : Machine) (d : Between 1 35 (m .datasource)) (line : ℕ) where
   module _ (s : List ℕ) where

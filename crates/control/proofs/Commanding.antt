@@ -5,7 +5,7 @@ use Prim.Native.Nat.{ℕ, _+_, _≤_}
 use native.Mathlib.Omega.{arith}
 use Rattle.meaning.specs.Answer.{Answer}
 use Rattle.meaning.specs.Tree.{done, bind, End, finished}
-use Rattle.meaning.specs.Place.{Place, at, Does}
+use Rattle.meaning.specs.inner.Place.{Place, at, Does}
 use Rattle.meaning.specs.Number.{endOf}
 use Rattle.meaning.specs.Meaning.{Meaning}
 use Rattle.meaning.specs.declared.question.Question.{Question}
@@ -17,7 +17,7 @@ use Rattle.meaning.proofs.Doing.{then-does, then-over, does-done, does-stop}
 use Rattle.values.specs.inner.Word.{questions}
 use Rattle.values.specs.inner.State.{Held}
 use Rattle.commands.specs.inner.Taking.{mapped}
-use Rattle.commands.specs.Settling.{Settled, settled, against, concluded}
+use Rattle.commands.specs.Settling.{Settled, settled, refusedFor, concluded}
 use Rattle.pages.specs.declared.page.Page.{Page}
 use Rattle.control.specs.declared.state.Flow.{Flow}
 use Rattle.control.specs.declared.state.Lined.{Lined}
@@ -45,11 +45,11 @@ went-executes b h h′ f f′ T u log a p r s e q k rows = rw e (record { does =
 -- A line that neither asks nor prints: refused, or the state that follows from its result.
 pub settles-executes : {A B : Type 0} {b : List ℕ} {h h′ : Held} {f : Flow} {T : List ℕ} {u : ℕ} {log : List ℕ} {a p : ℕ} {r : Lined} {l : ℕ} {to : A → Flow} (x : Settled A) (z : Settled B) (into : A → B) (g : B → State) → z ≡ mapped into x → Settles l f u a to x r → SameRows h h′ → ((y : A) → to y .page ≡ f .page) → ((y : A) → stateAt b h′ (to y) ≡ g (into y)) → Executes 330 (bind (concluded l z) (λ y. done (g y))) b h f T u log a p h′ T log r
 settles-executes {b = b} {f = f} {T = T} {u = u} {log = log} {a = a} {p = p} (settled y) z into g q i rows k e = rw (q, i .same) (record { does = replaced (does-done (sourceOf b) (at T u (questions log) a p (f .page .number)) (g (into y))) refl refl (ap (λ (w : Page). w .number) (k y)) (ap finished (e y)); few = omega arith; rows = rows })
-settles-executes {b = b} {f = f} {T = T} {u = u} {log = log} {a = a} {p = p} {l = l} (against w) z into g q i rows k e = rw (q, i .same) (record { does = does-stop (sourceOf b) (at T u (questions log) a p (f .page .number)) w l; few = omega arith; rows = rows })
+settles-executes {b = b} {f = f} {T = T} {u = u} {log = log} {a = a} {p = p} {l = l} (refusedFor w) z into g q i rows k e = rw (q, i .same) (record { does = does-stop (sourceOf b) (at T u (questions log) a p (f .page .number)) w l; few = omega arith; rows = rows })
 
 pub mapped-same : {A : Type 0} (x : Settled A) → x ≡ mapped (λ y. y) x
 mapped-same (settled y) = refl
-mapped-same (against e) = refl
+mapped-same (refusedFor e) = refl
 
 -- The arguments of a line, then the line by their values.
 pub inputs-then : {b : List ℕ} {h h′ : Held} {f : Flow} {T : List ℕ} {u : ℕ} {log : List ℕ} {a p : ℕ} {T′ log′ : List ℕ} {r : Lined} {A : Type 0} (m : Meaning A) (g : A → Meaning State) (v : A) (log₁ : List ℕ) (a₁ : ℕ) → Does (sourceOf b) m (at T u (questions log) a p (f .page .number)) (at T u (questions log₁) a₁ p (f .page .number)) (finished v) → a₁ ≤ a + 2 → Executes 330 (g v) b h f T u log₁ a₁ p h′ T′ log′ r → Executes 332 (bind m g) b h f T u log a p h′ T′ log′ r

@@ -26,7 +26,7 @@ use Rattle.meaning.specs.declared.end.Ended.the-variants.{Finished, Halted}
 use Rattle.values.specs.declared.scene.Scene.{Scene}
 use Rattle.values.specs.declared.fetch.Fetched.{Fetched}
 use Rattle.values.specs.inner.Hearing.{placeOf}
-use Rattle.commands.specs.Settling.{Settled, settled, against}
+use Rattle.commands.specs.Settling.{Settled, settled, refusedFor}
 use Rattle.control.specs.Selecting.{datasourceFrom}
 use Rattle.commands.specs.declared.settle.Taken.{Taken}
 use Rattle.commands.specs.declared.settle.Taken.the-variants as K
@@ -69,7 +69,7 @@ jump-sums t f q k h l e =
 -- ---- a line that is refused, and one that goes on
 
 module _ {A : Type 0} {l : ℕ} {f : Flow} {u a : ℕ} {to : A → Flow} {x : Settled A} {r : Lined} where
-  pub settles-refused : (e : Refusal) → x ≡ against e → r ≡ endedIn (Halted (Refused e) l) f u a → Settles l f u a to x r
+  pub settles-refused : (e : Refusal) → x ≡ refusedFor e → r ≡ endedIn (Halted (Refused e) l) f u a → Settles l f u a to x r
   settles-refused e h i = record { same = rw h i }
 
   pub settles-on : (y : A) (g : Flow) → x ≡ settled y → g ≡ to y → r ≡ endedIn Finished g u a → Settles l f u a to x r
@@ -86,11 +86,11 @@ datasource-is (pos k) = by (leb k 999) refl
     by true e = refl
     by false e = let h : 999 < k = leb-false k 999 e in rw (le-leb 1 k (omega arith), lt-leb k 35 (omega arith))
 
-pub datasource-low : (n : ℕ) → n < 1 → datasourceAt n ≡ against BadIndex
+pub datasource-low : (n : ℕ) → n < 1 → datasourceAt n ≡ refusedFor BadIndex
 unfolding datasourceAt
 datasource-low n h = rw (lt-leb 1 n h)
 
-pub datasource-high : (n : ℕ) → 1 ≤ n → 35 < n → datasourceAt n ≡ against BadIndex
+pub datasource-high : (n : ℕ) → 1 ≤ n → 35 < n → datasourceAt n ≡ refusedFor BadIndex
 unfolding datasourceAt
 datasource-high n h k = rw (le-leb 1 n h, lt-leb n 35 k)
 

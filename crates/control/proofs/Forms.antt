@@ -17,7 +17,7 @@ use Rattle.meaning.proofs.Binding.{bind-assoc}
 use Rattle.values.specs.Worth.{Worth, missing}
 use Rattle.values.specs.Meanings.{argumentMeaning}
 use Rattle.values.specs.inner.Working.{worths, inputsMeaning}
-use Rattle.commands.specs.Settling.{Settled, settled, against, andThen, concluded, integerFrom, integerMeaning}
+use Rattle.commands.specs.Settling.{Settled, settled, refusedFor, andThen, concluded, integerFrom, integerMeaning}
 use Rattle.commands.specs.inner.Taking.{integerOr}
 use Rattle.commands.specs.Setting.{setOf, setMeaning}
 use Rattle.commands.specs.Testing.{zeroJudged, compared, zeroMeaning, testMeaning}
@@ -30,7 +30,7 @@ use Rattle.control.specs.inner.Forms.{optionalInput, inputsOf, settling,
 -- what is concluded from a value, and then from that
 concluded-then : {A B : Type 0} (l : ℕ) (x : Settled A) (f : A → Settled B) → bind (concluded l x) (λ z. concluded l (f z)) ≡ concluded l (andThen x f)
 concluded-then l (settled a) f = refl
-concluded-then l (against e) f = refl
+concluded-then l (refusedFor e) f = refl
 
 module _ (t : List ℕ) (start l : ℕ) (body : List ℕ) (s : State) where
   abbrev A : Argument → Meaning Worth

@@ -29,7 +29,7 @@ use Rattle.values.specs.Worth.{Worth}
 use Rattle.values.specs.Meanings.{argumentMeaning}
 use Rattle.values.proofs.Giving.{Gives, Anything, gives-bind, argument-gives, fetch-gives}
 use Rattle.commands.specs.declared.table.Table.{Table}
-use Rattle.commands.specs.Settling.{Settled, settled, against, andThen, concluded, integerFrom, integerMeaning}
+use Rattle.commands.specs.Settling.{Settled, settled, refusedFor, andThen, concluded, integerFrom, integerMeaning}
 use Rattle.commands.specs.Setting.{asVariable, setOf, setMeaning}
 use Rattle.commands.specs.Testing.{zeroJudged, compared, zeroMeaning, testMeaning}
 use Rattle.control.specs.Fetching.{withRecords, withEntries, recordsMeaning, entriesMeaning}
@@ -39,20 +39,20 @@ use Rattle.control.specs.Selecting.{datasourceFrom, datasourceMeaning}
 -- Φ a where x is settled with a
 abbrev pub Whenever : {A : Type 0} → Settled A → (A → Type 0) → Type 0
 Whenever (settled a) Φ = Φ a
-Whenever (against e) Φ = Unit {0}
+Whenever (refusedFor e) Φ = Unit {0}
 
 module _ {A : Type 0} where
   pub gives-concluded : (line : ℕ) (x : Settled A) (Φ : A → Type 0) → Whenever x Φ → Gives (concluded line x) Φ
   gives-concluded line (settled a) Φ h = h
-  gives-concluded line (against e) Φ h = h
+  gives-concluded line (refusedFor e) Φ h = h
 
   pub whenever-then : {B : Type 0} (x : Settled A) (f : A → Settled B) (Φ : A → Type 0) (Ψ : B → Type 0) → Whenever x Φ → ((a : A) → Φ a → Whenever (f a) Ψ) → Whenever (andThen x f) Ψ
   whenever-then (settled a) f Φ Ψ h g = g a h
-  whenever-then (against e) f Φ Ψ h g = tt
+  whenever-then (refusedFor e) f Φ Ψ h g = tt
 
   whenever-any : (x : Settled A) → Whenever x Anything
   whenever-any (settled a) = tt
-  whenever-any (against e) = tt
+  whenever-any (refusedFor e) = tt
 
 module _ (m : Machine) (s : List ℕ) (line : ℕ) where
   -- an argument, and what follows from its value
@@ -94,7 +94,7 @@ numbered-length l (suc k) x = length-set l k x
 stored-length : {A : Type 0} (l : List A) (n : ℕ) (x : Settled A) → Whenever (asVariable l n x) (λ l′. length l′ ≡ length l)
 unfolding asVariable
 stored-length l n (settled x) = numbered-length l n x
-stored-length l n (against e) = tt
+stored-length l n (refusedFor e) = tt
 
 set-shapes : (v : Variables) (o : Operation) (t : Target) (w : Worth) → Whenever (setOf v o t w) (Shaped v)
 unfolding setOf
@@ -155,7 +155,7 @@ counted-is : (ts : List Table) (k : ℤ) → Whenever (counted ts k) (Counting t
 unfolding counted
 counted-is ts k = by (ltZ k (pos 1))
   where
-    by : (b : Bool) → Whenever (cond b (against OutOfRange) (settled (counting ts (innermost ts .counter + natAbs k)))) (Counting ts)
+    by : (b : Bool) → Whenever (cond b (refusedFor OutOfRange) (settled (counting ts (innermost ts .counter + natAbs k)))) (Counting ts)
     by true = tt
     by false = counting-is ts (innermost ts .counter + natAbs k)
 
@@ -214,7 +214,7 @@ unfolding datasourceFrom
 from-selectable (negsuc n) = tt
 from-selectable (pos n) = by (leb 1 n) refl (leb n 35) refl
   where
-    by : (b : Bool) → leb 1 n ≡ b → (d : Bool) → leb n 35 ≡ d → Whenever (cond (b && d) (settled n) (against BadIndex)) Selectable
+    by : (b : Bool) → leb 1 n ≡ b → (d : Bool) → leb n 35 ≡ d → Whenever (cond (b && d) (settled n) (refusedFor BadIndex)) Selectable
     by true e true f = record { low = leb-true 1 n e; high = leb-true n 35 f }
     by true e false f = tt
     by false e d f = tt

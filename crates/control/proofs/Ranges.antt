@@ -36,7 +36,7 @@ use Rattle.values.proofs.Giving.{Gives}
 use Rattle.values.proofs.Ranges as R
 use Rattle.values.proofs.Ranges.{IntegerWithin, DecimalWithin, Short, WorthWithin, MachineWithin, argument-within, fetch-within, All, VariablesWithin}
 use Rattle.commands.specs.declared.table.Table.{Table}
-use Rattle.commands.specs.Settling.{Settled, settled, against, concluded, integerFrom, quantityFrom, stringFrom, resultOf, millionthsOf, decimalFrom, integerMeaning}
+use Rattle.commands.specs.Settling.{Settled, settled, refusedFor, concluded, integerFrom, quantityFrom, stringFrom, resultOf, millionthsOf, decimalFrom, integerMeaning}
 use Rattle.commands.specs.Setting.{integerResult, decimalResult, asVariable, newFrom, integerNew, decimalNew, stringNew, setOf, setMeaning}
 use Rattle.control.specs.Fetching.{withRecords, withEntries, recordsMeaning, entriesMeaning}
 use Rattle.commands.specs.Looping.{begun, beginMeaning, endMeaning}
@@ -51,11 +51,11 @@ gives-yields (print v l t) Φ h = absurd h
 
 yields-concluded : {A : Type 0} (line : ℕ) (x : Settled A) (Φ : A → Type 0) → Whenever x Φ → Yields AnswerWithin (concluded line x) Φ
 yields-concluded line (settled a) Φ h = h
-yields-concluded line (against e) Φ h = tt
+yields-concluded line (refusedFor e) Φ h = tt
 
 whenever-more : {A : Type 0} (x : Settled A) (Φ Ψ : A → Type 0) → Whenever x Φ → ((a : A) → Φ a → Ψ a) → Whenever x Ψ
 whenever-more (settled a) Φ Ψ h g = g a h
-whenever-more (against e) Φ Ψ h g = tt
+whenever-more (refusedFor e) Φ Ψ h g = tt
 
 -- ---- results
 
@@ -178,7 +178,7 @@ numbered-all P c l n x p h = record { each = numbered-each P l n x p (h .each); 
 stored-all : {A : Type 0} (P : A → Type 0) (c : ℕ) (l : List A) (n : ℕ) (x : Settled A) → All P c l → Whenever x P → Whenever (asVariable l n x) (All P c)
 unfolding asVariable
 stored-all P c l n (settled x) h p = numbered-all P c l n x p h
-stored-all P c l n (against r) h p = tt
+stored-all P c l n (refusedFor r) h p = tt
 
 module _ (v : Variables) (h : VariablesWithin v) where
   set-of : (o : Operation) (t : Target) (w : Worth) → WorthWithin w → Whenever (setOf v o t w) VariablesWithin

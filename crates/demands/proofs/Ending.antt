@@ -1,11 +1,11 @@
--- "pages (PAGENUM at the end)", at any end: of a run that finished, of one refused or cut off before its last line printed
--- anything, and of one refused or cut off inside a text line, after its break.
+-- "pages (PAGENUM at the end)", at any end: of a run that finished, of one with a line too many, of one refused or cut off before
+-- its last line printed anything, and of one refused or cut off inside a text line, after its break. So for the pages of a call.
 use mathlib.Core.Path.{_≡_, refl, sym, ap, _∙_, subst}
 use mathlib.Core.Bool.{Bool, true, false, cond}
 use mathlib.Core.List.{List, [], _∷_, _++_, append-assoc, append-nil}
-use Prim.Native.Nat.{ℕ, zero, suc, _+_, _-_}
+use Prim.Native.Nat.{ℕ, zero, suc, _+_, _-_, _<_}
 use native.Mathlib.Omega.{arith}
-use borrow.Author.Tests.{leb-true, leb-false}
+use borrow.Author.Tests.{leb-true, leb-false, ltb-true}
 use lib.Dec.{leb, ltb}
 use lib.IntN.{pos}
 use lib.Signed.{ltZ}
@@ -18,9 +18,11 @@ use Rattle.lines.specs.declared.command.Line.the-variants as form
 use Rattle.lines.specs.readers.Command.{parseLine}
 use Rattle.texts.specs.Pieces.{piecesOf}
 use Rattle.template.specs.declared.Extent.{Extent}
+use Rattle.template.specs.declared.Checked.the-variants.{Accepted}
+use Rattle.template.specs.Order.{templateChecked}
 use Rattle.meaning.specs.Answer.{Answer}
-use Rattle.meaning.specs.Event.{Event, line, break, bytes, breaks}
-use Rattle.meaning.specs.Tree.{done, stop, bind, Cause, cut, End, finished, halted, Run, run}
+use Rattle.meaning.specs.Event.{Event, line, break, breaks}
+use Rattle.meaning.specs.Tree.{done, stop, bind, Cause, refused, cut, End, finished, halted, Run, run}
 use Rattle.meaning.specs.Rule.{Keeps}
 use Rattle.meaning.specs.Meaning.{Meaning}
 use Rattle.meaning.specs.declared.question.Question.{Question}
@@ -32,13 +34,14 @@ use Rattle.meaning.proofs.Runs.{run-print, run-print-full}
 use Rattle.meaning.proofs.Keeping.{keeps-bind, keeps-run}
 use Rattle.meaning.proofs.Events.{breaks-append}
 use Rattle.values.specs.Machine.{Machine}
+use Rattle.values.specs.Source.{answers}
 use Rattle.values.proofs.Giving.{Gives, Anything, gives-bind, gives-keeps}
-use Rattle.pages.specs.Text.{fieldValues, rendered, anyWrong, printed, textMeaning}
+use Rattle.pages.specs.Text.{fieldValues, rendered, anyWrong, printedUnlessWrong, textMeaning}
 use Rattle.pages.specs.declared.page.Page.{Page}
 use Rattle.pages.specs.declared.heading.Heading.{Heading}
 use Rattle.pages.specs.Page.{brokenOf, advancedOf, on, sayMeaning, breakMeaning, turnMeaning, lineStep}
-use Rattle.pages.specs.inner.Listing.{Due, saysOn, linesDue}
-use Rattle.pages.proofs.Listing.{turned, step-says}
+use Rattle.pages.specs.inner.Listing.{turnedPage, Due, saysOn, linesDue}
+use Rattle.pages.proofs.Listing.{step-says}
 use Rattle.pages.proofs.Counting.{values-give}
 use Rattle.commands.specs.Settling.{integerMeaning}
 use Rattle.commands.specs.Setting.{setMeaning}
@@ -49,12 +52,13 @@ use Rattle.control.specs.Selecting.{datasourceMeaning}
 use Rattle.control.proofs.Giving.{Shaped, set-gives, records-gives, entries-gives, integer-gives, zero-gives, test-gives, Begun, Counting, begin-gives, end-gives, Selectable, datasource-gives}
 use Rattle.control.specs.State.{State, seen, withVariables, withDatasource, withPage}
 use Rattle.control.specs.Line.{pastLine, branched, tableBegun, tableCounted, breaking, breakingFor, newPageMeaning, formMeaning, lineMeaning}
-use Rattle.report.specs.Report.{runFrom, startOf, runMeaning, ranTo}
+use Rattle.history.specs.LentStore.{LentStore, inForm}
+use Rattle.report.specs.Report.{runFrom, startOf, runMeaning, ranTo, checkedOutcome, reportOf}
 use Rattle.report.specs.inner.Stretch.{stretch}
 use Rattle.report.proofs.Pages.{pages-are-pagenum, pagenum-counts}
+use Rattle.demands.specs.Calls.{ReportCall}
 use Rattle.demands.specs.Due.{bytesDue}
-use Rattle.demands.specs.Shown.{firstPage}
-use Rattle.demands.specs.Ending.{LastPage, finally, between-lines, in-text-line}
+use Rattle.demands.specs.Ending.{LastPage, finally, lines-used-up, nothing-printed, in-text-line}
 use Rattle.demands.proofs.Halting.{placesBehind, roomBehind, HaltedIn, first, second, finished-then, halted-first, halted-in, gives-nothing, linesOnly, no-breaks}
 
 abbrev Ran : Type 0 → Type 0
@@ -74,10 +78,10 @@ Whatever a s = Unit {0}
 text-unbroken : (m : Machine) (l : List ℕ) (from n : ℕ) → Keeps linesOnly (textMeaning m l from n) tt Whatever
 unfolding textMeaning
 text-unbroken m l from n =
-    keeps-bind linesOnly (fieldValues m l n (piecesOf l from)) (λ ws. printed n (anyWrong ws) (rendered (piecesOf l from) ws)) tt (λ ws s. Anything ws × (s ≡ tt)) Whatever (gives-keeps linesOnly (fieldValues m l n (piecesOf l from)) tt Anything (values-give m l n (piecesOf l from)))
+    keeps-bind linesOnly (fieldValues m l n (piecesOf l from)) (λ ws. printedUnlessWrong n (anyWrong ws) (rendered (piecesOf l from) ws)) tt (λ ws s. Anything ws × (s ≡ tt)) Whatever (gives-keeps linesOnly (fieldValues m l n (piecesOf l from)) tt Anything (values-give m l n (piecesOf l from)))
     (λ ws s _. go (anyWrong ws) (rendered (piecesOf l from) ws))
   where
-    go : (w : Bool) (b : List ℕ) → Keeps linesOnly (printed n w b) tt Whatever
+    go : (w : Bool) (b : List ℕ) → Keeps linesOnly (printedUnlessWrong n w b) tt Whatever
     go true b = tt
     go false b = (tt, tt)
 
@@ -123,7 +127,7 @@ module _ (source : Question → Answer) (c : Cause Refusal) (l : ℕ) where
   -- how a line was halted that is due on page p, after these events: before it printed anything, or as a text line, behind its break
   pub data Halts (f : Line) (p : Page) (vs : List Event) : Type 0 where
     nothing : vs ≡ [] → Halts f p vs
-    inside : f ≡ form.Text → firstPage p .number ≡ p .number + breaks vs → Halts f p vs
+    inside : f ≡ form.Text → turnedPage p .number ≡ p .number + breaks vs → Halts f p vs
 
   step-halted : (m : Machine) (t : List ℕ) (due : ℕ) (feeds : Bool) (hs : List Heading) (x : List ℕ) (p : Page) (n r : ℕ)
       → run source n r (lineStep m t due feeds hs x p) .end ≡ halted c l → Halts form.Text p (run source n r (lineStep m t due feeds hs x p) .events)
@@ -131,7 +135,7 @@ module _ (source : Question → Answer) (c : Cause Refusal) (l : ℕ) where
   step-halted m t due feeds hs x p n r h = rw (step-says m t due x feeds hs p) (go (halted-in source (turnMeaning due feeds p) says n r c l (subst (λ (y : Meaning Page). run source n r y .end ≡ halted c l) (step-says m t due x feeds hs p) h)))
     where
       says : Page → Meaning Page
-      says _ = saysOn m (linesDue t due hs x (turned p)) (turned p)
+      says _ = saysOn m (linesDue t due hs x (turnedPage p)) (turnedPage p)
 
       n′ : ℕ
       n′ = placesBehind source n r (turnMeaning due feeds p)
@@ -150,9 +154,9 @@ module _ (source : Question → Answer) (c : Cause Refusal) (l : ℕ) where
       go : HaltedIn source (turnMeaning due feeds p) says n r c l → Halts form.Text p (run source n r (bind (turnMeaning due feeds p) says) .events)
       go (first e v) = nothing (v ∙ turn-halted (ltb 60 (p .row)) e)
       go (second q f e v) =
-          let u = no-breaks (run source n′ r′ (saysOn m (linesDue t due hs x (turned p)) (turned p)) .events) (keeps-run linesOnly source n′ r′ (saysOn m (linesDue t due hs x (turned p)) (turned p)) tt Whatever (says-unbroken m (linesDue t due hs x (turned p)) (turned p))) in
+          let u = no-breaks (run source n′ r′ (saysOn m (linesDue t due hs x (turnedPage p)) (turnedPage p)) .events) (keeps-run linesOnly source n′ r′ (saysOn m (linesDue t due hs x (turnedPage p)) (turnedPage p)) tt Whatever (says-unbroken m (linesDue t due hs x (turnedPage p)) (turnedPage p))) in
           let k = turn-finished (ltb 60 (p .row)) q f in
-          let a = breaks-append (run source n r (turnMeaning due feeds p) .events) (run source n′ r′ (saysOn m (linesDue t due hs x (turned p)) (turned p)) .events) in
+          let a = breaks-append (run source n r (turnMeaning due feeds p) .events) (run source n′ r′ (saysOn m (linesDue t due hs x (turnedPage p)) (turnedPage p)) .events) in
           inside refl (omega (arith, ap breaks v, a, u, k))
 
   -- ---- a line
@@ -223,41 +227,47 @@ module _ (source : Question → Answer) (c : Cause Refusal) (l : ℕ) where
 
   -- ---- a run
 
-  -- a text line is due in the state, and it was refused or cut off behind its break
-  pub record InText (t : List ℕ) (end : ℕ) (s : State) (n r lines : ℕ) (state : State) (own : List Event) : Type 0 where
-    pub text : parseLine (bytesDue t state) ≡ form.Text
-    pub number : firstPage (state .page) .number ≡ state .page .number + breaks own
-    pub halts : run source n r (stretch (suc lines) t end s) .end ≡ halted c l
+  -- all k lines were executed, another is due, and it is the one that the end names
+  pub record UsedUp (k end lines : ℕ) (state : State) : Type 0 where
+    pub all : lines ≡ k
+    pub due : state .position .at < end
+    pub named : _≡_ {A = End Refusal ℕ State} (halted c l) (halted (refused TooManyLines) (state .position .line))
 
-  pub data Last (t : List ℕ) (end : ℕ) (s : State) (n r lines : ℕ) (state : State) (own : List Event) : Type 0 where
-    nothing-yet : own ≡ [] → Last t end s n r lines state own
-    in-text : InText t end s n r lines state own → Last t end s n r lines state own
+  -- what ended a run of at most k lines behind so many whole ones: one too many, the next before it printed anything, or the next, a
+  -- text line, behind its break
+  pub data Last (k : ℕ) (t : List ℕ) (end : ℕ) (s : State) (n r lines : ℕ) (state : State) (own : List Event) : Type 0 where
+    one-too-many : UsedUp k end lines state → own ≡ [] → Last k t end s n r lines state own
+    nothing-yet : run source n r (stretch (suc lines) t end s) .end ≡ halted c l → own ≡ [] → Last k t end s n r lines state own
+    in-text : run source n r (stretch (suc lines) t end s) .end ≡ halted c l → parseLine (bytesDue t state) ≡ form.Text → turnedPage (state .page) .number ≡ state .page .number + breaks own → Last k t end s n r lines state own
 
   -- so many lines were executed whole, and the next one, or one too many, ended the run
-  pub record HaltsAfter (t : List ℕ) (end : ℕ) (s : State) (m : Meaning State) (n r : ℕ) : Type 0 where
+  pub record HaltsAfter (k : ℕ) (t : List ℕ) (end : ℕ) (s : State) (m : Meaning State) (n r : ℕ) : Type 0 where
     pub lines : ℕ
     pub state : State
     pub reached : run source n r (stretch lines t end s) .end ≡ finished state
     pub own : List Event
     pub events : run source n r m .events ≡ run source n r (stretch lines t end s) .events ++ own
-    pub last : Last t end s n r lines state own
+    pub last : Last k t end s n r lines state own
 
-  run-halted : (k : ℕ) (t : List ℕ) (end : ℕ) (s : State) (n r : ℕ) → run source n r (runFrom k t end s) .end ≡ halted c l → HaltsAfter t end s (runFrom k t end s) n r
+  run-halted : (k : ℕ) (t : List ℕ) (end : ℕ) (s : State) (n r : ℕ) → run source n r (runFrom k t end s) .end ≡ halted c l → HaltsAfter k t end s (runFrom k t end s) n r
   unfolding runFrom stretch run
-  run-halted zero t end s n r h = by (ltb (s .position .at) end) h
+  run-halted zero t end s n r h = by (ltb (s .position .at) end) refl h
     where
-      by : (b : Bool) → run source n r (cond {A = Meaning State} b (stop TooManyLines (s .position .line)) (done s)) .end ≡ halted c l → HaltsAfter t end s (cond {A = Meaning State} b (stop TooManyLines (s .position .line)) (done s)) n r
-      by true h = record { lines = 0; state = s; reached = refl; own = []; events = refl; last = nothing-yet refl }
-      by false h = absurd (unfinished s c l h)
+      by : (b : Bool) → ltb (s .position .at) end ≡ b → run source n r (cond {A = Meaning State} b (stop TooManyLines (s .position .line)) (done s)) .end ≡ halted c l → HaltsAfter 0 t end s (cond {A = Meaning State} b (stop TooManyLines (s .position .line)) (done s)) n r
+      by true e h = record { lines = 0; state = s; reached = refl; own = []; events = refl; last = one-too-many (record { all = refl; due = ltb-true (s .position .at) end e; named = sym h }) refl }
+      by false e h = absurd (unfinished s c l h)
   run-halted (suc k) t end s n r h = by (ltb (s .position .at) end) refl h (λ s′ n′ r′ h′. run-halted k t end s′ n′ r′ h′)
     where
-      at-once : ltb (s .position .at) end ≡ true → run source n r (lineMeaning t s) .end ≡ halted c l → Halts (parseLine (bytesDue t s)) (s .page) (run source n r (lineMeaning t s) .events)
-          → Last t end s n r 0 s (run source n r (lineMeaning t s) .events)
-      at-once e f (nothing q) = nothing-yet q
-      at-once e f (inside q k) = in-text (record { text = q; number = k; halts = rw e (halted-first source (lineMeaning t s) (stretch 0 t end) n r c l f) })
+      next-halts : ltb (s .position .at) end ≡ true → run source n r (lineMeaning t s) .end ≡ halted c l → run source n r (stretch 1 t end s) .end ≡ halted c l
+      next-halts e f = rw e (halted-first source (lineMeaning t s) (stretch 0 t end) n r c l f)
 
-      due : ltb (s .position .at) end ≡ true → ((s′ : State) (n′ r′ : ℕ) → run source n′ r′ (runFrom k t end s′) .end ≡ halted c l → HaltsAfter t end s′ (runFrom k t end s′) n′ r′)
-          → HaltedIn source (lineMeaning t s) (runFrom k t end) n r c l → HaltsAfter t end s (bind (lineMeaning t s) (runFrom k t end)) n r
+      at-once : ltb (s .position .at) end ≡ true → run source n r (lineMeaning t s) .end ≡ halted c l → Halts (parseLine (bytesDue t s)) (s .page) (run source n r (lineMeaning t s) .events)
+          → Last (suc k) t end s n r 0 s (run source n r (lineMeaning t s) .events)
+      at-once e f (nothing q) = nothing-yet (next-halts e f) q
+      at-once e f (inside q k) = in-text (next-halts e f) q k
+
+      due : ltb (s .position .at) end ≡ true → ((s′ : State) (n′ r′ : ℕ) → run source n′ r′ (runFrom k t end s′) .end ≡ halted c l → HaltsAfter k t end s′ (runFrom k t end s′) n′ r′)
+          → HaltedIn source (lineMeaning t s) (runFrom k t end) n r c l → HaltsAfter (suc k) t end s (bind (lineMeaning t s) (runFrom k t end)) n r
       due e next (first f v) = record { lines = 0; state = s; reached = refl; own = run source n r (lineMeaning t s) .events; events = v; last = at-once e f (line-halted t s n r f) }
       due e next (second s′ f g v) = later (next s′ _ _ g)
         where
@@ -270,11 +280,12 @@ module _ (source : Question → Answer) (c : Cause Refusal) (l : ℕ) where
           one-more : (j : ℕ) → run source n r (stretch (suc j) t end s) ≡ behind (run source n r (lineMeaning t s) .asked) (run source n r (lineMeaning t s) .events) (run source n′ r′ (stretch j t end s′))
           one-more j = rw e (finished-then source (lineMeaning t s) (stretch j t end) n r s′ f)
 
-          again : (j : ℕ) (u : State) (own : List Event) → Last t end s′ n′ r′ j u own → Last t end s n r (suc j) u own
-          again j u own (nothing-yet q) = nothing-yet q
-          again j u own (in-text x) = in-text (record { text = x .text; number = x .number; halts = ap endIn (one-more (suc j)) ∙ x .halts })
+          again : (j : ℕ) (u : State) (own : List Event) → Last k t end s′ n′ r′ j u own → Last (suc k) t end s n r (suc j) u own
+          again j u own (one-too-many x q) = one-too-many (record { all = ap suc (x .all); due = x .due; named = x .named }) q
+          again j u own (nothing-yet f q) = nothing-yet (ap endIn (one-more (suc j)) ∙ f) q
+          again j u own (in-text f x i) = in-text (ap endIn (one-more (suc j)) ∙ f) x i
 
-          later : HaltsAfter t end s′ (runFrom k t end s′) n′ r′ → HaltsAfter t end s (bind (lineMeaning t s) (runFrom k t end)) n r
+          later : HaltsAfter k t end s′ (runFrom k t end s′) n′ r′ → HaltsAfter (suc k) t end s (bind (lineMeaning t s) (runFrom k t end)) n r
           later x = record {
             lines = suc (x .lines);
             state = x .state;
@@ -285,8 +296,8 @@ module _ (source : Question → Answer) (c : Cause Refusal) (l : ℕ) where
           }
 
       by : (b : Bool) → ltb (s .position .at) end ≡ b → run source n r (cond {A = Meaning State} b (bind (lineMeaning t s) (runFrom k t end)) (done s)) .end ≡ halted c l
-          → ((s′ : State) (n′ r′ : ℕ) → run source n′ r′ (runFrom k t end s′) .end ≡ halted c l → HaltsAfter t end s′ (runFrom k t end s′) n′ r′)
-          → HaltsAfter t end s (cond {A = Meaning State} b (bind (lineMeaning t s) (runFrom k t end)) (done s)) n r
+          → ((s′ : State) (n′ r′ : ℕ) → run source n′ r′ (runFrom k t end s′) .end ≡ halted c l → HaltsAfter k t end s′ (runFrom k t end s′) n′ r′)
+          → HaltsAfter (suc k) t end s (cond {A = Meaning State} b (bind (lineMeaning t s) (runFrom k t end)) (done s)) n r
       by true e h next = due e next (halted-in source (lineMeaning t s) (runFrom k t end) n r c l h)
       by false e h next = absurd (unfinished s c l h)
 
@@ -300,16 +311,37 @@ pages-at-the-end source t r places room = by (run source places room (runMeaning
     x : Run Question Refusal ℕ State
     x = run source places room (runMeaning t r)
 
-    early : (c : Cause Refusal) (l : ℕ) → x .end ≡ halted c l → HaltsAfter source c l t (r .end) (startOf r) (runMeaning t r) places room → LastPage source t r places room (1 + breaks (x .events)) (x .end)
+    early : (c : Cause Refusal) (l : ℕ) → x .end ≡ halted c l → HaltsAfter source c l 50000 t (r .until) (startOf r) (runMeaning t r) places room → LastPage source t r places room (1 + breaks (x .events)) (x .end)
     early c l e h = go (h .last)
       where
         number : 1 + breaks (x .events) ≡ h .state .page .number + breaks (h .own)
-        number = omega (arith, pagenum-counts source places room t r (h .lines) (h .state) (h .reached), ap breaks (h .events), breaks-append (run source places room (stretch (h .lines) t (r .end) (startOf r)) .events) (h .own))
+        number = omega (arith, pagenum-counts source places room t r (h .lines) (h .state) (h .reached), ap breaks (h .events), breaks-append (run source places room (stretch (h .lines) t (r .until) (startOf r)) .events) (h .own))
 
-        go : Last source c l t (r .end) (startOf r) places room (h .lines) (h .state) (h .own) → LastPage source t r places room (1 + breaks (x .events)) (x .end)
-        go (nothing-yet q) = between-lines c l (h .lines) (h .state) e (h .reached) (h .events ∙ ap (λ (vs : List Event). run source places room (stretch (h .lines) t (r .end) (startOf r)) .events ++ vs) q ∙ append-nil _) (number ∙ omega (arith, ap breaks q))
-        go (in-text i) = in-text-line c l (h .lines) (h .state) e (h .reached) (i .halts) (i .text) (h .own) (h .events) (i .number) (number ∙ sym (i .number))
+        unprinted : h .own ≡ [] → x .events ≡ run source places room (stretch (h .lines) t (r .until) (startOf r)) .events
+        unprinted q = h .events ∙ ap (λ (vs : List Event). run source places room (stretch (h .lines) t (r .until) (startOf r)) .events ++ vs) q ∙ append-nil _
+
+        same : h .own ≡ [] → 1 + breaks (x .events) ≡ h .state .page .number
+        same q = number ∙ omega (arith, ap breaks q)
+
+        go : Last source c l 50000 t (r .until) (startOf r) places room (h .lines) (h .state) (h .own) → LastPage source t r places room (1 + breaks (x .events)) (x .end)
+        go (one-too-many u q) = lines-used-up (h .state) (e ∙ u .named) (rw (u .all) at (h .reached)) (u .due) (rw (u .all) at (unprinted q)) (same q)
+        go (nothing-yet f q) = nothing-printed c l (h .lines) (h .state) e (h .reached) f (unprinted q) (same q)
+        go (in-text f y i) = in-text-line c l (h .lines) (h .state) e (h .reached) f y (h .own) (h .events) i (number ∙ sym i)
 
     by : (e : End Refusal ℕ State) → x .end ≡ e → LastPage source t r places room (1 + breaks (x .events)) (x .end)
     by (finished s) e = finally s e (pages-are-pagenum source places room t r s e)
-    by (halted c l) e = early c l e (run-halted source c l 50000 t (r .end) (startOf r) places room e)
+    by (halted c l) e = early c l e (run-halted source c l 50000 t (r .until) (startOf r) places room e)
+
+-- ---- a call
+
+-- on a store in form the report of an accepted template is what its run comes to
+accepted-runs-to : (t name : List ℕ) (m : LentStore) (r : Extent) (places room : ℕ) → inForm m ≡ true → templateChecked t name ≡ Accepted r
+    → reportOf t name (m .buffer) (m .length) places room ≡ ranTo (run (answers (m .buffer) (m .length)) places room (runMeaning t r))
+unfolding reportOf checkedOutcome
+accepted-runs-to t name m r places room f e = rw (f, e) refl
+
+-- Where checks 1 to 6 pass, the pages that a call hands back are PAGENUM at the end of its run.
+pub pages-handed-back : (t name : List ℕ) (m : LentStore) (x : ReportCall t name m) (r : Extent) → inForm m ≡ true → templateChecked t name ≡ Accepted r
+    → LastPage (answers (m .buffer) (m .length)) t r (length (x .reads)) (length (x .text)) (x .returned .pages) (run (answers (m .buffer) (m .length)) (length (x .reads)) (length (x .text)) (runMeaning t r) .end)
+pages-handed-back t name m x r f e =
+    rw (x .contract .result, accepted-runs-to t name m r (length (x .reads)) (length (x .text)) f e) (pages-at-the-end (answers (m .buffer) (m .length)) t r (length (x .reads)) (length (x .text)))

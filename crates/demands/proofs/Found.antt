@@ -22,7 +22,7 @@ use Rattle.demands.proofs.Editing.{changes, left-is, end-is, after-call
 answers : (m : LentStore) (q : Question) (a : Answer) (x : AskCall m q) → askIn m q ≡ answeredAsk a → AnswersWith m q a x
 unfolding askedOf
 answers m q a x e = record {
-  ended = ap (λ (y : Asked). y .end) (x .contract) ∙ ap (λ (y : Reply). y .end) e;
+  finishes = ap (λ (y : Asked). y .end) (x .contract) ∙ ap (λ (y : Reply). y .end) e;
   answer = ap (λ (y : Asked). meant (m .buffer) (y .answer)) (x .contract) ∙ answer-meant (m .buffer) (m .length) q ∙ ap (λ (y : Reply). y .answer) e;
 }
 

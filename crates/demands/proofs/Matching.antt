@@ -63,13 +63,13 @@ around-one (of-table M) (of-table M′) = refl
 -- So the matching line is one line.
 pub behind-one : {t : List ℕ} {q : Sought} {from to to′ : Position} → BehindMatch t q from to → BehindMatch t q from to′ → (to .at ≡ to′ .at) × (to .line ≡ to′ .line)
 behind-one {t} {q} {from} a b =
-    let n : b .count ≡ a .count = omega (arith, a .numbered, b .numbered) in
+    let n : b .count ≡ a .count = omega (arith, a .from-line, b .from-line) in
     let o = opens-one (subst (λ (k : ℕ). OpenBefore t (from .at) k (b .before)) n (b .opens)) (a .opens) .1 in
     let w = opens-one (subst (λ (k : ℕ). OpenBefore t (nextLine t (from .at)) (suc k) (b .behind)) n (b .opened)) (a .opened) .1 in
     let m = around-one (subst (λ (B : List Mark). OpenAround q B (b .around)) o (b .stands)) (a .stands) in
     let ls = linesOf (drop (nextLine t (from .at)) t) in
     let i = matched-one (a .matched) (subst (λ (W : List Mark). MatchedBy q (a .around) W ls (b .bytes) (b .lines)) w (subst (λ (M : List Mark). MatchedBy q M (b .behind) ls (b .bytes) (b .lines)) m (b .matched))) in
-    (omega (arith, a .place, b .place, i .0), omega (arith, a .number, b .number, i .1))
+    (omega (arith, a .place, b .place, i .0), omega (arith, a .to-line, b .to-line, i .1))
 
 -- ---- a line that is due where what check 4 has open is known
 
@@ -91,7 +91,7 @@ module _ {t : List ℕ} (c : Checks t) (s : State) (h : s .position .at < length
         before = n .marks;
         behind = topOf q ∷ M;
         around = M;
-        numbered = n .number;
+        from-line = n .number;
         opens = n .opens;
         opened = o;
         stands = a;
@@ -99,7 +99,7 @@ module _ {t : List ℕ} (c : Checks t) (s : State) (h : s .position .at < length
         lines = _;
         matched = p .matched;
         place = omega (arith, p .passed, length-drop (nextLine t (s .position .at)) t);
-        number = omega arith;
+        to-line = omega arith;
       }
 
   -- a test
@@ -149,15 +149,15 @@ module _ {t : List ℕ} (c : Checks t) (s : State) (h : s .position .at < length
   unfolding formMeaning shapeIn
   goes-on =
       record {
-        if-not = λ a e. test-goes-on (form.IfNot a) (zeroMeaning (seen s) (bytesDue t s) (s .position .line) true a) e refl refl;
-        if = λ a e. test-goes-on (form.If a) (zeroMeaning (seen s) (bytesDue t s) (s .position .line) false a) e refl refl;
-        compared = λ k a b e. test-goes-on (form.Compare k a b) (testMeaning (seen s) (bytesDue t s) (s .position .line) k a b) e refl refl;
-        otherwise = else-goes-on;
-        begun = table-goes-on;
+        at-if-not = λ a e. test-goes-on (form.IfNot a) (zeroMeaning (seen s) (bytesDue t s) (s .position .line) true a) e refl refl;
+        at-if = λ a e. test-goes-on (form.If a) (zeroMeaning (seen s) (bytesDue t s) (s .position .line) false a) e refl refl;
+        at-compare = λ k a b e. test-goes-on (form.Compare k a b) (testMeaning (seen s) (bytesDue t s) (s .position .line) k a b) e refl refl;
+        at-else = else-goes-on;
+        at-begin-table = table-goes-on;
       }
 
 -- The line that is due after any number of lines of an accepted template's run, whatever source answers it.
-pub run-goes-behind-match : (t name : List ℕ) (r : Extent) → templateChecked t name ≡ Accepted r → (source : Question → Answer) (places room k : ℕ) (s : State) → run source places room (stretch k t (r .end) (startOf r)) .end ≡ finished s → s .position .at < r .end → GoesOn t s
+pub run-goes-behind-match : (t name : List ℕ) (r : Extent) → templateChecked t name ≡ Accepted r → (source : Question → Answer) (places room k : ℕ) (s : State) → run source places room (stretch k t (r .until) (startOf r)) .end ≡ finished s → s .position .at < r .until → GoesOn t s
 run-goes-behind-match t name r e source places room k s f d =
     let i = reached-sound t name r e source places room k s f .1 in
     let h : s .position .at < length t = omega (arith, accepted-runs t name r e .inside) in

@@ -48,7 +48,7 @@ use Rattle.values.specs.Fetching.{firstAlong, countValue, asksElements, element
 use Rattle.values.specs.Worth.{Worth, missing, wrong, number, string, answered, questionKind}
 use Rattle.values.specs.Meanings.{worthOf, operandMeaning, argumentMeaning}
 use Rattle.commands.specs.declared.table.Table.{Table}
-use Rattle.commands.specs.Settling.{Settled, settled, against, andThen, concluded, integerFrom, quantityFrom, stringFrom, resultOf, millionthsOf, decimalFrom, integerMeaning}
+use Rattle.commands.specs.Settling.{Settled, settled, refusedFor, andThen, concluded, integerFrom, quantityFrom, stringFrom, resultOf, millionthsOf, decimalFrom, integerMeaning}
 use Rattle.commands.specs.Setting.{integerResult, decimalResult, asVariable, newFrom, integerNew, decimalNew, stringNew, withIntegers, withDecimals, withStrings, setOf, setMeaning}
 use Rattle.commands.specs.Testing.{zeroJudged, zeroMeaning, ofNumbers, ofStrings, judged, isMissing, compared, testMeaning}
 use Rattle.commands.specs.Looping.{counting, innermost, counted, beginMeaning, endMeaning}
@@ -95,16 +95,16 @@ module _ {A : Type 0} where
 
 abbrev Fair : {A : Type 0} → Settled A → Type 0
 Fair (settled a) = Unit {0}
-Fair (against e) = Late e
+Fair (refusedFor e) = Late e
 
 module _ {A : Type 0} where
   fair-then : {B : Type 0} (x : Settled A) (f : A → Settled B) → Fair x → ((a : A) → Fair (f a)) → Fair (andThen x f)
   fair-then (settled a) f h g = g a
-  fair-then (against e) f h g = h
+  fair-then (refusedFor e) f h g = h
 
   late-concluded : (line : ℕ) (x : Settled A) → Fair x → LateEnds (concluded line x)
   late-concluded line (settled a) h = tt
-  late-concluded line (against e) h = h
+  late-concluded line (refusedFor e) h = h
 
 integer-fair : (w : Worth) → Fair (integerFrom w)
 unfolding integerFrom
@@ -196,7 +196,7 @@ compared-fair : (c : Comparison) (v w : Worth) → Fair (compared c v w)
 unfolding compared
 compared-fair c v w = by (isMissing v || isMissing w)
   where
-    by : (b : Bool) → Fair (cond b (against MissingArgument) (judged c v w))
+    by : (b : Bool) → Fair (cond b (refusedFor MissingArgument) (judged c v w))
     by true = omega arith
     by false = judged-fair c v w
 
@@ -204,7 +204,7 @@ counted-fair : (ts : List Table) (k : ℤ) → Fair (counted ts k)
 unfolding counted
 counted-fair ts k = by (ltZ k (pos 1))
   where
-    by : (b : Bool) → Fair (cond b (against OutOfRange) (settled (counting ts (innermost ts .counter + natAbs k))))
+    by : (b : Bool) → Fair (cond b (refusedFor OutOfRange) (settled (counting ts (innermost ts .counter + natAbs k))))
     by true = omega arith
     by false = tt
 
@@ -213,7 +213,7 @@ unfolding datasourceFrom
 datasource-fair (negsuc n) = omega arith
 datasource-fair (pos n) = by (leb 1 n && leb n 35)
   where
-    by : (b : Bool) → Fair (cond b (settled n) (against BadIndex))
+    by : (b : Bool) → Fair (cond b (settled n) (refusedFor BadIndex))
     by true = tt
     by false = omega arith
 

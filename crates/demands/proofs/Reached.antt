@@ -39,8 +39,8 @@ stretch-on (suc k) t end g s c h i = by (ltb (s .position .at) end) refl (λ s�
     by false e next = (g, i)
 
 -- After any number of lines of an accepted template's run.
-pub reached-sound : (t name : List ℕ) (r : Extent) → templateChecked t name ≡ Accepted r → (source : Question → Answer) (places room k : ℕ) (s : State) → run source places room (stretch k t (r .end) (startOf r)) .end ≡ finished s → (g : ℕ) × Sound t g s
+pub reached-sound : (t name : List ℕ) (r : Extent) → templateChecked t name ≡ Accepted r → (source : Question → Answer) (places room k : ℕ) (s : State) → run source places room (stretch k t (r .until) (startOf r)) .end ≡ finished s → (g : ℕ) × Sound t g s
 reached-sound t name r e source places room k s f =
-    let m = stretch k t (r .end) (startOf r) in
-    let (g, i) = subst (λ x. AtEnd (SomeOn t) x (stateAfter (pageLimit 60) 0 (run source places room m .events))) f (keeps-end (pageLimit 60) source places room m 0 (SomeOn t) (stretch-on k t (r .end) 1 (startOf r) 0 (accepted-runs t name r e .inside) (start-on t name r e))) in
+    let m = stretch k t (r .until) (startOf r) in
+    let (g, i) = subst (λ x. AtEnd (SomeOn t) x (stateAfter (pageLimit 60) 0 (run source places room m .events))) f (keeps-end (pageLimit 60) source places room m 0 (SomeOn t) (stretch-on k t (r .until) 1 (startOf r) 0 (accepted-runs t name r e .inside) (start-on t name r e))) in
     (g, i .sound)

@@ -36,7 +36,7 @@ unfolding reportOf checkedOutcome
 early-is-nothing t name b n places room = by (holdsCells (cellsHeld b n))
   where
     checked : (k : Checked) → Early (checkedOutcome t (answers b n) places room k)
-    checked (Accepted r) least most = absurd (omega (arith, most, late (answers b n) places room 50000 t (r .end) (startOf r) least))
+    checked (Accepted r) least most = absurd (omega (arith, most, late (answers b n) places room 50000 t (r .until) (startOf r) least))
     checked (Refused e l) least most = record { pages = refl; events = refl; questions = refl }
 
     by : (f : Bool) → Early (cond f (checkedOutcome t (answers b n) places room (templateChecked t name)) (refusedReport BadStore 0))

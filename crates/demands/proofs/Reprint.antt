@@ -28,7 +28,7 @@ prints-a-sheet t name m x = record {
   joins = printed-is o (x .text) (x .reads) (x .textAfter) (x .readsAfter) (x .returned) (x .contract) (report-fits t name (m .buffer) (m .length) (length (x .reads)) (length (x .text)));
   proper = text-is-lines t name (m .buffer) (m .length) (length (x .reads)) (length (x .text));
   sixty = pages-hold-60 t name (m .buffer) (m .length) (length (x .reads)) (length (x .text));
-  counted = rw (x .contract .result) (pages-reported t name (m .buffer) (m .length) (length (x .reads)) (length (x .text)));
+  page-count = rw (x .contract .result) (pages-reported t name (m .buffer) (m .length) (length (x .reads)) (length (x .text)));
   none = λ a b. let e = early-is-nothing t name (m .buffer) (m .length) (length (x .reads)) (length (x .text)) (subst (λ (n : ℕ). 1 ≤ n) number-is a) (subst (λ (n : ℕ). n ≤ 6) number-is b) in (ap (λ (r : Report). r .pages) (x .contract .result) ∙ e .pages, e .events);
 }
   where

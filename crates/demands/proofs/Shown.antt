@@ -31,7 +31,7 @@ use Rattle.pages.specs.declared.page.Page.{Page}
 use Rattle.pages.specs.Shown.{placesIn, shownValue, fieldBytes}
 use Rattle.pages.specs.Text.{fieldValues, rendered, isWrong, anyWrong}
 use Rattle.pages.specs.Page.{advancedOf, lineStep}
-use Rattle.pages.specs.inner.Listing.{Due}
+use Rattle.pages.specs.inner.Listing.{turnedPage, Due}
 use Rattle.pages.proofs.Listing.{step-says}
 use Rattle.pages.proofs.Ranges.{field-shown}
 use Rattle.control.specs.State.{State, seen, withPage}
@@ -41,7 +41,7 @@ use Rattle.report.specs.inner.Stretch.{stretch}
 use Rattle.report.proofs.Moments.{Moments}
 use Rattle.report.proofs.Ranges.{store-in-range}
 use Rattle.demands.specs.Due.{bytesDue, onNext}
-use Rattle.demands.specs.Shown.{bytesIn, both, defined, Shown, AllShown, firstPage, dueIn, TextShown}
+use Rattle.demands.specs.Shown.{bytesIn, both, defined, Shown, AllShown, dueIn, TextShown}
 use Rattle.demands.proofs.Due.{line-means}
 
 -- what is printed is defined, if no kind is wrong
@@ -83,10 +83,10 @@ unfolding formMeaning
 text-means t s e = line-means t s form.Text e
 
 -- A text line that is due after any number of lines of an accepted template's run, on any store.
-pub run-fields-shown : (t name : List ℕ) (r : Extent) → templateChecked t name ≡ Accepted r → (b : List ℕ) (n places room k : ℕ) → k ≤ 50000 → (s : State) → run (answers b n) places room (stretch k t (r .end) (startOf r)) .end ≡ finished s → parseLine (bytesDue t s) ≡ form.Text → TextShown (answers b n) t s
+pub run-fields-shown : (t name : List ℕ) (r : Extent) → templateChecked t name ≡ Accepted r → (b : List ℕ) (n places room k : ℕ) → k ≤ 50000 → (s : State) → run (answers b n) places room (stretch k t (r .until) (startOf r)) .end ≡ finished s → parseLine (bytesDue t s) ≡ form.Text → TextShown (answers b n) t s
 run-fields-shown t name r e b n places room k h s f i =
     let w = store-in-range t name r e b n places room k h s f in
     record {
       means = text-means t s i ∙ ap (λ (x : Meaning Page). bind x (λ p. done (withPage (onNext t s) p))) (step-says (seen s) t (s .position .line) (bytesDue t s) (s .layout .formFeeds) (s .layout .headings) (s .page));
-      shown = lines-shown (answers b n) (answers-within b n) (seen s) (dueIn t s) (firstPage (s .page)) (w .moments t (s .position .line) (bytesDue t s));
+      fields-shown = lines-shown (answers b n) (answers-within b n) (seen s) (dueIn t s) (turnedPage (s .page)) (w .moments t (s .position .line) (bytesDue t s));
     }

@@ -76,7 +76,7 @@ pub record AskCall (m : LentStore) (q : Question) : Type 0 where
 
 -- the call of ask ended with 0, and this is the answer that it hands back
 pub record AnswersWith (m : LentStore) (q : Question) (a : Answer) (x : AskCall m q) : Type 0 where
-  pub ended : x .returned .end ≡ Finished
+  pub finishes : x .returned .end ≡ Finished
   pub answer : meant (m .buffer) (x .returned .answer) ≡ a
 
 -- the answer that `ask` gives; a string's bytes are read in the store, where it says that they stand

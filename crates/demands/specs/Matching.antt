@@ -38,7 +38,7 @@ pub record BehindMatch (t : List ℕ) (q : Sought) (from to : Position) : Type 0
   pub before : List Mark
   pub behind : List Mark
   pub around : List Mark
-  pub numbered : from .line ≡ suc count
+  pub from-line : from .line ≡ suc count
   pub opens : OpenBefore t (from .at) count before
   pub opened : OpenBefore t (nextLine t (from .at)) (suc count) behind
   pub stands : OpenAround q before around
@@ -48,7 +48,7 @@ pub record BehindMatch (t : List ℕ) (q : Sought) (from to : Position) : Type 0
   pub matched : MatchedBy q around behind (linesOf (drop (nextLine t (from .at)) t)) bytes lines
   -- "the last may lack it", its line end: then the template's end
   pub place : to .at ≡ min (nextLine t (from .at) + bytes) (length t)
-  pub number : to .line ≡ from .line + 1 + lines
+  pub to-line : to .line ≡ from .line + 1 + lines
 
 -- ---- the line that is due in a state
 
@@ -72,8 +72,8 @@ pub record TableGoesOn (t : List ℕ) (s : State) (a : Argument) : Type 0 where
 
 -- each of these lines
 pub record GoesOn (t : List ℕ) (s : State) : Type 0 where
-  pub if-not : (a : Argument) → parseLine (bytesDue t s) ≡ IfNot a → TestGoesOn t s (zeroMeaning (seen s) (bytesDue t s) (s .position .line) true a)
-  pub if : (a : Argument) → parseLine (bytesDue t s) ≡ If a → TestGoesOn t s (zeroMeaning (seen s) (bytesDue t s) (s .position .line) false a)
-  pub compared : (c : Comparison) (a b : Argument) → parseLine (bytesDue t s) ≡ Compare c a b → TestGoesOn t s (testMeaning (seen s) (bytesDue t s) (s .position .line) c a b)
-  pub otherwise : parseLine (bytesDue t s) ≡ Else → ElseGoesOn t s
-  pub begun : (a : Argument) → parseLine (bytesDue t s) ≡ BeginTable a → TableGoesOn t s a
+  pub at-if-not : (a : Argument) → parseLine (bytesDue t s) ≡ IfNot a → TestGoesOn t s (zeroMeaning (seen s) (bytesDue t s) (s .position .line) true a)
+  pub at-if : (a : Argument) → parseLine (bytesDue t s) ≡ If a → TestGoesOn t s (zeroMeaning (seen s) (bytesDue t s) (s .position .line) false a)
+  pub at-compare : (c : Comparison) (a b : Argument) → parseLine (bytesDue t s) ≡ Compare c a b → TestGoesOn t s (testMeaning (seen s) (bytesDue t s) (s .position .line) c a b)
+  pub at-else : parseLine (bytesDue t s) ≡ Else → ElseGoesOn t s
+  pub at-begin-table : (a : Argument) → parseLine (bytesDue t s) ≡ BeginTable a → TableGoesOn t s a

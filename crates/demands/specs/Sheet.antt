@@ -4,7 +4,7 @@ use mathlib.Core.List.{List, []}
 use Prim.Native.Nat.{ℕ, _≤_}
 use lib.ListN.{length}
 use Rattle.meaning.specs.Each.{Each}
-use Rattle.meaning.specs.Event.{Event, joined, pages}
+use Rattle.meaning.specs.Event.{Event, joined, pagesOf}
 use Rattle.history.specs.LentStore.{LentStore}
 use Rattle.report.specs.Report.{reportOf}
 use Rattle.output.specs.Printable.{Proper}
@@ -17,8 +17,8 @@ pub record PrintedSheet (t name : List ℕ) (m : LentStore) (x : ReportCall t na
   pub ran : events ≡ reportOf t name (m .buffer) (m .length) (length (x .reads)) (length (x .text)) .events
   pub joins : textPrinted (x .textAfter) (x .returned) ≡ joined events
   pub proper : Each Proper events
-  pub sixty : Each (λ page. length page ≤ 60) (pages events)
-  pub counted : (1 ≤ x .returned .number → x .returned .number ≤ 6 → ⊥) → x .returned .pages ≡ length (pages events)
+  pub sixty : Each (λ page. length page ≤ 60) (pagesOf events)
+  pub page-count : (1 ≤ x .returned .number → x .returned .number ≤ 6 → ⊥) → x .returned .pages ≡ length (pagesOf events)
   -- "A report ending in 1–6" has no page and no text
   pub none : 1 ≤ x .returned .number → x .returned .number ≤ 6 → (x .returned .pages ≡ 0) × (events ≡ [])
 

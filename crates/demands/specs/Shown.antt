@@ -4,7 +4,6 @@ use mathlib.Core.Bool.{false, cond}
 use mathlib.Core.List.{List, [], _∷_, _++_}
 use mathlib.Core.Option.{Option, none, some}
 use Prim.Native.Nat.{ℕ}
-use lib.Dec.{ltb}
 use Rattle.meaning.specs.Answer.{Answer}
 use Rattle.meaning.specs.Tree.{done, bind, finished, run}
 use Rattle.meaning.specs.declared.question.Question.{Question}
@@ -18,8 +17,8 @@ use Rattle.values.specs.Worth.{Worth}
 use Rattle.pages.specs.declared.page.Page.{Page}
 use Rattle.pages.specs.Shown.{placesIn, shownValue}
 use Rattle.pages.specs.Text.{fieldValues, rendered, isWrong, anyWrong}
-use Rattle.pages.specs.Page.{brokenOf, advancedOf, on, turnMeaning}
-use Rattle.pages.specs.inner.Listing.{Due, saysOn, linesDue}
+use Rattle.pages.specs.Page.{advancedOf, on, turnMeaning}
+use Rattle.pages.specs.inner.Listing.{turnedPage, Due, saysOn, linesDue}
 use Rattle.control.specs.State.{State, seen, withPage}
 use Rattle.control.specs.Line.{lineMeaning}
 use Rattle.demands.specs.Due.{bytesDue, onNext}
@@ -49,15 +48,11 @@ abbrev pub AllShown : (Question → Answer) → Machine → List Due → Page �
 AllShown source m [] p = Unit {0}
 AllShown source m (d ∷ ds) p = Shown source (on m p) d × AllShown source m ds (advancedOf p)
 
--- "Before a text line, LINENUM 61 causes a break": the page of the first of them
-abbrev pub firstPage : Page → Page
-firstPage p = cond (ltb 60 (p .row)) (brokenOf p) p
-
 -- the headings, the blank line behind them and the text line that is due in a state, or the text line alone
 abbrev pub dueIn : List ℕ → State → List Due
-dueIn t s = linesDue t (s .position .line) (s .layout .headings) (bytesDue t s) (firstPage (s .page))
+dueIn t s = linesDue t (s .position .line) (s .layout .headings) (bytesDue t s) (turnedPage (s .page))
 
 -- a text line that is due: what it means is the break and these lines, and their fields are shown as they are defined
 pub record TextShown (source : Question → Answer) (t : List ℕ) (s : State) : Type 0 where
-  pub means : lineMeaning t s ≡ bind (bind (turnMeaning (s .position .line) (s .layout .formFeeds) (s .page)) (λ _. saysOn (seen s) (dueIn t s) (firstPage (s .page)))) (λ p. done (withPage (onNext t s) p))
-  pub shown : AllShown source (seen s) (dueIn t s) (firstPage (s .page))
+  pub means : lineMeaning t s ≡ bind (bind (turnMeaning (s .position .line) (s .layout .formFeeds) (s .page)) (λ _. saysOn (seen s) (dueIn t s) (turnedPage (s .page)))) (λ p. done (withPage (onNext t s) p))
+  pub fields-shown : AllShown source (seen s) (dueIn t s) (turnedPage (s .page))

@@ -34,7 +34,7 @@ use Rattle.lines.specs.declared.command.Optional.{Optional}
 use Rattle.lines.specs.declared.command.Optional.the-variants.{Given, Absent}
 use Rattle.lines.specs.declared.command.Line.the-variants as form
 use Rattle.lines.specs.inner.Sound as parsed
-use Rattle.meaning.specs.Place.{at, Does}
+use Rattle.meaning.specs.inner.Place.{at, Does}
 use Rattle.meaning.specs.Number.{endOf}
 use Rattle.meaning.specs.declared.end.Halt.{Halt}
 use Rattle.meaning.specs.declared.end.Ended.the-variants.{Finished, Halted}

@@ -26,7 +26,7 @@ use Rattle.meaning.specs.declared.question.Question.{Question}
 use Rattle.meaning.proofs.Binding.{bind-assoc}
 use Rattle.meaning.specs.Each.{Each}
 use Rattle.meaning.specs.Tree.{done, bind}
-use Rattle.meaning.specs.Place.{at, Does}
+use Rattle.meaning.specs.inner.Place.{at, Does}
 use Rattle.meaning.specs.Number.{endOf}
 use Rattle.meaning.specs.declared.end.Ended.the-variants.{Finished}
 use Rattle.meaning.proofs.Doing.{does-done, does-stop}

@@ -7,7 +7,7 @@ use native.Mathlib.Omega.{arith}
 use lib.ListN.{length, drop}
 use Rattle.scan.specs.Line.{lineAt}
 use Rattle.nesting.specs.declared.Shape.the-variants.{Section, Remark, Test, Else, EndTest, Table, EndTable, Plain}
-use Rattle.nesting.specs.Nest.{Mark, section, test, other, table, tables}
+use Rattle.nesting.specs.Nest.{Mark, section, test, elsePart, table, tablesOpen}
 use Rattle.template.specs.declared.seek.Sought.the-variants.{Branch, TestEnd, TableEnd}
 use Rattle.template.specs.Shape.{shapeOf}
 use Rattle.template.specs.Seek.{skipped}
@@ -19,22 +19,22 @@ use Rattle.commands.specs.Looping.{countedTo, innermost}
 use Rattle.control.specs.inner.Sound.{Tabled, Nested}
 
 -- as many tables are open in the run as check 4 counts
-pub tabled-few : (t : List ℕ) (ts : List C.Table) (M : List Mark) → Tabled t ts M → length ts ≡ tables M
-unfolding tables
+pub tabled-few : (t : List ℕ) (ts : List C.Table) (M : List Mark) → Tabled t ts M → length ts ≡ tablesOpen M
+unfolding tablesOpen
 tabled-few t ts [] h = h
 tabled-few t ts (section ∷ M) h = tabled-few t ts M h
 tabled-few t ts (test ∷ M) h = tabled-few t ts M h
-tabled-few t ts (other ∷ M) h = tabled-few t ts M h
+tabled-few t ts (elsePart ∷ M) h = tabled-few t ts M h
 tabled-few t [] (table ∷ M) h = absurd h
 tabled-few t (x ∷ ts) (table ∷ M) h = ap suc (tabled-few t ts M (h .3))
 
 -- where check 4 has no table open, none is open in the run
-pub none-open : (t : List ℕ) (M : List Mark) → tables M ≡ 0 → Tabled t [] M
-unfolding tables
+pub none-open : (t : List ℕ) (M : List Mark) → tablesOpen M ≡ 0 → Tabled t [] M
+unfolding tablesOpen
 none-open t [] h = refl
 none-open t (section ∷ M) h = none-open t M h
 none-open t (test ∷ M) h = none-open t M h
-none-open t (other ∷ M) h = none-open t M h
+none-open t (elsePart ∷ M) h = none-open t M h
 none-open t (table ∷ M) h = absurd (omega arith)
 
 none-tabled : (t : List ℕ) (ts : List C.Table) → length ts ≡ 0 → Tabled t ts (section ∷ [])
@@ -73,9 +73,9 @@ module _ {t : List ℕ} (c : Checks t) {at line : ℕ} {ts : List C.Table} (i : 
   pub nested-end-test : shapeOf (lineAt t at) ≡ EndTest → Nested t behind (line + 1) ts
   nested-end-test e = let o = behind-end-test c (i .opens) h e in stands (o .2) (from (o .0) (o .1))
     where
-      from : (M : List Mark) → (i .marks ≡ test ∷ M) ⊎ (i .marks ≡ other ∷ M) → Tabled t ts M
+      from : (M : List Mark) → (i .marks ≡ test ∷ M) ⊎ (i .marks ≡ elsePart ∷ M) → Tabled t ts M
       from M (inl k) = tabled-marks t ts {M′ = test ∷ M} k (i .tabled)
-      from M (inr k) = tabled-marks t ts {M′ = other ∷ M} k (i .tabled)
+      from M (inr k) = tabled-marks t ts {M′ = elsePart ∷ M} k (i .tabled)
 
   -- a test that holds, and one that fails
   pub nested-test : shapeOf (lineAt t at) ≡ Test → Nested t behind (line + 1) ts
@@ -87,10 +87,10 @@ module _ {t : List ℕ} (c : Checks t) {at line : ℕ} {ts : List C.Table} (i : 
       on : line + 1 + skipped (drop behind t) Branch .lines ≡ suc (suc (i .before) + skipped (drop behind t) Branch .lines)
       on = omega (arith, i .number)
 
-      by : (length t ≤ behind + skipped (drop behind t) Branch .bytes) ⊎ (OpenBefore t (behind + skipped (drop behind t) Branch .bytes) (suc (i .before) + skipped (drop behind t) Branch .lines) (i .marks) ⊎ OpenBefore t (behind + skipped (drop behind t) Branch .bytes) (suc (i .before) + skipped (drop behind t) Branch .lines) (other ∷ i .marks)) → Nested t (behind + skipped (drop behind t) Branch .bytes) (line + 1 + skipped (drop behind t) Branch .lines) ts
+      by : (length t ≤ behind + skipped (drop behind t) Branch .bytes) ⊎ (OpenBefore t (behind + skipped (drop behind t) Branch .bytes) (suc (i .before) + skipped (drop behind t) Branch .lines) (i .marks) ⊎ OpenBefore t (behind + skipped (drop behind t) Branch .bytes) (suc (i .before) + skipped (drop behind t) Branch .lines) (elsePart ∷ i .marks)) → Nested t (behind + skipped (drop behind t) Branch .bytes) (line + 1 + skipped (drop behind t) Branch .lines) ts
       by (inl l) = absurd (omega arith)
       by (inr (inl o)) = record { before = suc (i .before) + skipped (drop behind t) Branch .lines; marks = i .marks; opens = o; number = on; tabled = i .tabled }
-      by (inr (inr o)) = record { before = suc (i .before) + skipped (drop behind t) Branch .lines; marks = other ∷ i .marks; opens = o; number = on; tabled = i .tabled }
+      by (inr (inr o)) = record { before = suc (i .before) + skipped (drop behind t) Branch .lines; marks = elsePart ∷ i .marks; opens = o; number = on; tabled = i .tabled }
 
   pub nested-else : shapeOf (lineAt t at) ≡ Else → behind + skipped (drop behind t) TestEnd .bytes < length t → Nested t (behind + skipped (drop behind t) TestEnd .bytes) (line + 1 + skipped (drop behind t) TestEnd .lines) ts
   nested-else e k =
@@ -117,7 +117,7 @@ module _ {t : List ℕ} (c : Checks t) {at line : ℕ} {ts : List C.Table} (i : 
 
   -- at a $ET a table is open: it ends, or goes on behind its $BT
   pub nested-some : shapeOf (lineAt t at) ≡ EndTable → 0 < length ts
-  unfolding tables
+  unfolding tablesOpen
   nested-some e =
       let o = behind-end-table c (i .opens) h e in
       omega (arith, tabled-few t ts (table ∷ o .0) (tabled-marks t ts {M′ = table ∷ o .0} (o .1) (i .tabled)))

@@ -11,7 +11,7 @@ use lib.Dec.{leb, eqb}
 use lib.ListN.{length, take, set, replicate, length-append, length-replicate, length-take}
 use lib.Seq.{sets, length-sets, take-all, length-take-le}
 use Rattle.meaning.specs.Answer.{Value, number, string}
-use Rattle.buffers.specs.Buffer.{room, stored}
+use Rattle.buffers.specs.Buffer.{hasRoom, stored}
 use Rattle.buffers.proofs.Laws.{sets-append, stored-in}
 use Rattle.numbers.specs.declared.Quantity.{Quantity}
 use Rattle.numbers.specs.declared.Rounded.the-variants.{Units, OutOfRange}
@@ -163,11 +163,11 @@ unfolding fieldFits bufferWith
 put-none b n f e = record { told = rw e; buffer = rw e }
 
 module _ (b : List ℕ) (n w : ℕ) (f : Option (List ℕ)) (s : List ℕ) (e : f ≡ some s) (l : length s ≡ w) where
-  pub put-short : room b n w ≡ false → Put b n f b false
+  pub put-short : hasRoom b n w ≡ false → Put b n f b false
   unfolding fieldFits bufferWith stored
   put-short r = record { told = rw (e, l, r); buffer = rw (e, l, r) }
 
-  pub put-there : (b′ : List ℕ) → room b n w ≡ true → b′ ≡ sets b n s → Put b n f b′ true
+  pub put-there : (b′ : List ℕ) → hasRoom b n w ≡ true → b′ ≡ sets b n s → Put b n f b′ true
   unfolding fieldFits bufferWith stored
   put-there b′ r h = record { told = rw (e, l, r); buffer = rw (e, l, r) h }
 

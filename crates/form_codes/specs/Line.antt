@@ -49,12 +49,12 @@ optionalCodes (Given a) = argumentCodes a
 optionalCodes Absent = nothing
 
 -- the parameter and three indexes
-abbrev pub fetched : ℕ → Pair → Pair → Pair → Seven
-fetched m r e c = (m, r .0, r .1, e .0, e .1, c .0, c .1)
+abbrev pub fetchCodes : ℕ → Pair → Pair → Pair → Seven
+fetchCodes m r e c = (m, r .0, r .1, e .0, e .1, c .0, c .1)
 
 abbrev pub fetchRow : ℕ → Fetch → CodeRow
 fetchRow k f =
-    rowWith k (f .number) (fetched (f .parameter) (indexCodes (f .«record»)) (indexCodes (f .entry)) (indexCodes (f .count)))
+    rowWith k (f .number) (fetchCodes (f .parameter) (indexCodes (f .«record»)) (indexCodes (f .entry)) (indexCodes (f .count)))
 
 abbrev pub indexSeven : Pair → Seven
 indexSeven i = (i .0, i .1, 0, 0, 0, 0, 0)

@@ -35,7 +35,7 @@ use Rattle.texts.specs.declared.text.PieceRead.the-variants.{PieceTo, NoPiece}
 use Rattle.texts.specs.readers.Text.{placesAt, placesOf, widthNext, fieldOf, fieldAt, placed, pieceAt, before, piecesWithin}
 use Rattle.grammar.specs.Number.{point, Numbered}
 use Rattle.grammar.specs.Argument.{ArgumentSpelled}
-use Rattle.grammar.specs.Text.{PlacesSpelled, unsaid, said, PieceSpelled, plain-byte, field, TextSpelled, end, piece}
+use Rattle.grammar.specs.Text.{PlacesSpelled, unsaid, said, PieceSpelled, plain-byte, field, TextSpelled, end-of-text, piece}
 use Rattle.grammar.proofs.Standing.{tested, Found, byte-is, onward, past, byte-stands, span-here}
 use Rattle.grammar.proofs.Numbers.{digits-read, number-read, number-spelled}
 use Rattle.grammar.proofs.Literals.{row-read}
@@ -109,8 +109,8 @@ piece-some at p s (field a x w y q z u v t) = (opening, x ++ (comma ∷ (y ++ (z
 
 pub text-read : (n : ℕ) (l : List ℕ) (at : ℕ) (ps : List Piece) (s : List ℕ) → TextSpelled at ps s → drop at l ≡ s → length s ≤ n → piecesWithin n l at ≡ some ps
 unfolding piecesWithin before
-text-read zero l at ps s (end at′) e h = refl
-text-read (suc n) l at ps s (end at′) e h = rw (le-leb (length l) at (omega (arith, ap length e, length-drop at l)))
+text-read zero l at ps s (end-of-text at′) e h = refl
+text-read (suc n) l at ps s (end-of-text at′) e h = rw (le-leb (length l) at (omega (arith, ap length e, length-drop at l)))
 text-read zero l at ps z (piece at′ p s qs t u v) e h =
     let b = piece-some at′ p s u in
     absurd (omega (arith, length-append s t, ap length (b .2)))
@@ -244,7 +244,7 @@ before-some p none ps e = absurd (Option·none-ne-some _ e)
 
 pub text-spelled : (n : ℕ) (l : List ℕ) (at : ℕ) (ps : List Piece) → length (drop at l) ≤ n → piecesWithin n l at ≡ some ps → TextSpelled at ps (drop at l)
 unfolding piecesWithin
-text-spelled zero l at ps h e = subst (λ (x : List Piece). TextSpelled at x (drop at l)) (Option·some-injective _ _ e) (rw (drop-all l at (omega (arith, length-drop at l))) (end at))
+text-spelled zero l at ps h e = subst (λ (x : List Piece). TextSpelled at x (drop at l)) (Option·some-injective _ _ e) (rw (drop-all l at (omega (arith, length-drop at l))) (end-of-text at))
 text-spelled (suc n) l at ps h e = go (leb (length l) at) refl e (text-spelled n l)
   where
     rest : (at next : ℕ) (p : Piece) (qs : List Piece) → Found (PieceSpelled at p) l at next → TextSpelled next qs (drop next l) → TextSpelled at (p ∷ qs) (drop at l)
@@ -259,5 +259,5 @@ text-spelled (suc n) l at ps h e = go (leb (length l) at) refl e (text-spelled n
     found at NoPiece k h e more = absurd (Option·none-ne-some _ e)
 
     go : (t : Bool) → leb (length l) at ≡ t → cond t (some []) (elim (pieceAt l at) [ PieceTo p next ↦ before p (piecesWithin n l next) | NoPiece ↦ none ]) ≡ some ps → ((at : ℕ) (qs : List Piece) → length (drop at l) ≤ n → piecesWithin n l at ≡ some qs → TextSpelled at qs (drop at l)) → TextSpelled at ps (drop at l)
-    go true k e more = subst (λ (x : List Piece). TextSpelled at x (drop at l)) (Option·some-injective _ _ e) (rw (drop-all l at (leb-true (length l) at k)) (end at))
+    go true k e more = subst (λ (x : List Piece). TextSpelled at x (drop at l)) (Option·some-injective _ _ e) (rw (drop-all l at (leb-true (length l) at k)) (end-of-text at))
     go false k e more = found at (pieceAt l at) refl h e more

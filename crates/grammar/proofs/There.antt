@@ -11,7 +11,7 @@ use Rattle.arguments.specs.declared.operand.Operand.the-variants.{StringLiteral
 use Rattle.texts.specs.declared.text.Piece.{Piece}
 use Rattle.texts.specs.Width.{totalWidth}
 use Rattle.texts.specs.readers.Text.{textPieces}
-use Rattle.texts.specs.Pieces.{read, piecesOf}
+use Rattle.texts.specs.Pieces.{orNoPieces, piecesOf}
 use Rattle.lines.specs.declared.command.Line.the-variants as L
 use Rattle.lines.specs.declared.command.Line.the-variants.{Section, Heading}
 use Rattle.grammar.specs.Number.{Several}
@@ -57,7 +57,7 @@ heading-there l n from (heading n′ w ps s u t h) =
 
 -- The pieces that a run prints of a text are those that it spells.
 pub pieces-are : (l : List ℕ) (from : ℕ) (ps : List Piece) → TextSpelled from ps (drop from l) → piecesOf l from ≡ ps
-unfolding piecesOf read textPieces
+unfolding piecesOf orNoPieces textPieces
 pieces-are l from ps t = rw (text-read (length l) l from ps (drop from l) t refl (omega (arith, length-drop from l)))
 
 -- So the pieces of an accepted text line, and of an accepted heading, spell its text.

@@ -9,7 +9,7 @@ use borrow.Author.Tests.{eqb-false, eq-eqb, not-true}
 use Rattle.meaning.specs.declared.question.Question.{Question}
 use Rattle.meaning.specs.declared.refusal.Refusal.the-variants.{StoreFull}
 use Rattle.cells.specs.Cell.{Key, Cell, keyAsNumber, wholeCell, wholeKey}
-use Rattle.cells.specs.Asking.{asked, queryOf, queryAllowed, questionAllowed, lookup, queryAnswer, answer, answeredAsk, replied, askOf}
+use Rattle.cells.specs.Asking.{keyAsked, queryOf, queryAllowed, questionAllowed, lookup, queryAnswer, answer, answeredAsk, replied, askOf}
 use Rattle.cells.proofs.BigEndian.{and-true}
 use Rattle.store.specs.Edit.{with, refusedOn, doneOn, fits, putOn, takenOut, removeOn}
 use Rattle.history.specs.LentStore.{LentStore, cellsHeldBy, askIn}
@@ -71,16 +71,16 @@ lookup-kept k (e ∷ es) m cs h u =
     ap (λ (size : ℕ). lookup (keyAsNumber k) (cellsAfter size es ds)) (sym (i .size)) ∙ lookup-kept k es (afterChange e m) ds (i .held) (t .1) ∙ left-other k e m cs h (not-true _ (t .0))
 
 -- "Kind 1 asks for the cell of a key": its answer is that of the cell found
-answer-cell : (q : Question) (cs ds : List Cell) → q .kind ≡ 1 → lookup (keyAsNumber (asked q)) cs ≡ lookup (keyAsNumber (asked q)) ds → replied q (some cs) ≡ replied q (some ds)
+answer-cell : (q : Question) (cs ds : List Cell) → q .kind ≡ 1 → lookup (keyAsNumber (keyAsked q)) cs ≡ lookup (keyAsNumber (keyAsked q)) ds → replied q (some cs) ≡ replied q (some ds)
 unfolding replied queryOf queryAllowed questionAllowed queryAnswer answer
 answer-cell q cs ds h e = rw (eq-eqb (q .kind) 1 h, e)
 
 -- Edits of other keys change no answer of kind 1: for any list of edits, from any bytes, none of them an accepted put or remove
 -- of that key.
-pub other-key : (q : Question) (es : List Change) (m : LentStore) → q .kind ≡ 1 → untouched (asked q) es m ≡ true → askIn (afterChanges es m) q ≡ askIn m q
+pub other-key : (q : Question) (es : List Change) (m : LentStore) → q .kind ≡ 1 → untouched (keyAsked q) es m ≡ true → askIn (afterChanges es m) q ≡ askIn m q
 unfolding askOf cellsHeldAfter
 other-key q es m h u = ap (replied q) (folded es m) ∙ go (cellsHeldBy m) refl
   where
     go : (o : Option (List Cell)) → cellsHeldBy m ≡ o → replied q (cellsHeldAfter (length (m .buffer)) es o) ≡ replied q o
     go none e = refl
-    go (some cs) e = answer-cell q (cellsAfter (length (m .buffer)) es cs) cs h (lookup-kept (asked q) es m cs e u)
+    go (some cs) e = answer-cell q (cellsAfter (length (m .buffer)) es cs) cs h (lookup-kept (keyAsked q) es m cs e u)

@@ -9,7 +9,7 @@ use lib.Dec.{ltb}
 use lib.ListN.{length, length-append}
 use Rattle.meaning.specs.Each.{Each}
 use Rattle.cells.specs.Cell.{Cell, keyNumber, cellAllowed, cellBytes}
-use Rattle.cells.specs.Store.{encode, allowed, above, rising}
+use Rattle.cells.specs.Store.{encode, cellsAllowed, above, rising}
 use Rattle.cells.proofs.BigEndian.{and-true, both}
 use Rattle.cells.proofs.Runs.{Valid}
 use Rattle.store.specs.Edit.{lower, higher, with, without}
@@ -40,13 +40,13 @@ unfolding above
 each-above n [] h = refl
 each-above n (c ∷ cs) h = both (lt-ltb _ _ (h .0)) (each-above n cs (h .1))
 
-allowed-each : (cs : List Cell) → allowed cs ≡ true → Each Allowed cs
-unfolding allowed
+allowed-each : (cs : List Cell) → cellsAllowed cs ≡ true → Each Allowed cs
+unfolding cellsAllowed
 allowed-each [] e = tt
 allowed-each (c ∷ cs) e = let t = and-true _ _ e in (t .0, allowed-each cs (t .1))
 
-each-allowed : (cs : List Cell) → Each Allowed cs → allowed cs ≡ true
-unfolding allowed
+each-allowed : (cs : List Cell) → Each Allowed cs → cellsAllowed cs ≡ true
+unfolding cellsAllowed
 each-allowed [] h = refl
 each-allowed (c ∷ cs) h = both (h .0) (each-allowed cs (h .1))
 

@@ -14,8 +14,8 @@ use Rattle.meaning.specs.declared.question.Question.{Question}
 use Rattle.meaning.specs.declared.end.Ended.{Ended}
 use Rattle.meaning.specs.declared.end.Ended.the-variants.{Finished, Halted}
 use Rattle.cells.specs.Cell.{Key, Cell, keyAsNumber, keyNumber, keyAllowed, cellAllowed, wholeCell, wholeKey}
-use Rattle.cells.specs.Store.{allowed}
-use Rattle.cells.specs.Asking.{asked, Query, theCell, queryAllowed, questionAllowed, lookup, highestOf, ofParameter, ofRecord, queryAnswer, answer, Reply, answeredAsk, refusedAsk, replied, askOf}
+use Rattle.cells.specs.Store.{cellsAllowed}
+use Rattle.cells.specs.Asking.{keyAsked, Query, theCell, queryAllowed, questionAllowed, lookup, highestOf, ofParameter, ofRecord, queryAnswer, answer, Reply, answeredAsk, refusedAsk, replied, askOf}
 use Rattle.cells.proofs.BigEndian.{and-true}
 use Rattle.cells.proofs.CellForm.{same-key, key-allowed as cell-key-allowed}
 use Rattle.cells.proofs.Locating.{held-some}
@@ -51,26 +51,26 @@ module _ (p : Key → Bool) (f : Cell → ℕ) where
       go false e false u r = rw (h .0 (omega (arith, ltb-false (keyNumber c) n e, ltb-false n (keyNumber c) u))) (omega (arith, r))
 
   -- cells with the number of a key within the limits have that key
-  none-of : (l : Key) → keyAllowed l ≡ true → p l ≡ false → (cs : List Cell) → allowed cs ≡ true → Each (λ c. keyNumber c ≡ keyAsNumber l → p (c .key) ≡ false) cs
-  unfolding allowed
+  none-of : (l : Key) → keyAllowed l ≡ true → p l ≡ false → (cs : List Cell) → cellsAllowed cs ≡ true → Each (λ c. keyNumber c ≡ keyAsNumber l → p (c .key) ≡ false) cs
+  unfolding cellsAllowed
   none-of l a n [] h = tt
   none-of l a n (c ∷ cs) h =
-      let t = and-true (cellAllowed c) (allowed cs) h in
+      let t = and-true (cellAllowed c) (cellsAllowed cs) h in
       (λ e. ap p (same-key (c .key) l (cell-key-allowed c (t .0)) a e) ∙ n, none-of l a n cs (t .1))
 
-  top-with : (c : Cell) → keyAllowed (c .key) ≡ true → p (c .key) ≡ false → (cs : List Cell) → allowed cs ≡ true → top (with c cs) ≡ top cs
+  top-with : (c : Cell) → keyAllowed (c .key) ≡ true → p (c .key) ≡ false → (cs : List Cell) → cellsAllowed cs ≡ true → top (with c cs) ≡ top cs
   unfolding with highestOf
   top-with c a n cs h =
       let e : top (c ∷ higher (keyNumber c) cs) ≡ top (higher (keyNumber c) cs) = rw n (omega arith) in
       omega (arith, top-append (lower (keyNumber c) cs) (c ∷ higher (keyNumber c) cs), e, top-around (keyNumber c) cs (none-of (c .key) a n cs h))
 
-  top-without : (l : Key) → keyAllowed l ≡ true → p l ≡ false → (cs : List Cell) → allowed cs ≡ true → top (without (keyAsNumber l) cs) ≡ top cs
+  top-without : (l : Key) → keyAllowed l ≡ true → p l ≡ false → (cs : List Cell) → cellsAllowed cs ≡ true → top (without (keyAsNumber l) cs) ≡ top cs
   unfolding without
   top-without l a n cs h =
       omega (arith, top-append (lower (keyAsNumber l) cs) (higher (keyAsNumber l) cs), top-around (keyAsNumber l) cs (none-of l a n cs h))
 
   -- an edit of a key that doesn't pass
-  top-edited : (size : ℕ) (e : Change) → ((l : Key) → keyNamed e ≡ some l → p l ≡ false) → (cs : List Cell) → allowed cs ≡ true → top (edited size e cs .left) ≡ top cs
+  top-edited : (size : ℕ) (e : Change) → ((l : Key) → keyNamed e ≡ some l → p l ≡ false) → (cs : List Cell) → cellsAllowed cs ≡ true → top (edited size e cs .left) ≡ top cs
   unfolding keyNamed keyOfCell edited putOn removeOn takenOut
   top-edited size (put s) n cs h = go (wholeCell s) refl n
     where
@@ -102,30 +102,30 @@ named-allowed (put s) l h = go (wholeCell s) refl h
     go (some c) e h = let q : c .key ≡ l = cc in rw (← q) (cell-key-allowed c (cell-allowed s c e))
 named-allowed (remove s) l h = key-allowed s l h
 
-module _ (q : Question) (e : Change) (n : ofItsParameter (asked q) (keyNamed e) ≡ false) where
+module _ (q : Question) (e : Change) (n : ofItsParameter (keyAsked q) (keyNamed e) ≡ false) where
   -- a key that the edit names is not of the parameter
   other : (l : Key) → keyNamed e ≡ some l → eqb (l .datasource) (q .datasource) && eqb (l .parameter) (q .parameter) ≡ false
   unfolding ofItsParameter
-  other l h = sym (ap (ofItsParameter (asked q)) h) ∙ n
+  other l h = sym (ap (ofItsParameter (keyAsked q)) h) ∙ n
 
   -- so it is not the key asked for
-  not-asked : keyAllowed (asked q) ≡ true → isKey (asked q) (keyNamed e) ≡ false
+  not-asked : keyAllowed (keyAsked q) ≡ true → isKey (keyAsked q) (keyNamed e) ≡ false
   unfolding isKey
   not-asked a = go (keyNamed e) refl
     where
-      go : (o : Option Key) → keyNamed e ≡ o → isKey (asked q) o ≡ false
+      go : (o : Option Key) → keyNamed e ≡ o → isKey (keyAsked q) o ≡ false
       go none h = refl
-      go (some l) h = by (eqb (keyAsNumber l) (keyAsNumber (asked q))) refl
+      go (some l) h = by (eqb (keyAsNumber l) (keyAsNumber (keyAsked q))) refl
         where
-          by : (t : Bool) → eqb (keyAsNumber l) (keyAsNumber (asked q)) ≡ t → t ≡ false
+          by : (t : Bool) → eqb (keyAsNumber l) (keyAsNumber (keyAsked q)) ≡ t → t ≡ false
           by true u =
-              let k : l ≡ asked q = same-key l (asked q) (named-allowed e l h) a (eqb-true _ _ u) in
+              let k : l ≡ keyAsked q = same-key l (keyAsked q) (named-allowed e l h) a (eqb-true _ _ u) in
               absurd (true≢false (sym (rw (eq-eqb (q .datasource) (q .datasource) refl, eq-eqb (q .parameter) (q .parameter) refl)) ∙ sym (ap (λ (x : Key). eqb (x .datasource) (q .datasource) && eqb (x .parameter) (q .parameter)) k) ∙ other l h))
           by false u = refl
 
-  same-reply : (size : ℕ) (cs : List Cell) → allowed cs ≡ true → replied q (some (edited size e cs .left)) ≡ replied q (some cs)
+  same-reply : (size : ℕ) (cs : List Cell) → cellsAllowed cs ≡ true → replied q (some (edited size e cs .left)) ≡ replied q (some cs)
   unfolding replied queryAllowed questionAllowed queryAnswer answer ofParameter ofRecord
-  same-reply size cs h = by-query q (λ o. reply o (edited size e cs .left) ≡ reply o cs) refl (go (keyAllowed (asked q)) refl) (rw in-parameter) (rw in-record)
+  same-reply size cs h = by-query q (λ o. reply o (edited size e cs .left) ≡ reply o cs) refl (go (keyAllowed (keyAsked q)) refl) (rw in-parameter) (rw in-record)
     where
       reply : Option Query → List Cell → Reply
       reply o ds = cond (queryAllowed o) (answeredAsk (queryAnswer o ds)) (refusedAsk BadRequest)
@@ -138,11 +138,11 @@ module _ (q : Question) (e : Change) (n : ofItsParameter (asked q) (keyNamed e) 
           top-edited (λ l. (eqb (l .datasource) (q .datasource) && eqb (l .parameter) (q .parameter)) && eqb (l .recordNumber) (q .«record»)) (λ c. c .key .entryNumber) size e
           (λ l k. ap (λ (t : Bool). t && eqb (l .recordNumber) (q .«record»)) (other l k)) cs h
 
-      go : (t : Bool) → keyAllowed (asked q) ≡ t → reply (some (theCell (asked q))) (edited size e cs .left) ≡ reply (some (theCell (asked q))) cs
-      go true a = rw (edited-other size (asked q) e cs (not-asked a))
+      go : (t : Bool) → keyAllowed (keyAsked q) ≡ t → reply (some (theCell (keyAsked q))) (edited size e cs .left) ≡ reply (some (theCell (keyAsked q))) cs
+      go true a = rw (edited-other size (keyAsked q) e cs (not-asked a))
       go false a = rw a
 
-other-once : (q : Question) (e : Change) (m : LentStore) → touchesParameter (asked q) e m ≡ false → askIn (afterChange e m) q ≡ askIn m q
+other-once : (q : Question) (e : Change) (m : LentStore) → touchesParameter (keyAsked q) e m ≡ false → askIn (afterChange e m) q ≡ askIn m q
 unfolding touchesParameter askOf succeeded
 other-once q e m n = by (editEnd e m) refl
   where
@@ -159,7 +159,7 @@ other-once q e m n = by (editEnd e m) refl
 
 -- Edits outside a parameter change no answer about it, of any kind: for any list of edits, from any bytes, none of them an
 -- accepted put or remove of a cell of that parameter in that datasource.
-pub other-parameter : (q : Question) (es : List Change) (m : LentStore) → outside (asked q) es m ≡ true → askIn (afterChanges es m) q ≡ askIn m q
+pub other-parameter : (q : Question) (es : List Change) (m : LentStore) → outside (keyAsked q) es m ≡ true → askIn (afterChanges es m) q ≡ askIn m q
 unfolding afterChanges outside
 other-parameter q [] m u = refl
 other-parameter q (e ∷ es) m u =

@@ -10,7 +10,7 @@ use Rattle.meaning.specs.declared.end.Ended.the-variants.{Finished}
 use Rattle.numbers.specs.Range.{within}
 use Rattle.cells.specs.Bytes.{pair, quad, octet, pairAt, quadAt, octetAt, inComplement, fromComplement, begins, equalBytes}
 use Rattle.cells.specs.Cell.{Key, between, keyAllowed, keyBytes, keyAsNumber, each, valueAllowed, cellAllowed, kindByte, valueBytes, cellBytes, keyAt, cellBy, cellOf, passing, front, wholeCell, wholeKey}
-use Rattle.cells.specs.Store.{encode, above, rising, before, cellRun, ordered, cells, cellsHeld}
+use Rattle.cells.specs.Store.{encode, above, rising, withFirst, cellRun, ordered, cells, cellsHeld}
 use Rattle.cells.specs.Asking.{unused, queryOf, queryAllowed, questionAllowed, lookup, found, queryAnswer, answer, replied, askOf, refusedWith}
 use Rattle.store.specs.Edit.{lower, higher, with, without, written, fits, putOn, takenOut, removeOn, writtenBy, checkedEdit, putOf, removeOf}
 use Rattle.history.specs.LentStore.{LentStore, answerIn, cellQuestion}
@@ -89,7 +89,7 @@ unfolding
     encode
     above
     rising
-    before
+    withFirst
     cellRun
     ordered
     cells

@@ -92,7 +92,7 @@ pub record FetchWithin (f : Fetch) : Type 0 where
   pub entry : IndexWithin (f .entry)
   pub count : IndexWithin (f .count)
 
--- "`$PHn text` (n 1–9)": the text starts behind the word, in the line or at its end
+-- "`$PHn text` (n 1–9, ..)": the text starts behind the word, in the line or at its end
 pub record HeadingWithin (l : List ℕ) (n at : ℕ) : Type 0 where
   pub number : Between 1 9 n
   pub behind : 1 ≤ at

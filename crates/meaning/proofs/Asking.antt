@@ -10,7 +10,7 @@ use lib.Seq.{sets}
 use Rattle.meaning.specs.Answer.{Answer}
 use Rattle.meaning.specs.Tree.{done, bind, finished, halted, cut}
 use Rattle.meaning.specs.Meaning.{asksEach}
-use Rattle.meaning.specs.Place.{at, Does}
+use Rattle.meaning.specs.inner.Place.{at, Does}
 use Rattle.meaning.specs.declared.question.Question.{Question}
 use Rattle.meaning.specs.declared.refusal.Overflow.the-variants.{ReadList}
 use Rattle.meaning.proofs.Doing.{then-does, then-over, does-done, does-ask, does-ask-full}

@@ -5,7 +5,7 @@ use Prim.Native.Nat.{ℕ, suc, _-_}
 use native.Mathlib.Omega.{arith}
 use native.Mathlib.Nat.{sub-zero}
 use lib.ListN.{length, length-append}
-use Rattle.meaning.specs.Event.{Event, bytes, joined}
+use Rattle.meaning.specs.Event.{Event, eventBytes, joined}
 use Rattle.meaning.specs.Tree.{Tree, done, stop, ask, print, bind, End, finished, halted, Run, textOf, asking, printing, run}
 use Rattle.meaning.proofs.Runs.{Runs, finishes, stops, asks, asks-full, prints, prints-full, runs, run-print, run-print-full}
 
@@ -51,8 +51,8 @@ module _ {Q R E L A B : Type 0} (source : Q → R) (f : A → Tree Q R E L B) wh
       rw less (ap (asking q) (bind-runs h) ∙ behind-then (q ∷ []) [] (x .end) (x .asked) (x .events) (onward source f (p - length (x .asked)) (r - length (textOf x))))
   bind-runs asks-full = refl
   bind-runs (prints {p} {r} {v} {l} {t} {x} fits h) =
-      let less : r - length (bytes v ++ textOf x) ≡ r - length (bytes v) - length (textOf x) = omega (arith, length-append (bytes v) (textOf x)) in
-      rw less (run-print source p r v l (bind t f) fits ∙ ap (printing v) (bind-runs h) ∙ behind-then [] (v ∷ []) (x .end) (x .asked) (x .events) (onward source f (p - length (x .asked)) (r - length (bytes v) - length (textOf x))))
+      let less : r - length (eventBytes v ++ textOf x) ≡ r - length (eventBytes v) - length (textOf x) = omega (arith, length-append (eventBytes v) (textOf x)) in
+      rw less (run-print source p r v l (bind t f) fits ∙ ap (printing v) (bind-runs h) ∙ behind-then [] (v ∷ []) (x .end) (x .asked) (x .events) (onward source f (p - length (x .asked)) (r - length (eventBytes v) - length (textOf x))))
   bind-runs (prints-full {p} {r} {v} {l} {t} full) = run-print-full source p r v l (bind t f) full
 
   -- The run of a bind is the first run and, where it finished, the next, in the places and the room that are left.

@@ -6,7 +6,7 @@ use Prim.Native.Nat.{ℕ, _-_, _≤_, _<_}
 use native.Mathlib.Omega.{arith}
 use lib.ListN.{length}
 use Rattle.meaning.specs.Each.{Each}
-use Rattle.meaning.specs.Event.{Event, bytes, joined}
+use Rattle.meaning.specs.Event.{Event, eventBytes, joined}
 use Rattle.meaning.specs.Tree.{Tree, ask, refused, cut, End, finished, halted, Run, textOf, ended, asking, printing, run}
 use Rattle.meaning.specs.Compare.{Agree, Prefix, Start, LongerBy, Longer, behindFilter}
 use Rattle.meaning.specs.declared.refusal.Overflow.{Overflow}
@@ -61,7 +61,7 @@ module _ {Q R E L A : Type 0} (s : Q → R) where
       rw (run-ask s p′ r′ q l k (omega arith)) (longer-behind (q ∷ []) [] x (run s (p′ - 1) r′ (k (s q))) (x .end) (longer-runs d (p′ - 1) r′ (omega arith) hr))
   longer-runs asks-full p′ r′ hp hr = cut-at-once _ _
   longer-runs (prints {p} {r} {v} {l} {t} {x} fits d) p′ r′ hp hr =
-      rw (run-print s p′ r′ v l t (omega arith)) (longer-behind [] (v ∷ []) x (run s p′ (r′ - length (bytes v)) t) (x .end) (longer-runs d p′ (r′ - length (bytes v)) hp (omega arith)))
+      rw (run-print s p′ r′ v l t (omega arith)) (longer-behind [] (v ∷ []) x (run s p′ (r′ - length (eventBytes v)) t) (x .end) (longer-runs d p′ (r′ - length (eventBytes v)) hp (omega arith)))
   longer-runs (prints-full full) p′ r′ hp hr = cut-at-once _ _
 
   -- With more places and more room the run is the same or, where it was cut off, it goes on from there.

@@ -7,9 +7,9 @@ use native.Mathlib.Nat.{add-zero}
 use lib.ListN.{length, length-append, set, take, drop}
 use lib.Seq.{sets, length-sets, sets-eq, take-at, length-take-le}
 use Rattle.buffers.proofs.Laws.{sets-append}
-use Rattle.meaning.specs.Event.{Event, line, break, bytes, joined, breaks, pages}
+use Rattle.meaning.specs.Event.{Event, line, break, eventBytes, joined, breaks, pagesOf}
 use Rattle.meaning.specs.Tree.{Tree, done, stop, ask, print, bind, Cause, refused, cut, End, finished, halted, Run, textOf, ended, run}
-use Rattle.meaning.specs.Place.{Place, Fits, Did, placesLeft, roomLeft, Does, from}
+use Rattle.meaning.specs.inner.Place.{Place, Fits, Did, placesLeft, roomLeft, Does, from}
 use Rattle.meaning.specs.declared.refusal.Overflow.the-variants.{ReadList, Output}
 use Rattle.meaning.proofs.Events.{joined-append, breaks-append, page-count}
 use Rattle.meaning.proofs.Runs.{run-print, run-print-full, run-ask, run-ask-full, text-fits, asked-fits}
@@ -56,7 +56,7 @@ module _ {Q R E L A : Type 0} {source : Q → R} {P P′ : Place Q} {t : Tree Q 
   log-is h f = filled (P .log) (P′ .log) (from source P t .asked) (P .asked) (P′ .asked) (d .did .log) (d .did .asked) (omega (arith, left))
 
   -- A run that starts on page 1 ends on the page whose number is how many pages it has.
-  pub page-is : P .pages ≡ 1 → P′ .pages ≡ length (pages (from source P t .events))
+  pub page-is : P .pages ≡ 1 → P′ .pages ≡ length (pagesOf (from source P t .events))
   page-is h = omega (arith, d .did .pages, page-count (from source P t .events))
 
 -- One run behind another.
@@ -109,7 +109,7 @@ page-after g (break b) = omega arith
 
 -- The place after an event.
 abbrev pub withEvent : {Q : Type 0} → Place Q → Event → Place Q
-withEvent P v = record { text = sets (P .text) (P .printed) (bytes v); printed = P .printed + length (bytes v); log = P .log; asked = P .asked; places = P .places; pages = pageAfter (P .pages) v }
+withEvent P v = record { text = sets (P .text) (P .printed) (eventBytes v); printed = P .printed + length (eventBytes v); log = P .log; asked = P .asked; places = P .places; pages = pageAfter (P .pages) v }
 
 -- The place after a question.
 abbrev pub withQuestion : {Q : Type 0} → Place Q → Q → Place Q
@@ -127,10 +127,10 @@ module _ {Q R E L A : Type 0} (source : Q → R) (P : Place Q) where
   does-stop e l = record { did = still P (halted (refused e) l) }
 
   -- An event that fits.
-  pub does-print : (v : Event) (l : L) (a : A) → P .printed + length (bytes v) ≤ length (P .text) → Does {E = E} source (print v l (done a)) P (withEvent P v) (finished a)
+  pub does-print : (v : Event) (l : L) (a : A) → P .printed + length (eventBytes v) ≤ length (P .text) → Does {E = E} source (print v l (done a)) P (withEvent P v) (finished a)
   unfolding run joined breaks
   does-print v l a h =
-      let room : length (bytes v) ≤ length (P .text) - P .printed = omega arith in
+      let room : length (eventBytes v) ≤ length (P .text) - P .printed = omega arith in
       record {
         did = rw (run-print source (placesLeft P) (roomLeft P) v l (done a) room) (record {
           end = refl;
@@ -144,9 +144,9 @@ module _ {Q R E L A : Type 0} (source : Q → R) (P : Place Q) where
       }
 
   -- An event that doesn't fit.
-  pub does-print-cut : (v : Event) (l : L) (t : Tree Q R E L A) → P .printed ≤ length (P .text) → length (P .text) < P .printed + length (bytes v) → Does source (print v l t) P P (halted (cut Output) l)
+  pub does-print-cut : (v : Event) (l : L) (t : Tree Q R E L A) → P .printed ≤ length (P .text) → length (P .text) < P .printed + length (eventBytes v) → Does source (print v l t) P P (halted (cut Output) l)
   does-print-cut v l t f h =
-      let full : length (P .text) - P .printed < length (bytes v) = omega arith in
+      let full : length (P .text) - P .printed < length (eventBytes v) = omega arith in
       record { did = rw (run-print-full source (placesLeft P) (roomLeft P) v l t full) (still P (halted (cut Output) l)) }
 
   -- A question with a place.

@@ -5,7 +5,7 @@ use Prim.Native.Nat.{ℕ, suc, _+_, _≤_}
 use native.Mathlib.Omega.{arith}
 use lib.ListN.{length}
 use Rattle.meaning.specs.Each.{Each}
-use Rattle.meaning.specs.Event.{Event, line, break, joined, breaks, pageFrom, laterPages, pages}
+use Rattle.meaning.specs.Event.{Event, line, break, joined, breaks, pageFrom, laterPages, pagesOf}
 use Rattle.meaning.specs.Rule.{AllAllowed, pageLimit}
 
 -- The text of one list of events behind another.
@@ -28,8 +28,8 @@ later-count (line b ∷ vs) = later-count vs
 later-count (break b ∷ vs) = ap suc (later-count vs)
 
 -- There is one page more than breaks.
-pub page-count : (vs : List Event) → length (pages vs) ≡ 1 + breaks vs
-unfolding pages
+pub page-count : (vs : List Event) → length (pagesOf vs) ≡ 1 + breaks vs
+unfolding pagesOf
 page-count vs = omega (arith, later-count vs)
 
 abbrev Short : ℕ → List (List ℕ) → Type 0
@@ -42,6 +42,6 @@ limited m c (line b ∷ vs) h a = let i = limited m (suc c) vs (a .0) (a .1) in 
 limited m c (break b ∷ vs) h a = let i = limited m 0 vs (omega arith) (a .1) in (omega arith, (omega (arith, i .0), i .1))
 
 -- Where no line is printed on a page that has m lines, each page has at most m.
-pub pages-limited : (m : ℕ) (vs : List Event) → AllAllowed (pageLimit m) 0 vs → Each (λ page. length page ≤ m) (pages vs)
-unfolding pages
+pub pages-limited : (m : ℕ) (vs : List Event) → AllAllowed (pageLimit m) 0 vs → Each (λ page. length page ≤ m) (pagesOf vs)
+unfolding pagesOf
 pages-limited m vs a = let i = limited m 0 vs (omega arith) a in (omega (arith, i .0), i .1)

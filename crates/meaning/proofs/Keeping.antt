@@ -3,9 +3,9 @@ use mathlib.Core.Path.{sym, subst}
 use Prim.Native.Nat.{ℕ, _≤_}
 use lib.ListN.{length}
 use Rattle.meaning.specs.Each.{Each}
-use Rattle.meaning.specs.Event.{pages}
+use Rattle.meaning.specs.Event.{pagesOf}
 use Rattle.meaning.specs.Tree.{Tree, done, stop, ask, print, bind, finished, Run, run}
-use Rattle.meaning.specs.Place.{Place, placesLeft, roomLeft, from, Does}
+use Rattle.meaning.specs.inner.Place.{Place, placesLeft, roomLeft, from, Does}
 use Rattle.meaning.specs.Rule.{Rule, stateAfter, AllAllowed, Keeps, AtEnd, pageLimit}
 use Rattle.meaning.proofs.Events.{pages-limited}
 use Rattle.meaning.proofs.Runs.{Runs, finishes, stops, asks, asks-full, prints, prints-full, runs}
@@ -52,7 +52,7 @@ module _ {S : Type 0} (rule : Rule S) {Q R E L A : Type 0} where
     keeps-end = end-runs Φ s (runs source p r t) h
 
 -- Where a tree prints no line on a page that has m lines, each page of each run has at most m.
-pub keeps-pages : (m : ℕ) {Q R E L A : Type 0} (source : Q → R) (p r : ℕ) (t : Tree Q R E L A) (Φ : A → ℕ → Type 0) → Keeps (pageLimit m) t 0 Φ → Each (λ page. length page ≤ m) (pages (run source p r t .events))
+pub keeps-pages : (m : ℕ) {Q R E L A : Type 0} (source : Q → R) (p r : ℕ) (t : Tree Q R E L A) (Φ : A → ℕ → Type 0) → Keeps (pageLimit m) t 0 Φ → Each (λ page. length page ≤ m) (pagesOf (run source p r t .events))
 keeps-pages m source p r t Φ h = pages-limited m (run source p r t .events) (keeps-run (pageLimit m) source p r t 0 Φ h)
 
 -- What a tree keeps, the value that a call yielded has.

@@ -2,7 +2,7 @@
 use mathlib.Core.Path.{_≡_, refl, _∙_}
 use lib.ListN.{length}
 use Rattle.meaning.specs.Tree.{Tree, done, bind, Cause, End, finished, halted}
-use Rattle.meaning.specs.Place.{Place, Fits, Does}
+use Rattle.meaning.specs.inner.Place.{Place, Fits, Does}
 use Rattle.meaning.proofs.Doing.{text-kept, log-kept, fits-kept, then-does, then-over, does-done}
 
 -- From P on, t is what is left of the whole, which started at P₀.

@@ -6,7 +6,7 @@ use native.Mathlib.Omega.{arith}
 use lib.ListN.{length, take}
 use lib.Seq.{sets}
 use Rattle.meaning.specs.Tree.{Tree, End, Run, run}
-use Rattle.meaning.specs.Place.{at, Does}
+use Rattle.meaning.specs.inner.Place.{at, Does}
 use Rattle.meaning.proofs.Runs.{asked-fits}
 use Rattle.meaning.proofs.Doing.{filled}
 

@@ -5,7 +5,7 @@ use Prim.Native.Nat.{ℕ}
 use lib.ListN.{length}
 use lib.IntN.{pos}
 use Rattle.meaning.specs.Answer.{Answer, cell, integer}
-use Rattle.meaning.specs.Event.{line, break, joined, pageFrom, laterPages, pages}
+use Rattle.meaning.specs.Event.{line, break, joined, pageFrom, laterPages, pagesOf}
 use Rattle.meaning.specs.Tree.{done, stop, ask, print, Run, textOf, run}
 use Rattle.meaning.specs.Number.{numberOf, lineNamed}
 use Rattle.meaning.specs.Meaning.{Meaning}
@@ -45,7 +45,7 @@ pub data Result : Type 0 where
   result : ℕ → ℕ → ℕ → List ℕ → List Question → Result
 
 abbrev resultOf : Run Question Refusal ℕ ℕ → Result
-resultOf x = result (numberOf (x .end)) (lineNamed (x .end)) (length (pages (x .events))) (textOf x) (x .asked)
+resultOf x = result (numberOf (x .end)) (lineNamed (x .end)) (length (pagesOf (x .events))) (textOf x) (x .asked)
 
 abbrev in-space : ℕ → ℕ → Meaning ℕ → Result
 in-space places room t = resultOf (run source places room t)
@@ -68,9 +68,9 @@ Rows =
     -- what was printed and asked before a refusal stands
     × (in-space 1 2 isRefused ≡ result 10 3 1 A (P 9 ∷ []))
     -- the lines of each page
-    × (pages (line A ∷ break [] ∷ break [] ∷ line B ∷ line A ∷ []) ≡ (A ∷ []) ∷ [] ∷ (B ∷ A ∷ []) ∷ [])
+    × (pagesOf (line A ∷ break [] ∷ break [] ∷ line B ∷ line A ∷ []) ≡ (A ∷ []) ∷ [] ∷ (B ∷ A ∷ []) ∷ [])
 
 -- The rows hold.
 pub rows : Rows
-unfolding run joined pageFrom laterPages pages
+unfolding run joined pageFrom laterPages pagesOf
 rows = (refl, refl, refl, refl, refl, refl, refl, refl, refl, refl)

@@ -7,21 +7,21 @@ use native.Mathlib.Nat.{not-suc-le-zero}
 use borrow.Author.Tests.{le-leb, lt-leb, leb-true, leb-false}
 use lib.Dec.{leb}
 use lib.ListN.{length, length-append}
-use Rattle.meaning.specs.Event.{Event, bytes, joined}
+use Rattle.meaning.specs.Event.{Event, eventBytes, joined}
 use Rattle.meaning.specs.Tree.{Tree, done, stop, ask, print, refused, cut, finished, halted, Run, textOf, ended, asking, printing, run}
 use Rattle.meaning.specs.declared.refusal.Overflow.the-variants.{ReadList, Output}
 
 module _ {Q R E L A : Type 0} (source : Q → R) where
   module _ (p r : ℕ) (v : Event) (l : L) (t : Tree Q R E L A) where
     -- An event that fits.
-    pub run-print : length (bytes v) ≤ r → run source p r (print v l t) ≡ printing v (run source p (r - length (bytes v)) t)
+    pub run-print : length (eventBytes v) ≤ r → run source p r (print v l t) ≡ printing v (run source p (r - length (eventBytes v)) t)
     unfolding run
-    run-print h = rw (le-leb (length (bytes v)) r h, run)
+    run-print h = rw (le-leb (length (eventBytes v)) r h, run)
 
     -- An event that doesn't fit.
-    pub run-print-full : r < length (bytes v) → run source p r (print v l t) ≡ ended (halted (cut Output) l)
+    pub run-print-full : r < length (eventBytes v) → run source p r (print v l t) ≡ ended (halted (cut Output) l)
     unfolding run
-    run-print-full h = rw (lt-leb (length (bytes v)) r h, run)
+    run-print-full h = rw (lt-leb (length (eventBytes v)) r h, run)
 
   -- A question with a place.
   pub run-ask : (p r : ℕ) (q : Q) (l : L) (k : R → Tree Q R E L A) → 0 < p → run source p r (ask q l k) ≡ asking q (run source (p - 1) r (k (source q)))
@@ -40,12 +40,12 @@ module _ {Q R E L A : Type 0} (source : Q → R) where
     stops : {p r : ℕ} {e : E} {l : L} → Runs p r (stop e l) (ended (halted (refused e) l))
     asks : {p r : ℕ} {q : Q} {l : L} {k : R → Tree Q R E L A} {x : Run Q E L A} → Runs p r (k (source q)) x → Runs (suc p) r (ask q l k) (asking q x)
     asks-full : {r : ℕ} {q : Q} {l : L} {k : R → Tree Q R E L A} → Runs 0 r (ask q l k) (ended (halted (cut ReadList) l))
-    prints : {p r : ℕ} {v : Event} {l : L} {t : Tree Q R E L A} {x : Run Q E L A} → length (bytes v) ≤ r → Runs p (r - length (bytes v)) t x → Runs p r (print v l t) (printing v x)
-    prints-full : {p r : ℕ} {v : Event} {l : L} {t : Tree Q R E L A} → r < length (bytes v) → Runs p r (print v l t) (ended (halted (cut Output) l))
+    prints : {p r : ℕ} {v : Event} {l : L} {t : Tree Q R E L A} {x : Run Q E L A} → length (eventBytes v) ≤ r → Runs p (r - length (eventBytes v)) t x → Runs p r (print v l t) (printing v x)
+    prints-full : {p r : ℕ} {v : Event} {l : L} {t : Tree Q R E L A} → r < length (eventBytes v) → Runs p r (print v l t) (ended (halted (cut Output) l))
 
-  prints-or-not : (p r : ℕ) (v : Event) (l : L) (t : Tree Q R E L A) → Runs p (r - length (bytes v)) t (run source p (r - length (bytes v)) t) → (b : Bool) → leb (length (bytes v)) r ≡ b → Runs p r (print v l t) (run source p r (print v l t))
-  prints-or-not p r v l t h true e = let fits = leb-true (length (bytes v)) r e in rw (run-print p r v l t fits) (prints fits h)
-  prints-or-not p r v l t h false e = let full = leb-false (length (bytes v)) r e in rw (run-print-full p r v l t full) (prints-full full)
+  prints-or-not : (p r : ℕ) (v : Event) (l : L) (t : Tree Q R E L A) → Runs p (r - length (eventBytes v)) t (run source p (r - length (eventBytes v)) t) → (b : Bool) → leb (length (eventBytes v)) r ≡ b → Runs p r (print v l t) (run source p r (print v l t))
+  prints-or-not p r v l t h true e = let fits = leb-true (length (eventBytes v)) r e in rw (run-print p r v l t fits) (prints fits h)
+  prints-or-not p r v l t h false e = let full = leb-false (length (eventBytes v)) r e in rw (run-print-full p r v l t full) (prints-full full)
 
   -- `run` follows the rules.
   pub runs : (p r : ℕ) (t : Tree Q R E L A) → Runs p r t (run source p r t)
@@ -54,7 +54,7 @@ module _ {Q R E L A : Type 0} (source : Q → R) where
   runs p r (stop e l) = stops
   runs zero r (ask q l k) = asks-full
   runs (suc p) r (ask q l k) = asks (runs p r (k (source q)))
-  runs p r (print v l t) = prints-or-not p r v l t (runs p (r - length (bytes v)) t) (leb (length (bytes v)) r) refl
+  runs p r (print v l t) = prints-or-not p r v l t (runs p (r - length (eventBytes v)) t) (leb (length (eventBytes v)) r) refl
 
   text-within : {p r : ℕ} {t : Tree Q R E L A} {x : Run Q E L A} → Runs p r t x → length (textOf x) ≤ r
   unfolding joined
@@ -62,7 +62,7 @@ module _ {Q R E L A : Type 0} (source : Q → R) where
   text-within stops = omega arith
   text-within (asks h) = text-within h
   text-within asks-full = omega arith
-  text-within (prints {v = v} {x = x} fits h) = omega (arith, text-within h, length-append (bytes v) (textOf x))
+  text-within (prints {v = v} {x = x} fits h) = omega (arith, text-within h, length-append (eventBytes v) (textOf x))
   text-within (prints-full full) = omega arith
 
   asked-within : {p r : ℕ} {t : Tree Q R E L A} {x : Run Q E L A} → Runs p r t x → length (x .asked) ≤ p

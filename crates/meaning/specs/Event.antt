@@ -7,14 +7,14 @@ pub data Event : Type 0 where
   line : List ℕ → Event
   break : List ℕ → Event
 
-abbrev pub bytes : Event → List ℕ
-bytes (line b) = b
-bytes (break b) = b
+abbrev pub eventBytes : Event → List ℕ
+eventBytes (line b) = b
+eventBytes (break b) = b
 
 -- The text is the events' bytes, one behind the other.
 unfoldable pub joined : List Event → List ℕ
 joined [] = []
-joined (v ∷ vs) = bytes v ++ joined vs
+joined (v ∷ vs) = eventBytes v ++ joined vs
 
 -- How many breaks there are.
 unfoldable pub breaks : List Event → ℕ
@@ -36,6 +36,6 @@ laterPages (break b ∷ vs) = pageFrom vs ∷ laterPages vs
 
 -- "A page's lines, headings included, are those printed from the run's start or a break to the next break or the run's end,
 -- under $NOFF too": each page as the list of its lines.
-unfoldable pub pages : List Event → List (List (List ℕ))
+unfoldable pub pagesOf : List Event → List (List (List ℕ))
 unfolding laterPages pageFrom
-pages vs = pageFrom vs ∷ laterPages vs
+pagesOf vs = pageFrom vs ∷ laterPages vs

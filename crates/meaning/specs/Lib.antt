@@ -3,7 +3,7 @@ pub mod Event
 pub mod Tree
 pub mod Number
 pub mod Meaning
-pub mod Place
+pub mod inner
 pub mod Each
 pub mod Compare
 pub mod Rule

@@ -4,7 +4,7 @@ use mathlib.Core.List.{List, [], _∷_}
 use Prim.Native.Nat.{ℕ, zero, suc, _-_}
 use lib.Dec.{leb}
 use lib.ListN.{length}
-use Rattle.meaning.specs.Event.{Event, bytes, joined}
+use Rattle.meaning.specs.Event.{Event, eventBytes, joined}
 use Rattle.meaning.specs.declared.refusal.Overflow.{Overflow}
 use Rattle.meaning.specs.declared.refusal.Overflow.the-variants.{ReadList, Output}
 
@@ -61,7 +61,7 @@ run source places room (stop e l) = ended (halted (refused e) l)
 run source zero room (ask q l k) = ended (halted (cut ReadList) l)
 run source (suc places) room (ask q l k) = asking q (run source places room (k (source q)))
 run source places room (print v l t) =
-    elim (leb (length (bytes v)) room) [
-      | true ↦ printing v (run source places (room - length (bytes v)) t)
+    elim (leb (length (eventBytes v)) room) [
+      | true ↦ printing v (run source places (room - length (eventBytes v)) t)
       | false ↦ ended (halted (cut Output) l)
     ]

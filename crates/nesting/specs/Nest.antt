@@ -12,39 +12,39 @@ use Rattle.nesting.specs.declared.Shape.the-variants.{Section, Remark, T
 pub data Mark : Type 0 where
   section : Mark
   test : Mark
-  other : Mark
+  elsePart : Mark
   table : Mark
 
 -- "At most 10 are open": a test in its $ELSE part is open too
-unfoldable pub tests : List Mark → ℕ
-tests [] = 0
-tests (section ∷ s) = tests s
-tests (test ∷ s) = suc (tests s)
-tests (other ∷ s) = suc (tests s)
-tests (table ∷ s) = tests s
+unfoldable pub testsOpen : List Mark → ℕ
+testsOpen [] = 0
+testsOpen (section ∷ s) = testsOpen s
+testsOpen (test ∷ s) = suc (testsOpen s)
+testsOpen (elsePart ∷ s) = suc (testsOpen s)
+testsOpen (table ∷ s) = testsOpen s
 
 -- "At most 5 are open."
-unfoldable pub tables : List Mark → ℕ
-tables [] = 0
-tables (section ∷ s) = tables s
-tables (test ∷ s) = tables s
-tables (other ∷ s) = tables s
-tables (table ∷ s) = suc (tables s)
+unfoldable pub tablesOpen : List Mark → ℕ
+tablesOpen [] = 0
+tablesOpen (section ∷ s) = tablesOpen s
+tablesOpen (test ∷ s) = tablesOpen s
+tablesOpen (elsePart ∷ s) = tablesOpen s
+tablesOpen (table ∷ s) = suc (tablesOpen s)
 
 -- $SEC: "open at the next $SEC"
 unfoldable pub sectionBegun : List Mark → Option (List Mark)
 sectionBegun [] = some (section ∷ [])
 sectionBegun (section ∷ s) = some (section ∷ [])
 sectionBegun (test ∷ s) = none
-sectionBegun (other ∷ s) = none
+sectionBegun (elsePart ∷ s) = none
 sectionBegun (table ∷ s) = none
 
 -- $ELSE: "repeated" in a test's $ELSE part, "crossed" in a table, else "unmatched"
 unfoldable pub testTurned : List Mark → Option (List Mark)
 testTurned [] = none
 testTurned (section ∷ s) = none
-testTurned (test ∷ s) = some (other ∷ s)
-testTurned (other ∷ s) = none
+testTurned (test ∷ s) = some (elsePart ∷ s)
+testTurned (elsePart ∷ s) = none
 testTurned (table ∷ s) = none
 
 -- $ENDIF: "crossed" in a table, "unmatched"
@@ -52,7 +52,7 @@ unfoldable pub testEnded : List Mark → Option (List Mark)
 testEnded [] = none
 testEnded (section ∷ s) = none
 testEnded (test ∷ s) = some s
-testEnded (other ∷ s) = some s
+testEnded (elsePart ∷ s) = some s
 testEnded (table ∷ s) = none
 
 -- $ET: "crossed" in a test, "unmatched"
@@ -60,7 +60,7 @@ unfoldable pub tableEnded : List Mark → Option (List Mark)
 tableEnded [] = none
 tableEnded (section ∷ s) = none
 tableEnded (test ∷ s) = none
-tableEnded (other ∷ s) = none
+tableEnded (elsePart ∷ s) = none
 tableEnded (table ∷ s) = some s
 
 -- "a line other than $REM has no $SEC before it"
@@ -72,10 +72,10 @@ inSection (m ∷ s) o = o
 unfoldable pub behind : Shape → List Mark → Option (List Mark)
 behind Section s = sectionBegun s
 behind Remark s = some s
-behind Test s = inSection s (cond (ltb (tests s) 10) (some (test ∷ s)) none)
+behind Test s = inSection s (cond (ltb (testsOpen s) 10) (some (test ∷ s)) none)
 behind Else s = testTurned s
 behind EndTest s = testEnded s
-behind Table s = inSection s (cond (ltb (tables s) 5) (some (table ∷ s)) none)
+behind Table s = inSection s (cond (ltb (tablesOpen s) 5) (some (table ∷ s)) none)
 behind EndTable s = tableEnded s
 behind Plain s = inSection s (some s)
 -- no line of the templates that check 4 sees: check 3 comes first (template/specs/Order)
@@ -86,5 +86,5 @@ unfoldable pub allClosed : List Mark → Bool
 allClosed [] = true
 allClosed (section ∷ s) = true
 allClosed (test ∷ s) = false
-allClosed (other ∷ s) = false
+allClosed (elsePart ∷ s) = false
 allClosed (table ∷ s) = false

@@ -159,13 +159,13 @@ millionths-in n h = checked-in decimalLimit _ (integer-inside n h)
 
 -- an answer is known by its number and value
 pub same-answer : (r s : Number) → resultIn r ≡ resultIn s → r ≡ s
-same-answer (number.Value x) (number.Value y) e = cc
-same-answer (number.Value x) number.ZeroDivisor e = absurd (unequal (sym e))
-same-answer (number.Value x) number.OutOfRange e = absurd (unequal (sym e))
-same-answer number.ZeroDivisor (number.Value y) e = absurd (unequal e)
+same-answer (number.Computed x) (number.Computed y) e = cc
+same-answer (number.Computed x) number.ZeroDivisor e = absurd (unequal (sym e))
+same-answer (number.Computed x) number.OutOfRange e = absurd (unequal (sym e))
+same-answer number.ZeroDivisor (number.Computed y) e = absurd (unequal e)
 same-answer number.ZeroDivisor number.ZeroDivisor e = refl
 same-answer number.ZeroDivisor number.OutOfRange e = let n : _≡_ {A = ℕ} 12 13 = cc in absurd (omega arith)
-same-answer number.OutOfRange (number.Value y) e = absurd (unequal e)
+same-answer number.OutOfRange (number.Computed y) e = absurd (unequal e)
 same-answer number.OutOfRange number.ZeroDivisor e = let n : _≡_ {A = ℕ} 13 12 = cc in absurd (omega arith)
 same-answer number.OutOfRange number.OutOfRange e = refl
 

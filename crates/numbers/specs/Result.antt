@@ -2,7 +2,7 @@
 use Prim.Native.Nat.{ℕ}
 use lib.IntN.{ℤ}
 use Rattle.numbers.specs.declared.Number.{Number}
-use Rattle.numbers.specs.declared.Number.the-variants.{Value, ZeroDivisor, OutOfRange}
+use Rattle.numbers.specs.declared.Number.the-variants.{Computed, ZeroDivisor, OutOfRange}
 
 -- success with a value, or a refusal with its number
 pub data Result : Type 0 where
@@ -11,7 +11,7 @@ pub data Result : Type 0 where
 
 -- "12. The divisor is zero. 13. A result is out of range"
 abbrev pub resultIn : Number → Result
-resultIn (Value z) = success z
+resultIn (Computed z) = success z
 resultIn ZeroDivisor = noResult 12
 resultIn OutOfRange = noResult 13
 

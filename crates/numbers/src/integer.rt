@@ -38,7 +38,7 @@ pub fn divide(a: i64, b: i64) -> Number
     if b == 0 {
         return Number::ZeroDivisor;
     }
-    Number::Value(a / b)
+    Number::Computed(a / b)
 }
 
 pub fn absolute(n: i64) -> Number
@@ -54,5 +54,5 @@ pub fn to_decimal(n: i64) -> Number
     if !range::in_range(INTEGER_LIMIT, n) {
         return Number::OutOfRange;
     }
-    Number::Value(n * 1_000_000)
+    Number::Computed(n * 1_000_000)
 }

@@ -20,7 +20,7 @@ pub mod places; // places.rt: rounding to places
 
 // What a calculation answers.
 pub enum Number {
-    Value(i64),
+    Computed(i64),
     ZeroDivisor,
     OutOfRange,
 }

@@ -34,7 +34,7 @@ pub fn check(limit: u64, z: i64) -> Number
     ensures { λ r. ⌜ resultIn r ≡ checked limit z ⌝ }
 {
     if in_range(limit, z) {
-        Number::Value(z)
+        Number::Computed(z)
     } else {
         Number::OutOfRange
     }
@@ -50,9 +50,9 @@ pub fn check_signed(limit: u64, negative: bool, m: u64) -> Number
     }
     let z = m as i64;
     if negative {
-        Number::Value(-z)
+        Number::Computed(-z)
     } else {
-        Number::Value(z)
+        Number::Computed(z)
     }
 }
 

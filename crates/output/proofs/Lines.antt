@@ -16,7 +16,7 @@ use Rattle.texts.specs.declared.text.PieceRead.the-variants.{PieceTo, NoPiece}
 use Rattle.texts.specs.declared.text.FieldRead.{FieldRead}
 use Rattle.texts.specs.declared.text.FieldRead.the-variants.{FieldTo, NoField}
 use Rattle.texts.specs.readers.Text.{fieldAt, placed, pieceAt, before, piecesWithin, textPieces}
-use Rattle.texts.specs.Pieces.{read, piecesOf}
+use Rattle.texts.specs.Pieces.{orNoPieces, piecesOf}
 use Rattle.meaning.specs.Each.{Each}
 use Rattle.meaning.specs.Tree.{done, bind}
 use Rattle.meaning.proofs.Yielding.{Yields, yields-bind}
@@ -24,7 +24,7 @@ use Rattle.values.specs.Machine.{Machine}
 use Rattle.values.specs.Worth.{Worth}
 use Rattle.values.specs.Meanings.{argumentMeaning}
 use Rattle.values.proofs.Giving.{Anything}
-use Rattle.pages.specs.Text.{fieldValues, rendered, anyWrong, printed, textMeaning}
+use Rattle.pages.specs.Text.{fieldValues, rendered, anyWrong, printedUnlessWrong, textMeaning}
 use Rattle.pages.specs.Shown.{fieldBytes}
 use Rattle.pages.specs.declared.page.Page.{Page}
 use Rattle.pages.specs.declared.heading.Heading.{Heading}
@@ -61,17 +61,17 @@ piece-clean l i h = go (leb (length l) i) refl (eqb (byteAt l i) 123) (eqb (byte
     go false e false true = tt
     go false e false false = each-at Printable 0 l i (omega (arith, leb-false (length l) i e)) h
 
-before-clean : (p : Piece) (o : Option (List Piece)) → PieceClean p → Each PieceClean (read o) → Each PieceClean (read (before p o))
-unfolding read before
+before-clean : (p : Piece) (o : Option (List Piece)) → PieceClean p → Each PieceClean (orNoPieces o) → Each PieceClean (orNoPieces (before p o))
+unfolding orNoPieces before
 before-clean p none h k = tt
 before-clean p (some ps) h k = (h, k)
 
-pieces-within : (n : ℕ) (l : List ℕ) (i : ℕ) → Clean l → Each PieceClean (read (piecesWithin n l i))
-unfolding piecesWithin read
+pieces-within : (n : ℕ) (l : List ℕ) (i : ℕ) → Clean l → Each PieceClean (orNoPieces (piecesWithin n l i))
+unfolding piecesWithin orNoPieces
 pieces-within zero l i h = tt
 pieces-within (suc n) l i h = by (leb (length l) i) (pieceAt l i) (piece-clean l i h) (λ next. pieces-within n l next h)
   where
-    by : (b : Bool) (r : PieceRead) → ReadClean r → ((next : ℕ) → Each PieceClean (read (piecesWithin n l next))) → Each PieceClean (read (cond b (some []) (elim r [ PieceTo p next ↦ before p (piecesWithin n l next) | NoPiece ↦ none ])))
+    by : (b : Bool) (r : PieceRead) → ReadClean r → ((next : ℕ) → Each PieceClean (orNoPieces (piecesWithin n l next))) → Each PieceClean (orNoPieces (cond b (some []) (elim r [ PieceTo p next ↦ before p (piecesWithin n l next) | NoPiece ↦ none ])))
     by true r k rest = tt
     by false (PieceTo p next) k rest = before-clean p (piecesWithin n l next) k (rest next)
     by false NoPiece k rest = tt
@@ -98,13 +98,13 @@ values-clean m h l c n (Placed f ∷ ps) =
 text-says : (m : Machine) → VariablesClean (m .variables) → (l : List ℕ) → Clean l → (from n : ℕ) → Says (textMeaning m l from n) (λ _. Unit {0})
 unfolding textMeaning
 text-says m h l c from n =
-    says-bind (fieldValues m l n (piecesOf l from)) (λ ws. printed n (anyWrong ws) (rendered (piecesOf l from) ws)) (Each WorthClean) (λ _. Unit {0})
+    says-bind (fieldValues m l n (piecesOf l from)) (λ ws. printedUnlessWrong n (anyWrong ws) (rendered (piecesOf l from) ws)) (Each WorthClean) (λ _. Unit {0})
     (asks-say (fieldValues m l n (piecesOf l from)) Anything (Each WorthClean) (values-give m l n (piecesOf l from)) (values-clean m h l c n (piecesOf l from)))
     (λ ws k. go (anyWrong ws) (rendered (piecesOf l from) ws) (rendered-clean (piecesOf l from) ws (pieces-clean l from c) k))
   where
-    go : (w : Bool) (b : List ℕ) → Clean b → Says (printed n w b) (λ _. Unit {0})
+    go : (w : Bool) (b : List ℕ) → Clean b → Says (printedUnlessWrong n w b) (λ _. Unit {0})
     go true b k = tt
-    go false b k = (record { text = b; ends = refl; clean = k }, tt)
+    go false b k = (record { text = b; line-end = refl; clean = k }, tt)
 
 module _ (m : Machine) (h : VariablesClean (m .variables)) where
   say-says : (l : List ℕ) → Clean l → (from n : ℕ) (p : Page) → Says (sayMeaning m l from n p) Anything

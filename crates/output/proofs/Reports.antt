@@ -220,7 +220,7 @@ text-is-lines t name b n places room = by (holdsCells (cellsHeld b n))
     checked : (k : Checked) → templateChecked t name ≡ k → AllProper (checkedOutcome t (answers b n) places room k)
     checked (Accepted r) e =
         says-events (answers b n) (answers-clean b n) (StateClean t) places room (runMeaning t r)
-        (run-says 50000 t (bytes-permitted t (accepted-runs t name r e .checks .bytes)) (r .end) (startOf r) (start-clean t r))
+        (run-says 50000 t (bytes-permitted t (accepted-runs t name r e .checks .bytes)) (r .until) (startOf r) (start-clean t r))
     checked (Refused e l) i = tt
 
     by : (f : Bool) → AllProper (cond f (checkedOutcome t (answers b n) places room (templateChecked t name)) (refusedReport BadStore 0))

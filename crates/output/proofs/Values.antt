@@ -30,7 +30,7 @@ use Rattle.values.specs.Fetching.{element, fetchMeaning}
 use Rattle.values.specs.Meanings.{worthOf, operandMeaning, argumentMeaning}
 use Rattle.values.proofs.Answering.{cell-has, fetch-has}
 use Rattle.values.proofs.Ranges.{numbered-each}
-use Rattle.commands.specs.Settling.{Settled, settled, against, andThen, concluded, stringFrom}
+use Rattle.commands.specs.Settling.{Settled, settled, refusedFor, andThen, concluded, stringFrom}
 use Rattle.commands.specs.Setting.{asVariable, stringNew, integerNew, decimalNew, withStrings, setOf, setMeaning}
 use Rattle.control.specs.Fetching.{recordsMeaning, entriesMeaning}
 use Rattle.control.proofs.Ranges as C
@@ -129,15 +129,15 @@ module _ (m : Machine) (line : ℕ) where
 -- what follows from the values, where something does
 abbrev Whenever : {A : Type 0} → Settled A → (A → Type 0) → Type 0
 Whenever (settled a) Φ = Φ a
-Whenever (against e) Φ = Unit {0}
+Whenever (refusedFor e) Φ = Unit {0}
 
 concluded-clean : {A : Type 0} (line : ℕ) (x : Settled A) (Φ : A → Type 0) → Whenever x Φ → Yields AnswerClean (concluded line x) Φ
 concluded-clean line (settled a) Φ h = h
-concluded-clean line (against e) Φ h = tt
+concluded-clean line (refusedFor e) Φ h = tt
 
 then-always : {A B : Type 0} (x : Settled A) (f : A → Settled B) (Φ : B → Type 0) → ((a : A) → Whenever (f a) Φ) → Whenever (andThen x f) Φ
 then-always (settled a) f Φ h = h a
-then-always (against e) f Φ h = tt
+then-always (refusedFor e) f Φ h = tt
 
 string-new : (w : Worth) → WorthClean w → Whenever (stringNew w) Clean
 unfolding stringNew stringFrom
@@ -149,7 +149,7 @@ string-new (string s) h = each-take Printable 16 s h
 stored-clean : (l : List (List ℕ)) (n : ℕ) (x : Settled (List ℕ)) → Each Clean l → Whenever x Clean → (f : List (List ℕ) → Variables) → ((k : List (List ℕ)) → Each Clean k → VariablesClean (f k)) → Whenever (andThen (asVariable l n x) (λ k. settled (f k))) VariablesClean
 unfolding asVariable
 stored-clean l n (settled s) h c f g = g (setNumbered l n s) (C.numbered-each Clean l n s c h)
-stored-clean l n (against e) h c f g = tt
+stored-clean l n (refusedFor e) h c f g = tt
 
 module _ (v : Variables) (h : VariablesClean v) where
   set-of : (o : Operation) (t : Target) (w : Worth) → WorthClean w → Whenever (setOf v o t w) VariablesClean

@@ -17,7 +17,7 @@ use Rattle.values.specs.Meanings.{argumentMeaning}
 use Rattle.values.proofs.Allowed.{Allowed, AsksAllowed, argument-asks}
 use Rattle.pages.specs.declared.page.Page.{Page}
 use Rattle.pages.specs.declared.heading.Heading.{Heading}
-use Rattle.pages.specs.Text.{fieldValues, rendered, anyWrong, printed, textMeaning}
+use Rattle.pages.specs.Text.{fieldValues, rendered, anyWrong, printedUnlessWrong, textMeaning}
 use Rattle.pages.specs.inner.Listing.{Due, saysOn, linesDue}
 use Rattle.pages.proofs.Listing.{top-says}
 use Rattle.pages.specs.Page.{on, advancedOf, sayMeaning, breakMeaning, turnMeaning, topMeaning, lineStep}
@@ -29,7 +29,7 @@ values-ask m d l line (Placed f ∷ ps) k =
     asks-then AnswerWithin Allowed (argumentMeaning m l line (f .argument)) (λ w. bind (fieldValues m l line ps) (λ ws. done (w ∷ ws))) (argument-asks m line d l (f .argument) (k .0 .argument)) (λ w.
     asks-then AnswerWithin Allowed (fieldValues m l line ps) (λ ws. done (w ∷ ws)) (values-ask m d l line ps (k .1)) (λ ws. tt))
 
-printed-asks : (line : ℕ) (b : Bool) (s : List ℕ) → AsksAllowed (printed line b s)
+printed-asks : (line : ℕ) (b : Bool) (s : List ℕ) → AsksAllowed (printedUnlessWrong line b s)
 printed-asks line true s = tt
 printed-asks line false s = tt
 
@@ -38,7 +38,7 @@ module _ (m : Machine) (d : Between 1 35 (m .datasource)) where
   unfolding sayMeaning textMeaning
   say-asks l from line p =
       asks-then AnswerWithin Allowed (textMeaning (on m p) l from line) (λ _. done (advancedOf p))
-      (asks-then AnswerWithin Allowed (fieldValues (on m p) l line (piecesOf l from)) (λ ws. printed line (anyWrong ws) (rendered (piecesOf l from) ws)) (values-ask (on m p) d l line (piecesOf l from) (fields-limited l from)) (λ ws. printed-asks line (anyWrong ws) (rendered (piecesOf l from) ws)))
+      (asks-then AnswerWithin Allowed (fieldValues (on m p) l line (piecesOf l from)) (λ ws. printedUnlessWrong line (anyWrong ws) (rendered (piecesOf l from) ws)) (values-ask (on m p) d l line (piecesOf l from) (fields-limited l from)) (λ ws. printed-asks line (anyWrong ws) (rendered (piecesOf l from) ws)))
       (λ _. tt)
 
   says-ask : (ds : List Due) (p : Page) → AsksAllowed (saysOn m ds p)

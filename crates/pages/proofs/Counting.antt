@@ -16,7 +16,7 @@ use Rattle.meaning.proofs.Keeping.{keeps-bind}
 use Rattle.values.specs.Machine.{Machine}
 use Rattle.values.specs.Meanings.{argumentMeaning}
 use Rattle.values.proofs.Giving.{Gives, Anything, gives-bind, gives-keeps, argument-gives}
-use Rattle.pages.specs.Text.{fieldValues, rendered, anyWrong, printed, textMeaning}
+use Rattle.pages.specs.Text.{fieldValues, rendered, anyWrong, printedUnlessWrong, textMeaning}
 use Rattle.pages.specs.declared.page.Page.{Page}
 use Rattle.pages.specs.declared.heading.Heading.{Heading}
 use Rattle.pages.specs.inner.Listing.{Due, saysOn, linesDue}
@@ -56,10 +56,10 @@ values-give m l n (Placed f ∷ ps) =
 text-counts : (m : Machine) (l : List ℕ) (from n c : ℕ) → Keeps counting (textMeaning m l from n) c (λ _ c′. c′ ≡ c)
 unfolding textMeaning
 text-counts m l from n c =
-    keeps-bind counting (fieldValues m l n (piecesOf l from)) (λ ws. printed n (anyWrong ws) (rendered (piecesOf l from) ws)) c (λ ws c′. Anything ws × (c′ ≡ c)) (λ _ c′. c′ ≡ c) (gives-keeps counting (fieldValues m l n (piecesOf l from)) c Anything (values-give m l n (piecesOf l from)))
+    keeps-bind counting (fieldValues m l n (piecesOf l from)) (λ ws. printedUnlessWrong n (anyWrong ws) (rendered (piecesOf l from) ws)) c (λ ws c′. Anything ws × (c′ ≡ c)) (λ _ c′. c′ ≡ c) (gives-keeps counting (fieldValues m l n (piecesOf l from)) c Anything (values-give m l n (piecesOf l from)))
     (λ ws c₁ e. go (anyWrong ws) (rendered (piecesOf l from) ws) c₁ (e .1))
   where
-    go : (w : Bool) (b : List ℕ) (c₁ : ℕ) → c₁ ≡ c → Keeps counting (printed n w b) c₁ (λ _ c′. c′ ≡ c)
+    go : (w : Bool) (b : List ℕ) (c₁ : ℕ) → c₁ ≡ c → Keeps counting (printedUnlessWrong n w b) c₁ (λ _ c′. c′ ≡ c)
     go true b c₁ e = tt
     go false b c₁ e = (tt, e)
 

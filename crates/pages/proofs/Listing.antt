@@ -18,12 +18,8 @@ use Rattle.pages.specs.declared.page.Page.{Page}
 use Rattle.pages.specs.declared.heading.Heading.{Heading}
 use Rattle.pages.specs.Heading.{noHeading}
 use Rattle.pages.specs.Page.{brokenOf, advancedOf, on, sayMeaning, headLine, headFrom, headNumber, headMeaning, headsMeaning, highestDefined, breakMeaning, turnMeaning, topMeaning, lineStep}
-use Rattle.pages.specs.inner.Listing.{Due, saysOn, headsDue, shown, headsOn, topDue, textDue, linesDue, bytesOf, dueOf, linesOn, leadOf, headingDue, lineDue}
+use Rattle.pages.specs.inner.Listing.{turnedPage, Due, saysOn, headsDue, shown, headsOn, topDue, textDue, linesDue, bytesOf, dueOf, linesOn, leadOf, headingDue, lineDue}
 use Rattle.pages.proofs.Highest.{highest-most, highest-inside, highest-over}
-
--- the page behind the break, if there is one
-abbrev pub turned : Page → Page
-turned p = cond (ltb 60 (p .row)) (brokenOf p) p
 
 -- ---- a step is a break, if one is due, and these lines
 
@@ -65,7 +61,7 @@ module _ (m : Machine) where
         go true false = heads-say (take (highestDefined hs 9) hs) p
         go false b = say-last l 0 due p
 
-    pub step-says : (feeds : Bool) (hs : List Heading) (p : Page) → lineStep m t due feeds hs l p ≡ bind (turnMeaning due feeds p) (λ _. saysOn m (linesDue t due hs l (turned p)) (turned p))
+    pub step-says : (feeds : Bool) (hs : List Heading) (p : Page) → lineStep m t due feeds hs l p ≡ bind (turnMeaning due feeds p) (λ _. saysOn m (linesDue t due hs l (turnedPage p)) (turnedPage p))
     unfolding lineStep turnMeaning breakMeaning
     step-says feeds hs p = go (ltb 60 (p .row))
       where

@@ -16,7 +16,7 @@ use Rattle.values.proofs.Giving.{Anything, gives-keeps}
 use Rattle.pages.specs.declared.page.Page.{Page}
 use Rattle.pages.specs.declared.heading.Heading.{Heading}
 use Rattle.texts.specs.Pieces.{piecesOf}
-use Rattle.pages.specs.Text.{fieldValues, rendered, anyWrong, printed, textMeaning}
+use Rattle.pages.specs.Text.{fieldValues, rendered, anyWrong, printedUnlessWrong, textMeaning}
 use Rattle.pages.specs.Page.{advancedOf, on, sayMeaning, breakMeaning, turnMeaning, topMeaning, lineStep}
 use Rattle.pages.specs.inner.Listing.{Due, saysOn, textDue, linesDue}
 use Rattle.pages.proofs.Listing.{top-says, lines-few}
@@ -27,10 +27,10 @@ use Rattle.pages.proofs.Counting.{values-give}
 text-keeps : (m : Machine) (l : List ℕ) (from n c : ℕ) → c < 60 → Keeps (pageLimit 60) (textMeaning m l from n) c (λ _ c′. c′ ≡ suc c)
 unfolding textMeaning
 text-keeps m l from n c h =
-    keeps-bind (pageLimit 60) (fieldValues m l n (piecesOf l from)) (λ ws. printed n (anyWrong ws) (rendered (piecesOf l from) ws)) c (λ ws c′. Anything ws × (c′ ≡ c)) (λ _ c′. c′ ≡ suc c) (gives-keeps (pageLimit 60) (fieldValues m l n (piecesOf l from)) c Anything (values-give m l n (piecesOf l from)))
+    keeps-bind (pageLimit 60) (fieldValues m l n (piecesOf l from)) (λ ws. printedUnlessWrong n (anyWrong ws) (rendered (piecesOf l from) ws)) c (λ ws c′. Anything ws × (c′ ≡ c)) (λ _ c′. c′ ≡ suc c) (gives-keeps (pageLimit 60) (fieldValues m l n (piecesOf l from)) c Anything (values-give m l n (piecesOf l from)))
     (λ ws c₁ e. go (anyWrong ws) (rendered (piecesOf l from) ws) c₁ (e .1))
   where
-    go : (w : Bool) (b : List ℕ) (c₁ : ℕ) → c₁ ≡ c → Keeps (pageLimit 60) (printed n w b) c₁ (λ _ c′. c′ ≡ suc c)
+    go : (w : Bool) (b : List ℕ) (c₁ : ℕ) → c₁ ≡ c → Keeps (pageLimit 60) (printedUnlessWrong n w b) c₁ (λ _ c′. c′ ≡ suc c)
     go true b c₁ e = tt
     go false b c₁ e = (omega arith, ap suc e)
 

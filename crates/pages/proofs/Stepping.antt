@@ -19,7 +19,7 @@ use Rattle.meaning.proofs.Looping.{Leads, leads-start, leads-next, leads-over, 
 use Rattle.values.specs.declared.scene.Scene.{Scene}
 use Rattle.values.specs.inner.Word.{questions}
 use Rattle.values.specs.Source.{answers}
-use Rattle.texts.specs.Pieces.{read, piecesOf, fieldCount}
+use Rattle.texts.specs.Pieces.{orNoPieces, piecesOf, fieldCount}
 use Rattle.texts.specs.Width.{totalWidth}
 use Rattle.texts.specs.readers.Text.{piecesWithin, textPieces, fitsBehind, textFits}
 use Rattle.pages.specs.declared.text.Told.{Told}
@@ -39,7 +39,7 @@ unfolding textFits fitsBehind textPieces piecesWithin totalWidth
 blank-fits = refl
 
 pub blank-fields : fieldCount (piecesOf [] 0) ≡ 0
-unfolding piecesOf read textPieces piecesWithin
+unfolding piecesOf orNoPieces textPieces piecesWithin
 blank-fields = refl
 
 -- ---- where the loop stands: the rest of the lines, from a page and what is filled there

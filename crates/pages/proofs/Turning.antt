@@ -9,7 +9,7 @@ use borrow.Author.Tests.{le-ltb, lt-ltb}
 use lib.ListN.{length, set, length-set}
 use Rattle.meaning.specs.Event.{break}
 use Rattle.meaning.specs.Tree.{done}
-use Rattle.meaning.specs.Place.{at}
+use Rattle.meaning.specs.inner.Place.{at}
 use Rattle.meaning.specs.declared.refusal.Refusal.{Refusal}
 use Rattle.meaning.specs.declared.refusal.Overflow.the-variants.{Output}
 use Rattle.meaning.specs.declared.end.Halt.the-variants.{Cut}

@@ -7,7 +7,7 @@ use lib.IntN.{pos}
 use lib.ListN.{length, replicate}
 use Rattle.meaning.specs.Answer as A
 use Rattle.meaning.specs.Answer.{Answer}
-use Rattle.meaning.specs.Event.{pageFrom, laterPages, pages}
+use Rattle.meaning.specs.Event.{pageFrom, laterPages, pagesOf}
 use Rattle.meaning.specs.Tree.{done, bind, Run, run, halted, cut}
 use Rattle.meaning.specs.Meaning.{Meaning}
 use Rattle.meaning.specs.declared.question.Question.{Question}
@@ -19,7 +19,7 @@ use Rattle.values.specs.Machine.{Machine}
 use Rattle.pages.specs.declared.page.Page.{Page}
 use Rattle.pages.specs.declared.heading.Heading.{Heading}
 use Rattle.pages.specs.Heading.{noHeading}
-use Rattle.texts.specs.Pieces.{read, piecesOf}
+use Rattle.texts.specs.Pieces.{orNoPieces, piecesOf}
 use Rattle.pages.specs.Text.{textMeaning}
 use Rattle.pages.specs.Page.{newPage, sayMeaning, headLine, headFrom, headNumber, headMeaning, highestDefined, breakMeaning, turnMeaning, topMeaning, lineStep}
 
@@ -37,29 +37,29 @@ abbrev source : Question → Answer
 source q = A.missing
 
 -- text lines one after another, with what headings and what machine there are at each
-record Due : Type 0 where
+record TextDue : Type 0 where
   machine : Machine
   number : ℕ
-  feeds : Bool
+  formFeeds : Bool
   headings : List Heading
   bytes : List ℕ
 
-abbrev linesMeaning : List ℕ → List Due → Page → Meaning Page
+abbrev linesMeaning : List ℕ → List TextDue → Page → Meaning Page
 linesMeaning t [] p = done p
-linesMeaning t (d ∷ ds) p = bind (lineStep (d .machine) t (d .number) (d .feeds) (d .headings) (d .bytes) p) (linesMeaning t ds)
+linesMeaning t (d ∷ ds) p = bind (lineStep (d .machine) t (d .number) (d .formFeeds) (d .headings) (d .bytes) p) (linesMeaning t ds)
 
 -- so many blank text lines, on line 7, in so many bytes of room
 abbrev ran : List Heading → ℕ → ℕ → Run Question Refusal ℕ Page
-ran hs n room = run source 0 room (linesMeaning (ascii "$PH2 ") (replicate n (record { machine = sample; number = 7; feeds = true; headings = hs; bytes = [] })) newPage)
+ran hs n room = run source 0 room (linesMeaning (ascii "$PH2 ") (replicate n (record { machine = sample; number = 7; formFeeds = true; headings = hs; bytes = [] })) newPage)
 
 abbrev Rows : Type 0
 Rows =
     -- document 01: 60 lines without heading: one page; 61: two
-    (length (pages (ran noHeadings 60 1000 .events)) ≡ 1)
-    × (length (pages (ran noHeadings 61 1000 .events)) ≡ 2)
+    (length (pagesOf (ran noHeadings 60 1000 .events)) ≡ 1)
+    × (length (pagesOf (ran noHeadings 61 1000 .events)) ≡ 2)
     -- headings 1 and 2, then a blank line: 57 lines are left on the page
-    × (length (pages (ran secondHeading 57 1000 .events)) ≡ 1)
-    × (length (pages (ran secondHeading 58 1000 .events)) ≡ 2)
+    × (length (pagesOf (ran secondHeading 57 1000 .events)) ≡ 1)
+    × (length (pagesOf (ran secondHeading 58 1000 .events)) ≡ 2)
     -- an undefined heading's refusal names the text line due, a defined one's its $PH line, the closing blank line's the text line
     × (ran secondHeading 1 0 .end ≡ halted (cut Output) 7)
     × (ran secondHeading 1 1 .end ≡ halted (cut Output) 4)
@@ -67,5 +67,5 @@ Rows =
 
 -- The rows hold.
 pub rows : Rows
-unfolding run pageFrom laterPages pages piecesWithin textPieces read piecesOf textMeaning sayMeaning headLine headFrom headNumber headMeaning highestDefined breakMeaning turnMeaning topMeaning lineStep
+unfolding run pageFrom laterPages pagesOf piecesWithin textPieces orNoPieces piecesOf textMeaning sayMeaning headLine headFrom headNumber headMeaning highestDefined breakMeaning turnMeaning topMeaning lineStep
 rows = (refl, refl, refl, refl, refl, refl, refl)

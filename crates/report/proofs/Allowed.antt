@@ -58,7 +58,7 @@ unfolding reportOf checkedOutcome
 questions-allowed t name b n places room = by (holdsCells (cellsHeld b n))
   where
     checked : (k : Checked) → templateChecked t name ≡ k → EachAllowed (checkedOutcome t (answers b n) places room k)
-    checked (Accepted r) e = asks-run AnswerWithin Allowed (answers b n) (answers-within b n) places room (runMeaning t r) (run-asks 50000 t (r .end) 1 (startOf r) 0 (accepted-runs t name r e .inside) (omega arith) (start-on t name r e) (start-in-range r))
+    checked (Accepted r) e = asks-run AnswerWithin Allowed (answers b n) (answers-within b n) places room (runMeaning t r) (run-asks 50000 t (r .until) 1 (startOf r) 0 (accepted-runs t name r e .inside) (omega arith) (start-on t name r e) (start-in-range r))
     checked (Refused e l) i = tt
 
     by : (f : Bool) → EachAllowed (cond f (checkedOutcome t (answers b n) places room (templateChecked t name)) (refusedReport BadStore 0))

@@ -10,7 +10,7 @@ use lib.Seq.{sets, length-sets}
 use Rattle.cells.specs.Store.{holdsCells}
 use Rattle.meaning.specs.Answer.{Answer}
 use Rattle.meaning.specs.Tree.{End, finished, run}
-use Rattle.meaning.specs.Place.{Place, at, Does}
+use Rattle.meaning.specs.inner.Place.{Place, at, Does}
 use Rattle.meaning.specs.Number.{numberOf, lineNamed, endOf}
 use Rattle.meaning.specs.Meaning.{Meaning}
 use Rattle.meaning.specs.declared.question.Question.{Question}
@@ -103,7 +103,7 @@ module _ (t name b : List ℕ) (n : ℕ) (T₀ : List ℕ) (R₀ : List Question
           let h = sym (part-held b n (g .stored m)) ∙ k .ready .holds in
           rw (h, g .accepted m) (ap (λ (f : Question → Answer). ranTo (run f (length R₀) (length T₀) (runMeaning t (g .run m)))) (sym (part-answers b n (g .stored m))))
 
-      first : (left end printed asked page : ℕ) (st : State) → left ≡ 50000 → end ≡ g .run m .end → printed ≡ 0 → asked ≡ 0 → page ≡ 1 → st ≡ startOf (g .run m) → Leads source (runMeaning t (g .run m)) P₀ (runFrom left t end st) (at T₀ printed R₀ asked (length R₀) page)
+      first : (left end printed asked page : ℕ) (st : State) → left ≡ 50000 → end ≡ g .run m .until → printed ≡ 0 → asked ≡ 0 → page ≡ 1 → st ≡ startOf (g .run m) → Leads source (runMeaning t (g .run m)) P₀ (runFrom left t end st) (at T₀ printed R₀ asked (length R₀) page)
       first left end printed asked page st e₁ e₂ e₃ e₄ e₅ e₆ = rw (e₁, e₂, e₃, e₄, e₅, e₆) (leads-start source (runMeaning t (g .run m)) P₀)
 
       standing-at : (left : ℕ) (st : State) → left ≡ 50000 → st ≡ startOf (g .run m) → Standing t left st

@@ -14,8 +14,8 @@ use Rattle.values.proofs.Ranges.{MachineWithin}
 use Rattle.pages.specs.declared.page.Page.{Page}
 use Rattle.pages.specs.declared.heading.Heading.{Heading}
 use Rattle.pages.specs.Page.{brokenOf, advancedOf, on}
-use Rattle.pages.specs.inner.Listing.{Due, textDue, linesDue}
-use Rattle.pages.proofs.Listing.{turned, lines-few}
+use Rattle.pages.specs.inner.Listing.{turnedPage, Due, textDue, linesDue}
+use Rattle.pages.proofs.Listing.{lines-few}
 use Rattle.pages.proofs.Ranges.{on-within}
 
 -- PAGENUM is in range, LINENUM 1–60, and so is the machine that the fields see
@@ -38,7 +38,7 @@ module _ (m : Machine) (h : MachineWithin m) where
   on-turned t due hs l p a b k = moments (linesDue t due hs l p) p a b (lines-few t due hs p (textDue due l) 60 k (omega arith))
 
   -- At every moment of a step from a page in range, where PAGENUM can rise by one.
-  pub step-moments : (t : List ℕ) (due : ℕ) (hs : List Heading) (l : List ℕ) (p : Page) → p .number + 1 ≤ integerLimit → 1 ≤ p .row → Moments m (linesDue t due hs l (turned p)) (turned p)
+  pub step-moments : (t : List ℕ) (due : ℕ) (hs : List Heading) (l : List ℕ) (p : Page) → p .number + 1 ≤ integerLimit → 1 ≤ p .row → Moments m (linesDue t due hs l (turnedPage p)) (turnedPage p)
   step-moments t due hs l p a b = go (ltb 60 (p .row)) refl
     where
       go : (x : Bool) → ltb 60 (p .row) ≡ x → Moments m (linesDue t due hs l (cond x (brokenOf p) p)) (cond x (brokenOf p) p)

@@ -15,7 +15,7 @@ use Rattle.template.proofs.Accepted.{accepted-runs, Early, refused-early}
 use Rattle.cells.specs.Store.{cellsHeld, holdsCells}
 use Rattle.meaning.specs.Answer.{Answer}
 use Rattle.meaning.specs.Each.{Each}
-use Rattle.meaning.specs.Event.{breaks, pageFrom, laterPages, pages}
+use Rattle.meaning.specs.Event.{breaks, pageFrom, laterPages, pagesOf}
 use Rattle.meaning.specs.Tree.{done, stop, bind, finished, run}
 use Rattle.meaning.specs.Rule.{stateAfter, Keeps, AtEnd, pageLimit}
 use Rattle.meaning.specs.Meaning.{Meaning}
@@ -51,15 +51,15 @@ run-keeps (suc n) t end g s c h i = by (ltb (s .position .at) end) refl (λ s′
     by false e k = tt
 
 abbrev Sixty : Outcome → Type 0
-Sixty o = Each (λ page. length page ≤ 60) (pages (o .events))
+Sixty o = Each (λ page. length page ≤ 60) (pagesOf (o .events))
 
 -- "A page holds 60 lines.": so for any template, section, store, read list and output
 pub pages-hold-60 : (t name b : List ℕ) (n places room : ℕ) → Sixty (reportOf t name b n places room)
-unfolding reportOf checkedOutcome pages pageFrom laterPages
+unfolding reportOf checkedOutcome pagesOf pageFrom laterPages
 pages-hold-60 t name b n places room = by (holdsCells (cellsHeld b n))
   where
     checked : (k : Checked) → templateChecked t name ≡ k → Sixty (checkedOutcome t (answers b n) places room k)
-    checked (Accepted r) e = keeps-pages 60 (answers b n) places room (runMeaning t r) Any (run-keeps 50000 t (r .end) 1 (startOf r) 0 (accepted-runs t name r e .inside) (start-on t name r e))
+    checked (Accepted r) e = keeps-pages 60 (answers b n) places room (runMeaning t r) Any (run-keeps 50000 t (r .until) 1 (startOf r) 0 (accepted-runs t name r e .inside) (start-on t name r e))
     checked (Refused e l) i = (omega arith, tt)
 
     by : (f : Bool) → Sixty (cond f (checkedOutcome t (answers b n) places room (templateChecked t name)) (refusedReport BadStore 0))
@@ -67,7 +67,7 @@ pages-hold-60 t name b n places room = by (holdsCells (cellsHeld b n))
     by false = (omega arith, tt)
 
 abbrev Paged : Outcome → Type 0
-Paged o = (1 ≤ o .number → o .number ≤ 6 → ⊥) → o .pages ≡ length (pages (o .events))
+Paged o = (1 ≤ o .number → o .number ≤ 6 → ⊥) → o .pages ≡ length (pagesOf (o .events))
 
 -- where a report doesn't end in 1–6, the pages that it reports are those of its events
 pub pages-reported : (t name b : List ℕ) (n places room : ℕ) → Paged (reportOf t name b n places room)
@@ -114,8 +114,8 @@ module _ (source : Question → Answer) (places room : ℕ) (t : List ℕ) (r : 
 
   -- A run that ends with success reports PAGENUM.
   pub pages-are-pagenum : (s : State) → run source places room (runMeaning t r) .end ≡ finished s → ranTo (run source places room (runMeaning t r)) .pages ≡ s .page .number
-  pages-are-pagenum s e = sym (ends-counted (runMeaning t r) (run-counts 50000 t (r .end) (startOf r) 0 refl) s e)
+  pages-are-pagenum s e = sym (ends-counted (runMeaning t r) (run-counts 50000 t (r .until) (startOf r) 0 refl) s e)
 
   -- After any number of lines PAGENUM is what a report that ended there would report: one more than the breaks printed.
-  pub pagenum-counts : (k : ℕ) (s : State) → run source places room (stretch k t (r .end) (startOf r)) .end ≡ finished s → s .page .number ≡ 1 + breaks (run source places room (stretch k t (r .end) (startOf r)) .events)
-  pagenum-counts k = ends-counted (stretch k t (r .end) (startOf r)) (stretch-counts k t (r .end) (startOf r) 0 refl)
+  pub pagenum-counts : (k : ℕ) (s : State) → run source places room (stretch k t (r .until) (startOf r)) .end ≡ finished s → s .page .number ≡ 1 + breaks (run source places room (stretch k t (r .until) (startOf r)) .events)
+  pagenum-counts k = ends-counted (stretch k t (r .until) (startOf r)) (stretch-counts k t (r .until) (startOf r) 0 refl)

@@ -29,8 +29,7 @@ use Rattle.executed_line.proofs.Ranges.{InRange, seen-within, range-cleared, li
 use Rattle.report.specs.Report.{startOf}
 use Rattle.report.specs.inner.Stretch.{stretch}
 use Rattle.report.proofs.Sounding.{start-on}
-use Rattle.pages.specs.inner.Listing.{linesDue}
-use Rattle.pages.proofs.Listing.{turned}
+use Rattle.pages.specs.inner.Listing.{turnedPage, linesDue}
 use Rattle.report.proofs.Moments.{Moments, step-moments}
 
 -- a state whose variables, answers and tables are in range, and so is all that an argument sees, here and on the pages to come
@@ -38,7 +37,7 @@ pub record Ranged (s : State) : Type 0 where
   pub state : InRange s
   pub machine : MachineWithin (seen s)
   -- where a text line is due: at the moment of each heading, of the blank line and of the text line
-  pub moments : (t : List ℕ) (due : ℕ) (l : List ℕ) → Moments (seen s) (linesDue t due (s .layout .headings) l (turned (s .page))) (turned (s .page))
+  pub moments : (t : List ℕ) (due : ℕ) (l : List ℕ) → Moments (seen s) (linesDue t due (s .layout .headings) l (turnedPage (s .page))) (turnedPage (s .page))
 
 ranged : (t : List ℕ) (g : ℕ) (s : State) → g + 1 ≤ integerLimit → Sound t g s → InRange s → Ranged s
 ranged t g s h i r =
@@ -62,11 +61,11 @@ start-in-range r = range-cleared (startOf r) tt (record { least = omega arith; m
 
 module _ (t name : List ℕ) (r : Extent) (e : templateChecked t name ≡ Accepted r) where
   -- The state after any number of lines of an accepted template's run, whatever source answers it.
-  pub run-in-range : (source : Question → Answer) → ((q : Question) → AnswerWithin (source q)) → (places room k : ℕ) → k ≤ 50000 → (s : State) → run source places room (stretch k t (r .end) (startOf r)) .end ≡ finished s → Ranged s
+  pub run-in-range : (source : Question → Answer) → ((q : Question) → AnswerWithin (source q)) → (places room k : ℕ) → k ≤ 50000 → (s : State) → run source places room (stretch k t (r .until) (startOf r)) .end ≡ finished s → Ranged s
   run-in-range source every places room k h s f =
-      yields-end AnswerWithin source every Ranged places room (stretch k t (r .end) (startOf r)) s
-      (stretch-in-range k t (r .end) 1 (startOf r) 0 (accepted-runs t name r e .inside) (omega arith) (start-on t name r e) (start-in-range r)) f
+      yields-end AnswerWithin source every Ranged places room (stretch k t (r .until) (startOf r)) s
+      (stretch-in-range k t (r .until) 1 (startOf r) 0 (accepted-runs t name r e .inside) (omega arith) (start-on t name r e) (start-in-range r)) f
 
   -- On any store.
-  pub store-in-range : (b : List ℕ) (n places room k : ℕ) → k ≤ 50000 → (s : State) → run (answers b n) places room (stretch k t (r .end) (startOf r)) .end ≡ finished s → Ranged s
+  pub store-in-range : (b : List ℕ) (n places room k : ℕ) → k ≤ 50000 → (s : State) → run (answers b n) places room (stretch k t (r .until) (startOf r)) .end ≡ finished s → Ranged s
   store-in-range b n = run-in-range (answers b n) (answers-within b n)

@@ -44,7 +44,7 @@ startOf r =
 
 -- "A run goes from the selected (or first) $SEC line to the line before the next $SEC (or to the end)"
 abbrev pub runMeaning : List ℕ → Extent → Meaning State
-runMeaning t r = runFrom 50000 t (r .end) (startOf r)
+runMeaning t r = runFrom 50000 t (r .until) (startOf r)
 
 -- what a report is: its number, the line that is named, its pages, what it printed and asked
 pub record Outcome : Type 0 where

@@ -30,9 +30,9 @@ use Rattle.lines.specs.readers.Compare.{compareAt}
 use Rattle.lines.specs.readers.Set.{stringTarget, targetOf, setAt}
 use Rattle.lines.specs.readers.Title.{nameAt, sectionAt}
 use Rattle.lines.specs.readers.Command.{commands, parseLine}
-use Rattle.nesting.specs.Nest.{allClosed, inSection, sectionBegun, tableEnded, tables, testEnded, testTurned, tests, behind}
+use Rattle.nesting.specs.Nest.{allClosed, inSection, sectionBegun, tableEnded, tablesOpen, testEnded, testTurned, testsOpen, behind}
 use Rattle.template.specs.Name.{nameOf}
-use Rattle.cells.specs.Store.{above, rising, ordered, before as cellsBefore, cellRun, cells, cellsHeld, holdsCells}
+use Rattle.cells.specs.Store.{above, rising, ordered, withFirst as cellsBefore, cellRun, cells, cellsHeld, holdsCells}
 use Rattle.meaning.specs.Event.{breaks, joined}
 use Rattle.meaning.specs.Tree.{run as meaningRun}
 use Rattle.template.specs.Seek.{cutTo, orSkip, wayPast, amongTables, amongTests, atElse, roleOf, skipFrom, skipped}
@@ -43,7 +43,7 @@ use Rattle.template.specs.Checks.{formCheck, nameEnd, hasName, cameBefore, name
 use Rattle.template.specs.Walk.{orElse, walk}
 use Rattle.template.specs.Order.{acceptedRun, sectionChecked, unlessFault, namesChecked, nestingChecked, formsChecked, templateChecked}
 use Rattle.template.specs.Sections.{endAt, selects, sectionFrom, sectionEnd, selectionFrom, selected}
-use Rattle.template.specs.Rows.{lines}
+use Rattle.template.specs.Rows.{linesJoined}
 use Rattle.values.specs.Letters.{upper, alike}
 use Rattle.values.specs.Machine.{numbered, setNumbered}
 use Rattle.values.specs.Worth.{ranged, absolute, filteredNumber, filteredString, filtered, questionKind}
@@ -52,7 +52,7 @@ use Rattle.commands.specs.Looping.{begun, beginMeaning, exceeds, counting, coun
 use Rattle.commands.specs.Settling.{integerFrom, integerMeaning, resultOf, millionthsOf, quantityFrom, decimalFrom, stringFrom}
 use Rattle.commands.specs.Setting.{decimalResult, newFrom, integerResult, asVariable, stringNew, setOf, setMeaning}
 use Rattle.commands.specs.Testing.{isMissing, ofNumbers, ofStrings, compared, testMeaning, zeroTest, zeroJudged, zeroMeaning, judged}
-use Rattle.texts.specs.Pieces.{read, piecesOf}
+use Rattle.texts.specs.Pieces.{orNoPieces, piecesOf}
 use Rattle.pages.specs.Text.{textMeaning}
 use Rattle.pages.specs.Shown.{orStars, placesIn, shownValue, fieldBytes}
 use Rattle.pages.specs.Page.{sayMeaning, highestDefined, topMeaning, breakMeaning, turnMeaning, lineStep}
@@ -67,7 +67,7 @@ pub record Printout : Type 0 where
 
 -- section A with these lines, the text buffer and the read list of program `sheet`
 abbrev reported : List String → Printout
-reported ls = let o : Outcome = reportOf (lines ("$SEC A" ∷ ls)) (ascii "A") [] 0 4096 65536 in record { report = reportIn o; text = textIn o }
+reported ls = let o : Outcome = reportOf (linesJoined ("$SEC A" ∷ ls)) (ascii "A") [] 0 4096 65536 in record { report = reportIn o; text = textIn o }
 
 -- lines, and what is expected of them
 pub record Row : Type 0 where
@@ -83,7 +83,7 @@ abbrev refuses : List String → ℕ → ℕ → Row
 refuses ls number line = record { computed = reported ls; expected = record { report = record { number = number; line = line; pages = 1; bytes = 0; questions = 0 }; text = [] } }
 
 abbrev shows : List String → List String → Row
-shows ls text = prints ls 1 (lines text)
+shows ls text = prints ls 1 (linesJoined text)
 
 abbrev formFeed : List ℕ
 formFeed = 12 ∷ []
@@ -114,14 +114,14 @@ rows =
     ∷ shows ("$BT 0" ∷ "pass {LOOP,1}" ∷ "$ET" ∷ "end" ∷ []) ("end" ∷ [])
     -- * "LINENUM 59: `$NP 2` stays, `$NP 3` breaks"
     ∷ shows (replicate 58 "x" ++ ("$NP 2" ∷ "{LINENUM,2}" ∷ [])) (replicate 58 "x" ++ ("59" ∷ []))
-    ∷ prints (replicate 58 "x" ++ ("$NP 3" ∷ "{LINENUM,2}" ∷ [])) 2 (lines (replicate 58 "x") ++ formFeed ++ lines (" 1" ∷ []))
+    ∷ prints (replicate 58 "x" ++ ("$NP 3" ∷ "{LINENUM,2}" ∷ [])) 2 (linesJoined (replicate 58 "x") ++ formFeed ++ linesJoined (" 1" ∷ []))
     -- * "60 lines without heading: one page; 61: two"
     ∷ shows (replicate 60 "x") (replicate 60 "x")
-    ∷ prints (replicate 61 "x") 2 (lines (replicate 60 "x") ++ formFeed ++ lines ("x" ∷ []))
+    ∷ prints (replicate 61 "x") 2 (linesJoined (replicate 60 "x") ++ formFeed ++ linesJoined ("x" ∷ []))
     -- the sample, which prints `r=  0.67`, and ends with `0 0 1 9 0`
     ∷ shows ("$SETE FV1 2" ∷ "$SETD FV1 3" ∷ "$IF IV1" ∷ "X" ∷ "$ELSE" ∷ "r={FV1,6.2}" ∷ "$ENDIF" ∷ []) ("r=  0.67" ∷ [])
     ∷ []
 
 pub rows-hold : map (λ (r : Row). r .computed) rows ≡ map (λ (r : Row). r .expected) rows
-unfolding rows above rising ordered cellsBefore cellRun cells cellsHeld within breaks meaningRun begun beginMeaning exceeds counting counted endMeaning loop checked absoluteOf numbersInMillionths operands decimalProduct dividedBy decimalQuotient integerProduct integerQuotient ranged absolute filteredNumber filteredString filtered questionKind upper alike operandMeaning argumentMeaning numbered integerFrom integerMeaning resultOf millionthsOf quantityFrom decimalFrom stringFrom setNumbered decimalResult newFrom integerResult asVariable stringNew setOf setMeaning cutTo orSkip wayPast amongTables amongTests atElse roleOf skipFrom skipped belongs span linesWithin linesOf byteAt allAllowed scanBegins standsAt scanFirstOf shapeWords wordShape hasForm shapeIn shapeOf isFormed read piecesOf textMeaning textsBefore placesAt textsPlacesOf widthNext textsFieldOf fieldAt placed pieceAt piecesWithin textPieces widthOf totalWidth fitsBehind textFits admits filteredAt filters argumentOf argumentAt valueFrom digitsAt numberAt argumentsInMillionths fractionAt unsignedAt literalAt numberedOf numberedAt wholeAt names namedAt numberOr stringAt operandAt leftIn negative fieldsPlacesOf minus rightIn fraction fieldsUnsigned roundedField shown widthAllowed fieldsFieldOf countWithin digitCount digits rounded roundedTo orStars placesIn shownValue fieldBytes sayMeaning highestDefined topMeaning breakMeaning turnMeaning lineStep breaking breakingFor newPageMeaning tableBegun tableCounted branched formMeaning lineMeaning opposed isMissing ofNumbers ofStrings compared testMeaning zeroTest zeroJudged zeroMeaning bareAt optionalAt singleAt behindSpace compareAt stringTarget targetOf setAt nameAt sectionAt commands parseLine runFrom checkedOutcome reportOf holdsCells firstFault lineAllowed bytesCheck formCheck nameEnd hasName cameBefore nameStep nameCheck nestEnd nestStep nestCheck nameOf orElse walk acceptedRun sectionChecked unlessFault namesChecked nestingChecked formsChecked templateChecked endAt selects sectionFrom sectionEnd selectionFrom selected allClosed inSection sectionBegun tableEnded tables testEnded testTurned tests behind joined lines judged
+unfolding rows above rising ordered cellsBefore cellRun cells cellsHeld within breaks meaningRun begun beginMeaning exceeds counting counted endMeaning loop checked absoluteOf numbersInMillionths operands decimalProduct dividedBy decimalQuotient integerProduct integerQuotient ranged absolute filteredNumber filteredString filtered questionKind upper alike operandMeaning argumentMeaning numbered integerFrom integerMeaning resultOf millionthsOf quantityFrom decimalFrom stringFrom setNumbered decimalResult newFrom integerResult asVariable stringNew setOf setMeaning cutTo orSkip wayPast amongTables amongTests atElse roleOf skipFrom skipped belongs span linesWithin linesOf byteAt allAllowed scanBegins standsAt scanFirstOf shapeWords wordShape hasForm shapeIn shapeOf isFormed orNoPieces piecesOf textMeaning textsBefore placesAt textsPlacesOf widthNext textsFieldOf fieldAt placed pieceAt piecesWithin textPieces widthOf totalWidth fitsBehind textFits admits filteredAt filters argumentOf argumentAt valueFrom digitsAt numberAt argumentsInMillionths fractionAt unsignedAt literalAt numberedOf numberedAt wholeAt names namedAt numberOr stringAt operandAt leftIn negative fieldsPlacesOf minus rightIn fraction fieldsUnsigned roundedField shown widthAllowed fieldsFieldOf countWithin digitCount digits rounded roundedTo orStars placesIn shownValue fieldBytes sayMeaning highestDefined topMeaning breakMeaning turnMeaning lineStep breaking breakingFor newPageMeaning tableBegun tableCounted branched formMeaning lineMeaning opposed isMissing ofNumbers ofStrings compared testMeaning zeroTest zeroJudged zeroMeaning bareAt optionalAt singleAt behindSpace compareAt stringTarget targetOf setAt nameAt sectionAt commands parseLine runFrom checkedOutcome reportOf holdsCells firstFault lineAllowed bytesCheck formCheck nameEnd hasName cameBefore nameStep nameCheck nestEnd nestStep nestCheck nameOf orElse walk acceptedRun sectionChecked unlessFault namesChecked nestingChecked formsChecked templateChecked endAt selects sectionFrom sectionEnd selectionFrom selected allClosed inSection sectionBegun tableEnded tablesOpen testEnded testTurned testsOpen behind joined linesJoined judged
 rows-hold = refl

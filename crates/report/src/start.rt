@@ -49,7 +49,7 @@ fn saved(run: Extent, len: usize, count: usize, places: usize) -> Saved
     Saved {
         flow: f,
         left: 50_000,
-        end: run.end,
+        end: run.until,
         len,
         count,
         printed: 0,
@@ -67,7 +67,7 @@ pub fn nothing() -> Saved
     let none = Extent {
         start: 0,
         line: 0,
-        end: 0,
+        until: 0,
     };
     saved(none, 0, 0, 0)
 }

@@ -11,7 +11,7 @@ use lib.IntN.{ℤ}
 use lib.ListN.{length, getD, take, drop, List·getD-append}
 use lib.Seq.{sets, sets-eq, length-sets, take-at}
 use Rattle.numbers.specs.declared.Number.{Number}
-use Rattle.numbers.specs.declared.Number.the-variants.{Value}
+use Rattle.numbers.specs.declared.Number.the-variants.{Computed}
 use Rattle.numbers.specs.Result.{Result, resultIn}
 use Rattle.numbers.specs.declared.Rounded.{Rounded}
 use Rattle.numbers.specs.declared.Rounded.the-variants.{Units, OutOfRange}
@@ -33,7 +33,7 @@ use Rattle.station_testing.specs.Jumps.{ToldSkip}
 pub told-of : {o o′ : Result} {v v′ : ℤ} {r : ℕ} → o ≡ o′ → ToldResult o v v′ r → ToldResult o′ v v′ r
 told-of e t = rw e at t
 
-pub told-value : {n : Number} {z v v′ : ℤ} → n ≡ Value z → v′ ≡ z → ToldResult (resultIn n) v v′ 0
+pub told-value : {n : Number} {z v v′ : ℤ} → n ≡ Computed z → v′ ≡ z → ToldResult (resultIn n) v v′ 0
 told-value e h = record { number = rw e; value = rw e h }
 
 pub units-none : {o : Rounded} {n : ℕ} → o ≡ OutOfRange → ToldUnits o n n false

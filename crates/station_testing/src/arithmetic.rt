@@ -13,7 +13,7 @@ fn hand_back(n: Number, result: &mut i64) -> u32
     ensures { λ r. ⌜ ToldResult (resultIn n) (now (result .entry)) (now (result .exit)) r ⌝ }
 {
     match n {
-        Number::Value(z) => {
+        Number::Computed(z) => {
             *result = z;
             0
         }

@@ -8,7 +8,7 @@ use Rattle.meaning.specs.declared.end.Ended.the-variants.{Finished}
 use Rattle.numbers.specs.Range.{within}
 use Rattle.cells.specs.Bytes.{pair, quad, octet, pairAt, quadAt, octetAt, inComplement, fromComplement, begins, equalBytes}
 use Rattle.cells.specs.Cell.{between, keyAllowed, keyBytes, keyAsNumber, each, valueAllowed, cellAllowed, kindByte, valueBytes, cellBytes, keyAt, cellBy, cellOf, passing, front, wholeCell, wholeKey}
-use Rattle.cells.specs.Store.{encode, above, rising, before, cellRun, ordered, cells, cellsHeld}
+use Rattle.cells.specs.Store.{encode, above, rising, withFirst, cellRun, ordered, cells, cellsHeld}
 use Rattle.cells.specs.Asking.{lookup}
 use Rattle.store.specs.Edit.{lower, higher, with, without, refusedEdit, written, fits, putOn, takenOut, removeOn, writtenBy, checkedEdit, putOf, removeOf}
 
@@ -75,7 +75,7 @@ unfolding
     encode
     above
     rising
-    before
+    withFirst
     cellRun
     ordered
     cells

@@ -9,7 +9,7 @@ use borrow.Author.Tests.{le-ltb, ltb-true, ltb-false}
 use lib.Dec.{ltb}
 use lib.ListN.{length, drop, length-drop}
 use Rattle.scan.specs.Line.{lineAt, nextLine}
-use Rattle.nesting.specs.Nest.{Mark, test, other}
+use Rattle.nesting.specs.Nest.{Mark, test, elsePart}
 use Rattle.template.specs.declared.seek.Sought.{Sought}
 use Rattle.template.specs.declared.seek.Sought.the-variants.{Branch, TestEnd, TableEnd}
 use Rattle.template.specs.declared.seek.Way.{Way}
@@ -32,7 +32,7 @@ over-longer (a-test o) = omega (arith, over-longer o)
 over-longer (an-other o) = omega (arith, over-longer o)
 over-longer (a-table o) = omega (arith, over-longer o)
 
-over-other : {M W : List Mark} {a d : ℕ} → Over test M a d (other ∷ W) → length M < length W
+over-other : {M W : List Mark} {a d : ℕ} → Over test M a d (elsePart ∷ W) → length M < length W
 over-other (an-other o) = over-longer o
 
 not-around : (q : Sought) {M W : List Mark} {a d : ℕ} → Over (topOf q) M a d W → Around M q W → ⊥

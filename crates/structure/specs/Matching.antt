@@ -4,7 +4,7 @@ use mathlib.Core.List.{List, _∷_}
 use mathlib.Core.Option.{some}
 use Prim.Native.Nat.{ℕ, _+_}
 use lib.ListN.{length}
-use Rattle.nesting.specs.Nest.{Mark, other}
+use Rattle.nesting.specs.Nest.{Mark, elsePart}
 use Rattle.template.specs.declared.seek.Sought.{Sought}
 use Rattle.template.specs.declared.seek.Sought.the-variants.{Branch}
 use Rattle.template.specs.Checks.{nestStep}
@@ -12,7 +12,7 @@ use Rattle.template.specs.Checks.{nestStep}
 -- what is open behind the match, where M was open around the test or table: just M, or for a failed test its $ELSE part
 pub data Around (M : List Mark) : Sought → List Mark → Type 0 where
   closed : (q : Sought) → Around M q M
-  turned : Around M Branch (other ∷ M)
+  turned : Around M Branch (elsePart ∷ M)
 
 -- of some lines, W being open before them, the match is the first behind which that is open: so many bytes, with their line ends,
 -- and so many lines reach behind it

@@ -81,7 +81,7 @@ chosenEnd t caller at n =
 
 -- "A run goes from the selected (or first) $SEC line to the line before the next $SEC (or to the end)"
 unfoldable pub runOf : List ℕ → List ℕ → Found → Selection
-runOf t caller (At at n) = Lines (record { start = at; line = n; end = chosenEnd t caller at n })
+runOf t caller (At at n) = Lines (record { start = at; line = n; until = chosenEnd t caller at n })
 runOf t caller Nowhere = NotThere
 
 unfoldable pub chosenRun : List ℕ → List ℕ → Selection

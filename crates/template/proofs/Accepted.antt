@@ -17,7 +17,7 @@ use Rattle.meaning.specs.declared.refusal.Refusal.the-variants.{BadTemplate, Ba
 use Rattle.meaning.specs.Number.{refusalNumber}
 use Rattle.template.specs.Name.{sectionWord, nameOf}
 use Rattle.nesting.specs.declared.Shape.the-variants.{Section}
-use Rattle.nesting.specs.Nest.{Mark, tables}
+use Rattle.nesting.specs.Nest.{Mark, tablesOpen}
 use Rattle.template.specs.declared.Verdict.{Verdict}
 use Rattle.template.specs.declared.Verdict.the-variants.{Fine, Fault}
 use Rattle.template.specs.declared.Extent.{Extent}
@@ -64,7 +64,7 @@ pub record SectionLine (t : List ℕ) (a k : ℕ) : Type 0 where
   pub line : k ≡ suc number
   pub inside : a < length t
   pub shape : shapeOf (lineAt t a) ≡ Section
-  pub no-table : tables marks ≡ 0
+  pub no-table : tablesOpen marks ≡ 0
 
 section-line : {t : List ℕ} {at n : ℕ} {M : List Mark} → Checks t → OpenBefore t at n M → at < length t → (name : List ℕ) → selects name (lineAt t at) ≡ true → SectionLine t at (suc n)
 section-line {t} {at} {n} {M} c o h name e =
@@ -129,9 +129,9 @@ pub record Runs (t : List ℕ) (r : Extent) : Type 0 where
   pub checks : Checks t
   pub short : length t ≤ 32768
   pub start : SectionLine t (r .start) (r .line)
-  pub end : RunEnd t (r .start) (r .end)
-  pub some-line : r .start < r .end
-  pub inside : r .end ≤ length t
+  pub end : RunEnd t (r .start) (r .until)
+  pub some-line : r .start < r .until
+  pub inside : r .until ≤ length t
 
 end-inside : {t : List ℕ} {a e : ℕ} → RunEnd t a e → a < length t → (a < e) × (e ≤ length t)
 end-inside at-end h = (h, omega arith)
@@ -150,7 +150,7 @@ unless e (Fault l) next r h = absurd (let z : _≡_ {A = ℕ} 0 1 = cc in omega 
 run-found : {t : List ℕ} → Checks t → (name : List ℕ) (f : Found) (r : Extent) → Ends t 0 f → acceptedRun (selectionFrom t name f) ≡ Accepted r → Runs t r
 unfolding selectionFrom acceptedRun Ends
 run-found {t} c name (At a k) r (s, h) e =
-    let x : record { start = a; line = k; end = sectionEnd t name a k } ≡ r = cc in
+    let x : record { start = a; line = k; until = sectionEnd t name a k } ≡ r = cc in
     let w = run-end c name a k s in
     let i = end-inside w (s .inside) in
     subst (Runs t) x (record { checks = c; short = checks-short c; start = s; end = w; some-line = i .0; inside = i .1 })

@@ -11,7 +11,7 @@ use lib.Dec.{leb, ltb}
 use lib.ListN.{length, take, drop, length-drop}
 use Rattle.scan.specs.Line.{lineAt, nextLine}
 use Rattle.nesting.specs.declared.Shape.the-variants.{Section}
-use Rattle.nesting.specs.Nest.{Mark, test, other, table}
+use Rattle.nesting.specs.Nest.{Mark, test, elsePart, table}
 use Rattle.template.specs.declared.seek.Sought.{Sought}
 use Rattle.template.specs.declared.seek.Sought.the-variants.{Branch, TestEnd, TableEnd}
 use Rattle.template.specs.declared.seek.Way.{Way}
@@ -151,7 +151,7 @@ module _ {t : List ℕ} {M : List Mark} {at n : ℕ} (c : Checks t) where
   failed-test o = jump c Branch o
 
   -- An executed $ELSE.
-  pub executed-else : OpenBefore t at n (other ∷ M) → Jump t TestEnd M at n (skipped (drop at t) TestEnd)
+  pub executed-else : OpenBefore t at n (elsePart ∷ M) → Jump t TestEnd M at n (skipped (drop at t) TestEnd)
   executed-else o = jump c TestEnd o
 
   -- A $BT with n below 1.
@@ -160,7 +160,7 @@ module _ {t : List ℕ} {M : List Mark} {at n : ℕ} (c : Checks t) where
 
 -- ---- what is open where a jump goes on
 
-branch-lands : {M W : List Mark} (P : List Mark → Type 0) → Lands M Branch W → P W → P M ⊎ P (other ∷ M)
+branch-lands : {M W : List Mark} (P : List Mark → Type 0) → Lands M Branch W → P W → P M ⊎ P (elsePart ∷ M)
 branch-lands P behind-end h = inl h
 branch-lands P behind-else h = inr h
 
@@ -172,7 +172,7 @@ table-lands behind-end = refl
 
 module _ {t : List ℕ} {M : List Mark} {at n : ℕ} {k : Skip} where
   -- Behind its $ENDIF a failed test isn't open; behind its $ELSE it is in its $ELSE part.
-  pub failed-goes : Jump t Branch M at n k → (length t ≤ at + k .bytes) ⊎ (OpenBefore t (at + k .bytes) (n + k .lines) M ⊎ OpenBefore t (at + k .bytes) (n + k .lines) (other ∷ M))
+  pub failed-goes : Jump t Branch M at n k → (length t ≤ at + k .bytes) ⊎ (OpenBefore t (at + k .bytes) (n + k .lines) M ⊎ OpenBefore t (at + k .bytes) (n + k .lines) (elsePart ∷ M))
   failed-goes j = ⊎-elim inl (λ (o : OpenBefore t (at + k .bytes) (n + k .lines) (j .marks)). inr (branch-lands (OpenBefore t (at + k .bytes) (n + k .lines)) (j .lands) o)) (j .goes)
 
   -- Behind its $ENDIF a test isn't open.

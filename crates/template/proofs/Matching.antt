@@ -8,7 +8,7 @@ use Prim.Native.Nat.{ℕ, suc}
 use native.Mathlib.Omega.{arith}
 use Rattle.nesting.specs.declared.Shape.{Shape}
 use Rattle.nesting.specs.declared.Shape.the-variants.{Section}
-use Rattle.nesting.specs.Nest.{Mark, test, other, table, sectionBegun, allClosed}
+use Rattle.nesting.specs.Nest.{Mark, test, elsePart, table, sectionBegun, allClosed}
 use Rattle.template.specs.declared.seek.Sought.{Sought}
 use Rattle.template.specs.declared.seek.Sought.the-variants.{Branch, TestEnd, TableEnd}
 use Rattle.template.specs.declared.seek.Role.the-variants.{Opens, Closes}
@@ -21,13 +21,13 @@ use Rattle.template.proofs.Turns.{Turn, first-section, next-section, re
 pub data Over (top : Mark) (M : List Mark) : ℕ → ℕ → List Mark → Type 0 where
   here : Over top M 0 0 (top ∷ M)
   a-test : {a b : ℕ} {W : List Mark} → Over top M a b W → Over top M (suc a) b (test ∷ W)
-  an-other : {a b : ℕ} {W : List Mark} → Over top M a b W → Over top M (suc a) b (other ∷ W)
+  an-other : {a b : ℕ} {W : List Mark} → Over top M a b W → Over top M (suc a) b (elsePart ∷ W)
   a-table : {a b : ℕ} {W : List Mark} → Over top M a b W → Over top M a (suc b) (table ∷ W)
 
 -- the mark that a search is to close: a failed test's, that of a test in its $ELSE part, a table's
 abbrev pub topOf : Sought → Mark
 topOf Branch = test
-topOf TestEnd = other
+topOf TestEnd = elsePart
 topOf TableEnd = table
 
 -- how many open inside the search counts
@@ -39,7 +39,7 @@ depthOf TableEnd a b = b
 -- what is open behind the matching line: a $ELSE turns a failed test's mark, any other match takes the mark away
 pub data Lands (M : List Mark) : Sought → List Mark → Type 0 where
   behind-end : {q : Sought} → Lands M q M
-  behind-else : Lands M Branch (other ∷ M)
+  behind-else : Lands M Branch (elsePart ∷ M)
 
 -- the search goes on, or is at its match
 pub data Went (q : Sought) (M : List Mark) : Way → List Mark → Type 0 where
@@ -78,7 +78,7 @@ module _ {M : List Mark} where
   table-inside TableEnd o = on (a-table o)
 
   -- a $ELSE
-  else-met : (q : Sought) {a b : ℕ} {W : List Mark} → Over (topOf q) M a b (test ∷ W) → Went q M (wayPast (atElse q) (depthOf q a b)) (other ∷ W)
+  else-met : (q : Sought) {a b : ℕ} {W : List Mark} → Over (topOf q) M a b (test ∷ W) → Went q M (wayPast (atElse q) (depthOf q a b)) (elsePart ∷ W)
   unfolding wayPast atElse depthOf
   else-met Branch here = landed behind-else
   else-met Branch (a-test o) = on (an-other o)
@@ -93,7 +93,7 @@ module _ {M : List Mark} where
   test-met TestEnd (a-test o) = on o
   test-met TableEnd (a-test o) = on o
 
-  other-met : (q : Sought) {a b : ℕ} {W : List Mark} → Over (topOf q) M a b (other ∷ W) → Went q M (wayPast (amongTests q Closes) (depthOf q a b)) W
+  other-met : (q : Sought) {a b : ℕ} {W : List Mark} → Over (topOf q) M a b (elsePart ∷ W) → Went q M (wayPast (amongTests q Closes) (depthOf q a b)) W
   unfolding wayPast amongTests depthOf
   other-met Branch (an-other o) = on o
   other-met TestEnd here = landed behind-end

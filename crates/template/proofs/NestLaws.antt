@@ -15,7 +15,7 @@ use Rattle.nesting.specs.declared.Step.the-variants.{Went, Wrong}
 use Rattle.template.specs.Lines.{linesOf}
 use Rattle.template.specs.Walk.{walk}
 use Rattle.template.specs.Shape.{shapeOf}
-use Rattle.nesting.specs.Nest.{Mark, tests, tables, behind}
+use Rattle.nesting.specs.Nest.{Mark, testsOpen, tablesOpen, behind}
 use Rattle.nesting.specs.inner.Open.{code, HoldsOpen, Follows, Steps, Ends}
 use Rattle.template.specs.Checks.{nestStep, nestEnd, nestCheck}
 use Rattle.template.proofs.WalkLaws.{walk-end, walk-here, walk-later}
@@ -27,7 +27,7 @@ pub record Sound (state : Open) : Type 0 where
 
 -- nothing is open at first
 nothing-open : Sound (record { marks = 0; tests = 0; tables = 0 })
-unfolding code tests tables
+unfolding code testsOpen tablesOpen
 nothing-open = record { list = []; holds = record { coded = refl; tested = refl; tabled = refl; few-tests = zero-le; few-tables = zero-le; short = zero-le } }
 
 pub nest-start : (t : List ℕ) → (x : Sound (record { marks = 0; tests = 0; tables = 0 })) × (walk nestStep nestEnd (x .list) 0 (linesOf (drop 0 t)) ≡ nestCheck t)

@@ -13,7 +13,7 @@ use Rattle.scan.specs.Line.{allAllowed, lineAt, nextLine}
 use Rattle.lines.specs.declared.command.Line.the-variants as form
 use Rattle.lines.specs.readers.Command.{parseLine}
 use Rattle.nesting.specs.declared.Shape.the-variants.{Section, Remark, Test, Else, EndTest, Table, EndTable, Plain}
-use Rattle.nesting.specs.Nest.{Mark, section, test, other, table, tests, tables, allClosed}
+use Rattle.nesting.specs.Nest.{Mark, section, test, elsePart, table, testsOpen, tablesOpen, allClosed}
 use Rattle.template.specs.declared.Verdict.{Verdict}
 use Rattle.template.specs.declared.Verdict.the-variants.{Fine, Fault}
 use Rattle.template.specs.Lines.{linesOf}
@@ -123,8 +123,8 @@ open-inside {t} {at} c o k = by (leb (length t) at) refl
 -- as many lines as bytes at most stand before a place; 10 tests and 5 tables at most are open
 pub record Few (at n : ℕ) (M : List Mark) : Type 0 where
   pub lines : n ≤ at
-  pub few-tests : tests M ≤ 10
-  pub few-tables : tables M ≤ 5
+  pub few-tests : testsOpen M ≤ 10
+  pub few-tables : tablesOpen M ≤ 5
   pub grounded : Grounded M
 
 -- The cases of a line whose nesting isn't at fault.
@@ -134,7 +134,7 @@ line-turn l {M} {M′} e = turn (shapeOf l) M M′ e
 
 -- What is open at a place is within the limits.
 pub opens-few : {t : List ℕ} {at n : ℕ} {M : List Mark} → OpenBefore t at n M → Few at n M
-unfolding tests tables Grounded
+unfolding testsOpen tablesOpen Grounded
 opens-few {t} at-first = record { lines = omega arith; few-tests = omega arith; few-tables = omega arith; grounded = tt }
 opens-few {t} (at-next {at} o h e) =
     let w = line-turn (lineAt t at) e in
@@ -156,7 +156,7 @@ module _ {t : List ℕ} {at n : ℕ} {M : List Mark} (c : Checks t) (o : OpenBef
   behind-as e = subst (OpenBefore t (nextLine t at) (suc n)) e (opens-next c o h)
 
   -- Behind a $SEC its section is open; no table is open before it.
-  pub behind-section : shapeOf (lineAt t at) ≡ Section → OpenBefore t (nextLine t at) (suc n) (section ∷ []) × (tables M ≡ 0)
+  pub behind-section : shapeOf (lineAt t at) ≡ Section → OpenBefore t (nextLine t at) (suc n) (section ∷ []) × (tablesOpen M ≡ 0)
   behind-section e = let w = turn-section (rw e at the-turn) (opens-few o .grounded) in (behind-as (w .0), w .1)
 
   -- Behind a $REM the same is open.
@@ -172,15 +172,15 @@ module _ {t : List ℕ} {at n : ℕ} {M : List Mark} (c : Checks t) (o : OpenBef
   behind-test e = behind-as (turn-test (rw e at the-turn))
 
   -- A $ELSE stands in a test, and behind it the test is in its $ELSE part.
-  pub behind-else : shapeOf (lineAt t at) ≡ Else → (M″ : List Mark) × (M ≡ test ∷ M″) × OpenBefore t (nextLine t at) (suc n) (other ∷ M″)
+  pub behind-else : shapeOf (lineAt t at) ≡ Else → (M″ : List Mark) × (M ≡ test ∷ M″) × OpenBefore t (nextLine t at) (suc n) (elsePart ∷ M″)
   behind-else e = let (r, k, l) = turn-else (rw e at the-turn) in (r, k, behind-as l)
 
   -- A $ENDIF stands in a test, and behind it the test isn't open.
-  pub behind-end-test : shapeOf (lineAt t at) ≡ EndTest → (M″ : List Mark) × ((M ≡ test ∷ M″) ⊎ (M ≡ other ∷ M″)) × OpenBefore t (nextLine t at) (suc n) M″
+  pub behind-end-test : shapeOf (lineAt t at) ≡ EndTest → (M″ : List Mark) × ((M ≡ test ∷ M″) ⊎ (M ≡ elsePart ∷ M″)) × OpenBefore t (nextLine t at) (suc n) M″
   behind-end-test e = (opens-line c o h .marks, turn-end-test (rw e at the-turn), opens-next c o h)
 
   -- There is room for a table that is begun, and behind its $BT it is open.
-  pub behind-table : shapeOf (lineAt t at) ≡ Table → OpenBefore t (nextLine t at) (suc n) (table ∷ M) × (tables M < 5)
+  pub behind-table : shapeOf (lineAt t at) ≡ Table → OpenBefore t (nextLine t at) (suc n) (table ∷ M) × (tablesOpen M < 5)
   behind-table e = let w = turn-table (rw e at the-turn) in (behind-as (w .0), w .1)
 
   -- A $ET stands in a table, and behind it the table isn't open.

@@ -59,6 +59,6 @@ module _ (t name : List ℕ) (f : Found) (q : f ≡ sectionFrom name 0 0 (linesO
   unfolding selected selectionFrom
   selected-none k = rw (← q, k)
 
-  pub selected-run : (a n e : ℕ) → f ≡ At a n → e ≡ sectionEnd t name a n → Lines (record { start = a; line = n; end = e }) ≡ selected t name
+  pub selected-run : (a n e : ℕ) → f ≡ At a n → e ≡ sectionEnd t name a n → Lines (record { start = a; line = n; until = e }) ≡ selected t name
   unfolding selected selectionFrom
   selected-run a n e k h = rw (← q, k, ← h)

@@ -10,18 +10,18 @@ use borrow.Author.Tests.{ltb-true}
 use lib.Dec.{ltb}
 use Rattle.nesting.specs.declared.Shape.{Shape}
 use Rattle.nesting.specs.declared.Shape.the-variants.{Section, Remark, Test, Else, EndTest, Table, EndTable, Plain, NoForm}
-use Rattle.nesting.specs.Nest.{Mark, section, test, other, table, tests, tables, sectionBegun, testTurned, testEnded, tableEnded, inSection, behind}
+use Rattle.nesting.specs.Nest.{Mark, section, test, elsePart, table, testsOpen, tablesOpen, sectionBegun, testTurned, testEnded, tableEnded, inSection, behind}
 
 -- a line of a shape, what is open before it and what is open behind it
 pub data Turn : Shape → List Mark → List Mark → Type 0 where
   first-section : Turn Section [] (section ∷ [])
   next-section : {s : List Mark} → Turn Section (section ∷ s) (section ∷ [])
   remark : {s : List Mark} → Turn Remark s s
-  test-begun : {m : Mark} {s : List Mark} → tests (m ∷ s) < 10 → Turn Test (m ∷ s) (test ∷ (m ∷ s))
-  test-turned : {s : List Mark} → Turn Else (test ∷ s) (other ∷ s)
+  test-begun : {m : Mark} {s : List Mark} → testsOpen (m ∷ s) < 10 → Turn Test (m ∷ s) (test ∷ (m ∷ s))
+  test-turned : {s : List Mark} → Turn Else (test ∷ s) (elsePart ∷ s)
   test-ended : {s : List Mark} → Turn EndTest (test ∷ s) s
-  other-ended : {s : List Mark} → Turn EndTest (other ∷ s) s
-  table-begun : {m : Mark} {s : List Mark} → tables (m ∷ s) < 5 → Turn Table (m ∷ s) (table ∷ (m ∷ s))
+  other-ended : {s : List Mark} → Turn EndTest (elsePart ∷ s) s
+  table-begun : {m : Mark} {s : List Mark} → tablesOpen (m ∷ s) < 5 → Turn Table (m ∷ s) (table ∷ (m ∷ s))
   table-ended : {s : List Mark} → Turn EndTable (table ∷ s) s
   plain : {m : Mark} {s : List Mark} → Turn Plain (m ∷ s) (m ∷ s)
   no-form : {m : Mark} {s : List Mark} → Turn NoForm (m ∷ s) (m ∷ s)
@@ -43,27 +43,27 @@ unfolding behind sectionBegun testTurned testEnded tableEnded inSection
 turn Section [] s′ e = same e first-section
 turn Section (section ∷ s) s′ e = same e next-section
 turn Section (test ∷ s) s′ e = never e
-turn Section (other ∷ s) s′ e = never e
+turn Section (elsePart ∷ s) s′ e = never e
 turn Section (table ∷ s) s′ e = never e
 turn Remark s s′ e = same e remark
 turn Test [] s′ e = never e
-turn Test (m ∷ s) s′ e = begun (tests (m ∷ s)) 10 (ltb (tests (m ∷ s)) 10) refl e test-begun
+turn Test (m ∷ s) s′ e = begun (testsOpen (m ∷ s)) 10 (ltb (testsOpen (m ∷ s)) 10) refl e test-begun
 turn Else [] s′ e = never e
 turn Else (section ∷ s) s′ e = never e
 turn Else (test ∷ s) s′ e = same e test-turned
-turn Else (other ∷ s) s′ e = never e
+turn Else (elsePart ∷ s) s′ e = never e
 turn Else (table ∷ s) s′ e = never e
 turn EndTest [] s′ e = never e
 turn EndTest (section ∷ s) s′ e = never e
 turn EndTest (test ∷ s) s′ e = same e test-ended
-turn EndTest (other ∷ s) s′ e = same e other-ended
+turn EndTest (elsePart ∷ s) s′ e = same e other-ended
 turn EndTest (table ∷ s) s′ e = never e
 turn Table [] s′ e = never e
-turn Table (m ∷ s) s′ e = begun (tables (m ∷ s)) 5 (ltb (tables (m ∷ s)) 5) refl e table-begun
+turn Table (m ∷ s) s′ e = begun (tablesOpen (m ∷ s)) 5 (ltb (tablesOpen (m ∷ s)) 5) refl e table-begun
 turn EndTable [] s′ e = never e
 turn EndTable (section ∷ s) s′ e = never e
 turn EndTable (test ∷ s) s′ e = never e
-turn EndTable (other ∷ s) s′ e = never e
+turn EndTable (elsePart ∷ s) s′ e = never e
 turn EndTable (table ∷ s) s′ e = same e table-ended
 turn Plain [] s′ e = never e
 turn Plain (m ∷ s) s′ e = same e plain
@@ -75,7 +75,7 @@ unfoldable pub Grounded : List Mark → Type 0
 Grounded [] = Unit
 Grounded (section ∷ s) = s ≡ []
 Grounded (test ∷ s) = Grounded s
-Grounded (other ∷ s) = Grounded s
+Grounded (elsePart ∷ s) = Grounded s
 Grounded (table ∷ s) = Grounded s
 
 -- Each line keeps this.
@@ -94,8 +94,8 @@ turn-grounded plain g = g
 turn-grounded no-form g = g
 
 -- "At most 10 are open", line by line.
-pub turn-tests : {x : Shape} {s s′ : List Mark} → Turn x s s′ → tests s ≤ 10 → tests s′ ≤ 10
-unfolding tests
+pub turn-tests : {x : Shape} {s s′ : List Mark} → Turn x s s′ → testsOpen s ≤ 10 → testsOpen s′ ≤ 10
+unfolding testsOpen
 turn-tests first-section h = omega arith
 turn-tests next-section h = omega arith
 turn-tests remark h = h
@@ -109,8 +109,8 @@ turn-tests plain h = h
 turn-tests no-form h = h
 
 -- "At most 5 are open", line by line.
-pub turn-tables : {x : Shape} {s s′ : List Mark} → Turn x s s′ → tables s ≤ 5 → tables s′ ≤ 5
-unfolding tables
+pub turn-tables : {x : Shape} {s s′ : List Mark} → Turn x s s′ → tablesOpen s ≤ 5 → tablesOpen s′ ≤ 5
+unfolding tablesOpen
 turn-tables first-section h = omega arith
 turn-tables next-section h = omega arith
 turn-tables remark h = h
@@ -126,10 +126,10 @@ turn-tables no-form h = h
 -- ---- what is open, by the shape of a line
 
 -- Behind a $SEC its section alone is open; nothing but a section was open before it.
-pub turn-section : {s s′ : List Mark} → Turn Section s s′ → Grounded s → (s′ ≡ section ∷ []) × (tables s ≡ 0)
-unfolding Grounded tables
+pub turn-section : {s s′ : List Mark} → Turn Section s s′ → Grounded s → (s′ ≡ section ∷ []) × (tablesOpen s ≡ 0)
+unfolding Grounded tablesOpen
 turn-section first-section g = (refl, refl)
-turn-section next-section g = (refl, ap tables g)
+turn-section next-section g = (refl, ap tablesOpen g)
 
 pub turn-remark : {s s′ : List Mark} → Turn Remark s s′ → s′ ≡ s
 turn-remark remark = refl
@@ -142,16 +142,16 @@ pub turn-test : {s s′ : List Mark} → Turn Test s s′ → s′ ≡ test ∷ 
 turn-test (test-begun h) = refl
 
 -- A $ELSE turns a test's mark.
-pub turn-else : {s s′ : List Mark} → Turn Else s s′ → (r : List Mark) × (s ≡ test ∷ r) × (s′ ≡ other ∷ r)
+pub turn-else : {s s′ : List Mark} → Turn Else s s′ → (r : List Mark) × (s ≡ test ∷ r) × (s′ ≡ elsePart ∷ r)
 turn-else (test-turned {s = r}) = (r, refl, refl)
 
 -- A $ENDIF takes a test's mark away.
-pub turn-end-test : {s s′ : List Mark} → Turn EndTest s s′ → (s ≡ test ∷ s′) ⊎ (s ≡ other ∷ s′)
+pub turn-end-test : {s s′ : List Mark} → Turn EndTest s s′ → (s ≡ test ∷ s′) ⊎ (s ≡ elsePart ∷ s′)
 turn-end-test test-ended = inl refl
 turn-end-test other-ended = inr refl
 
 -- A $BT adds its mark, and there was room for it.
-pub turn-table : {s s′ : List Mark} → Turn Table s s′ → (s′ ≡ table ∷ s) × (tables s < 5)
+pub turn-table : {s s′ : List Mark} → Turn Table s s′ → (s′ ≡ table ∷ s) × (tablesOpen s < 5)
 turn-table (table-begun h) = (refl, h)
 
 -- A $ET takes a table's mark away.

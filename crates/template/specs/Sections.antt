@@ -33,7 +33,7 @@ sectionEnd t name at n =
 
 -- "from the selected (or first) $SEC line"
 unfoldable pub selectionFrom : List ℕ → List ℕ → Found → Selection
-selectionFrom t name (At at n) = Lines (record { start = at; line = n; end = sectionEnd t name at n })
+selectionFrom t name (At at n) = Lines (record { start = at; line = n; until = sectionEnd t name at n })
 selectionFrom t name Nowhere = NotThere
 
 unfoldable pub selected : List ℕ → List ℕ → Selection

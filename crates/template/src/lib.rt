@@ -32,7 +32,7 @@ pub enum Verdict {
 pub struct Extent {
     pub start: usize,
     pub line: u32,
-    pub end: usize,
+    pub until: usize,
 }
 
 // An accepted template's run, or why it is refused and the line named.

@@ -75,5 +75,9 @@ pub fn select(template: &[u8], name: &[u8]) -> Selection
         return Selection::NotThere;
     };
     let end = section_end(template, name, start, line);
-    Selection::Lines(Extent { start, line, end })
+    Selection::Lines(Extent {
+        start,
+        line,
+        until: end,
+    })
 }

@@ -36,7 +36,7 @@ use Rattle.texts.specs.declared.text.Piece.the-variants.{Byte, Placed}
 use Rattle.texts.specs.declared.text.PieceRead.{PieceRead}
 use Rattle.texts.specs.declared.text.PieceRead.the-variants.{PieceTo, NoPiece}
 use Rattle.texts.specs.readers.Text.{placesAt, placesOf, widthNext, fieldOf, fieldAt, placed, pieceAt, before, piecesWithin, textPieces}
-use Rattle.texts.specs.Pieces.{read, piecesOf, fieldCount}
+use Rattle.texts.specs.Pieces.{orNoPieces, piecesOf, fieldCount}
 
 -- "d 0–6"
 abbrev pub Few : Places → Type 0
@@ -168,27 +168,27 @@ record Takes (l : List ℕ) (i : ℕ) (ps : List Piece) : Type 0 where
 takes-none : (l : List ℕ) (i : ℕ) → i ≤ length l → Takes l i []
 takes-none l i h = record { bytes = omega arith; each = tt }
 
-takes-more : (l : List ℕ) (i : ℕ) (p : Piece) (next : ℕ) (o : Option (List Piece)) → i ≤ length l → PieceKnown l (i + 5) (PieceTo p next) → (next ≤ length l → Takes l next (read o)) → Takes l i (read (before p o))
-unfolding read before
+takes-more : (l : List ℕ) (i : ℕ) (p : Piece) (next : ℕ) (o : Option (List Piece)) → i ≤ length l → PieceKnown l (i + 5) (PieceTo p next) → (next ≤ length l → Takes l next (orNoPieces o)) → Takes l i (orNoPieces (before p o))
+unfolding orNoPieces before
 takes-more l i p next none h e rest = takes-none l i h
 takes-more l i (Byte b) next (some ps) h e rest = let r = rest (e .1) in record { bytes = omega (arith, e .0, r .bytes); each = r .each }
 takes-more l i (Placed f) next (some ps) h e rest = let r = rest (e .2) in record { bytes = omega (arith, e .1, r .bytes); each = (e .0, r .each) }
 
-takes : (n : ℕ) (l : List ℕ) (i : ℕ) → i ≤ length l → Takes l i (read (piecesWithin n l i))
-unfolding piecesWithin read
+takes : (n : ℕ) (l : List ℕ) (i : ℕ) → i ≤ length l → Takes l i (orNoPieces (piecesWithin n l i))
+unfolding piecesWithin orNoPieces
 takes zero l i h = takes-none l i h
 takes (suc n) l i h = by (leb (length l) i) (pieceAt l i) refl (takes n l)
   where
-    go : (r : PieceRead) → pieceAt l i ≡ r → ((next : ℕ) → next ≤ length l → Takes l next (read (piecesWithin n l next))) → Takes l i (read (elim r [ PieceTo p next ↦ before p (piecesWithin n l next) | NoPiece ↦ none ]))
+    go : (r : PieceRead) → pieceAt l i ≡ r → ((next : ℕ) → next ≤ length l → Takes l next (orNoPieces (piecesWithin n l next))) → Takes l i (orNoPieces (elim r [ PieceTo p next ↦ before p (piecesWithin n l next) | NoPiece ↦ none ]))
     go (PieceTo p next) e rest = takes-more l i p next (piecesWithin n l next) h (subst (PieceKnown l (i + 5)) e (piece-known l i)) (rest next)
     go NoPiece e rest = takes-none l i h
 
-    by : (b : Bool) (r : PieceRead) → pieceAt l i ≡ r → ((next : ℕ) → next ≤ length l → Takes l next (read (piecesWithin n l next))) → Takes l i (read (cond b (some []) (elim r [ PieceTo p next ↦ before p (piecesWithin n l next) | NoPiece ↦ none ])))
+    by : (b : Bool) (r : PieceRead) → pieceAt l i ≡ r → ((next : ℕ) → next ≤ length l → Takes l next (orNoPieces (piecesWithin n l next))) → Takes l i (orNoPieces (cond b (some []) (elim r [ PieceTo p next ↦ before p (piecesWithin n l next) | NoPiece ↦ none ])))
     by true r e rest = takes-none l i h
     by false r e rest = go r e rest
 
-none-over : (n : ℕ) (l : List ℕ) (i : ℕ) → length l ≤ i → read (piecesWithin n l i) ≡ []
-unfolding piecesWithin read
+none-over : (n : ℕ) (l : List ℕ) (i : ℕ) → length l ≤ i → orNoPieces (piecesWithin n l i) ≡ []
+unfolding piecesWithin orNoPieces
 none-over zero l i h = refl
 none-over (suc n) l i h = rw (le-leb (length l) i h)
 
@@ -200,10 +200,10 @@ module _ (l : List ℕ) (from : ℕ) where
   unfolding piecesOf textPieces
   known = go (leb (length l) from) refl
     where
-      go : (b : Bool) → leb (length l) from ≡ b → Known (read (piecesWithin (length l) l from))
+      go : (b : Bool) → leb (length l) from ≡ b → Known (orNoPieces (piecesWithin (length l) l from))
       go true e = rw (none-over (length l) l from (leb-true (length l) from e)) (tt, λ h. (omega arith, omega arith, λ k. omega arith))
       go false e =
-          let ps = read (piecesWithin (length l) l from) in
+          let ps = orNoPieces (piecesWithin (length l) l from) in
           let t = takes (length l) l from (omega (arith, leb-false (length l) from e)) in
           (t .each, λ h. (omega (arith, t .bytes), omega (arith, t .bytes, asking-fields ps), λ k. omega (arith, t .bytes, asking-fields ps)))
 

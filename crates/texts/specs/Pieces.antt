@@ -7,13 +7,13 @@ use Rattle.texts.specs.declared.text.Piece.the-variants.{Byte, Placed}
 use Rattle.texts.specs.readers.Text.{textPieces}
 
 -- the pieces of an accepted text, which always has some
-unfoldable pub read : Option (List Piece) → List Piece
-read (some ps) = ps
-read none = []
+unfoldable pub orNoPieces : Option (List Piece) → List Piece
+orNoPieces (some ps) = ps
+orNoPieces none = []
 
 -- of the line l, whose text starts at `from`: those that it spells (grammar/proofs/There:pieces-are, text-pieces, heading-pieces)
 unfoldable pub piecesOf : List ℕ → ℕ → List Piece
-piecesOf l from = read (textPieces l from)
+piecesOf l from = orNoPieces (textPieces l from)
 
 -- how many fields there are
 abbrev pub fieldCount : List Piece → ℕ

@@ -26,7 +26,7 @@ use Rattle.arguments.specs.declared.index.Index.{Index}
 use Rattle.arguments.specs.declared.index.Index.the-variants.{Fixed}
 use Rattle.arguments.specs.declared.operand.Operand.{Operand}
 use Rattle.arguments.specs.declared.operand.Operand.the-variants.{NumberLiteral, StringLiteral, IntegerVariable, DecimalVariable, StringVariable, PageNumber, LineNumber, LoopCounter, RecordElement, EntryElement, Parameter, Record, Entry}
-use Rattle.arguments.specs.Admitted.{entries, neither, countOf, admits}
+use Rattle.arguments.specs.Admitted.{ofEntries, neither, countOf, admits}
 use Rattle.arguments.proofs.Parsed.{Between, OperandWithin, ArgumentWithin}
 use Rattle.values.specs.declared.fetch.Along.{Along}
 use Rattle.values.specs.declared.fetch.Along.the-variants.{Records, Entries}
@@ -59,7 +59,7 @@ of-parameter d p Length = refl
 of-parameter d p RecordCount = refl
 of-parameter d p EntryCount = refl
 
-of-record : (d p r : ℕ) (f : Filter) → admits f entries ≡ true → unusedZero (question (questionKind f) d p r 0) ≡ true
+of-record : (d p r : ℕ) (f : Filter) → admits f ofEntries ≡ true → unusedZero (question (questionKind f) d p r 0) ≡ true
 unfolding unusedZero questionKind admits
 of-record d p r Unfiltered a = refl
 of-record d p r Absolute a = refl

@@ -8,7 +8,7 @@ use lib.IntN.{ℤ, pos, negsuc}
 use Rattle.meaning.specs.Answer.{Answer}
 use Rattle.meaning.specs.Tree.{done, stop, ask, print, bind, finished}
 use Rattle.meaning.specs.Meaning.{Meaning, asksEach}
-use Rattle.meaning.specs.Place.{Place, Does, placesLeft, roomLeft, from}
+use Rattle.meaning.specs.inner.Place.{Place, Does, placesLeft, roomLeft, from}
 use Rattle.meaning.specs.Rule.{Rule, stateAfter, Keeps, AtEnd}
 use Rattle.meaning.specs.declared.question.Question.{Question}
 use Rattle.meaning.specs.declared.refusal.Refusal.{Refusal}

@@ -9,7 +9,7 @@ use Rattle.arguments.specs.declared.argument.Filter.{Filter}
 use Rattle.arguments.specs.declared.argument.Filter.the-variants.{Absolute, Truncated, UpperCase, Length, RecordCount, EntryCount}
 use Rattle.arguments.specs.declared.argument.ArgumentRead.{ArgumentRead}
 use Rattle.arguments.specs.declared.argument.ArgumentRead.the-variants.{ArgumentTo, NoArgument}
-use Rattle.arguments.specs.Admitted.{Count, records, entries, neither, countOf}
+use Rattle.arguments.specs.Admitted.{Count, ofRecords, ofEntries, neither, countOf}
 
 -- the names, in their order: RECCNT is 4, ENTCNT 5
 abbrev pub filterNames : List ℕ
@@ -26,8 +26,8 @@ filterOf k =
 
 -- a count's number in the table, 0 for neither
 unfoldable pub countNumber : Count → ℕ
-countNumber records = 4
-countNumber entries = 5
+countNumber ofRecords = 4
+countNumber ofEntries = 5
 countNumber neither = 0
 
 unfoldable pub admitted : Operand → ℕ → Bool

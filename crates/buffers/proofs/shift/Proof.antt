@@ -4,17 +4,17 @@ use mathlib.Core.Bool.{true}
 use denote.Ref.{now}
 use native.Mathlib.Omega.{arith}
 use borrow.Author.Tests.{not-true, not-false}
-use Rattle.buffers.specs.Buffer.{room}
+use Rattle.buffers.specs.Buffer.{hasRoom}
 use Rattle.buffers.proofs.Laws.{room-fits, shifted-told, shifted-from, shifted-to}
 use borrow.Author.Needs.{needs}
 use Rattle.buffers.proofs.shift.Statement.{statement}
 use Rattle.buffers.proofs.shift.Tie as tie
 
 -- what the two tests say where they passed
-from-fits : (k : tie.Else1) → room (now (k .before .before .before .before .args .buffer)) (k .before .before .before .before .args .from) (k .before .before .before .before .args .count) ≡ true
+from-fits : (k : tie.Else1) → hasRoom (now (k .before .before .before .before .args .buffer)) (k .before .before .before .before .args .from) (k .before .before .before .before .args .count) ≡ true
 from-fits k = sym (k .before .has-room .ensures) ∙ not-false _ (k .if1 .left)
 
-to-fits : (k : tie.Else2) → room (now (k .before .before .before .before .before .before .before .args .buffer)) (k .before .before .before .before .before .before .before .args .to) (k .before .before .before .before .before .before .before .args .count) ≡ true
+to-fits : (k : tie.Else2) → hasRoom (now (k .before .before .before .before .before .before .before .args .buffer)) (k .before .before .before .before .before .before .before .args .to) (k .before .before .before .before .before .before .before .args .count) ≡ true
 to-fits k = sym (k .before .has-room2 .ensures) ∙ not-false _ (k .if2 .left)
 
 has-room-requires : tie.Need-has-room-requires

@@ -8,7 +8,7 @@ use lib.Dec.{leb, eqb}
 use lib.ListN.{length, getD, take, drop}
 use Rattle.meaning.specs.declared.question.Question.{Question}
 use Rattle.numbers.specs.Range.{integerLimit, decimalLimit, within}
-use Rattle.cells.specs.Bytes.{quadAt, octetAt, fromComplement, word, long}
+use Rattle.cells.specs.Bytes.{quadAt, octetAt, fromComplement, wordRange, longRange}
 use Rattle.cells.specs.Cell.{between, each, printable, Kind, kinds, rowIn, integerKind, decimalKind, Cell, cellBytes, front}
 
 -- how many bytes a cell of a kind has: the byte of kind, the key, the value; 0 where there is no such kind
@@ -31,8 +31,8 @@ unfoldable pub valueFormed : List ℕ → Bool
 valueFormed s =
     cond
     (eqb (getD s 0 0) integerKind)
-    (within integerLimit (fromComplement word (quadAt s 8)))
-    (cond (eqb (getD s 0 0) decimalKind) (within decimalLimit (fromComplement long (octetAt s 8))) (stringFormed s))
+    (within integerLimit (fromComplement wordRange (quadAt s 8)))
+    (cond (eqb (getD s 0 0) decimalKind) (within decimalLimit (fromComplement longRange (octetAt s 8))) (stringFormed s))
 
 -- how many bytes the cell has that s begins with, 0 where there is none
 unfoldable pub sizeFound : Option Cell → ℕ

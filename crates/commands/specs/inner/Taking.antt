@@ -21,28 +21,28 @@ use Rattle.commands.specs.declared.settle.Judged.{Judged}
 use Rattle.commands.specs.declared.settle.Judged.the-variants as J
 use Rattle.commands.specs.declared.settle.Assigned.{Assigned}
 use Rattle.commands.specs.declared.settle.Assigned.the-variants as Ve
-use Rattle.commands.specs.Settling.{Settled, settled, against, andThen, integerFrom, quantityFrom, stringFrom}
+use Rattle.commands.specs.Settling.{Settled, settled, refusedFor, andThen, integerFrom, quantityFrom, stringFrom}
 
 -- a result or why there is none, as the code has it
 abbrev pub takenOf : Taken → Settled ℤ
 takenOf (Value z) = settled z
-takenOf (Refused e) = against e
+takenOf (Refused e) = refusedFor e
 
 abbrev pub amountOf : Amount → Settled Quantity
 amountOf (A.Number q) = settled q
-amountOf (A.NoNumber e) = against e
+amountOf (A.NoNumber e) = refusedFor e
 
 abbrev pub phraseOf : Strings → Phrase → Settled (List ℕ)
 phraseOf s (P.String t) = settled (textOf s t)
-phraseOf s (P.NoString e) = against e
+phraseOf s (P.NoString e) = refusedFor e
 
 abbrev pub judgedOf : Judged → Settled Bool
 judgedOf (J.Holds b) = settled b
-judgedOf (J.Refused e) = against e
+judgedOf (J.Refused e) = refusedFor e
 
 abbrev pub verdictOf : Assigned → Settled (Unit {0})
 verdictOf Ve.Passed = settled tt
-verdictOf (Ve.Refused e) = against e
+verdictOf (Ve.Refused e) = refusedFor e
 
 -- what follows from a result
 abbrev pub mapped : {A B : Type 0} → (A → B) → Settled A → Settled B

@@ -11,7 +11,7 @@ use Rattle.values.specs.inner.Registers.{Puts}
 use Rattle.values.specs.Machine.{setNumbered}
 use Rattle.template.specs.declared.seek.Sought.the-variants.{Branch, TableEnd}
 use Rattle.meaning.specs.Answer.{Answer}
-use Rattle.meaning.specs.Place.{at, Does}
+use Rattle.meaning.specs.inner.Place.{at, Does}
 use Rattle.meaning.specs.Number.{endOf}
 use Rattle.meaning.specs.declared.question.Question.{Question}
 use Rattle.meaning.specs.declared.refusal.Refusal.{Refusal}
@@ -21,7 +21,7 @@ use Rattle.meaning.specs.declared.end.Halt.the-variants.{Refused}
 use Rattle.meaning.specs.declared.end.Ended.the-variants.{Finished, Halted}
 use Rattle.commands.specs.declared.settle.Taken.{Taken}
 use Rattle.commands.specs.declared.settle.Taken.the-variants as K
-use Rattle.commands.specs.Settling.{Settled, settled, against}
+use Rattle.commands.specs.Settling.{Settled, settled, refusedFor}
 use Rattle.values.specs.declared.fetch.Fetched.{Fetched}
 use Rattle.values.specs.inner.State.{bank, headingsIn, tablesIn}
 use Rattle.pages.specs.declared.heading.Heading.{Heading}
@@ -39,7 +39,7 @@ pub record Jumpable (t : List ℕ) (f : Flow) : Type 0 where
 -- where a line ends that neither asks nor prints: refused, or on the flow that follows from its result
 abbrev pub settledIn : {A : Type 0} → ℕ → Flow → ℕ → ℕ → (A → Flow) → Settled A → Lined
 settledIn l f u a to (settled x) = endedIn Finished (to x) u a
-settledIn l f u a to (against e) = endedIn (Halted (Refused e) l) f u a
+settledIn l f u a to (refusedFor e) = endedIn (Halted (Refused e) l) f u a
 
 pub record Settles {A : Type 0} (l : ℕ) (f : Flow) (u a : ℕ) (to : A → Flow) (x : Settled A) (r : Lined) : Type 0 where
   pub same : r ≡ settledIn l f u a to x
@@ -59,7 +59,7 @@ overIn ws f holds = cond holds (againIn ws f) (depthIn f (f .depth - 1))
 
 -- $SETDS by a number from 0 to 999, or 1000 (proofs/Following: datasource-is)
 unfoldable pub datasourceAt : ℕ → Settled ℕ
-datasourceAt n = cond (leb 1 n && leb n 35) (settled n) (against BadIndex)
+datasourceAt n = cond (leb 1 n && leb n 35) (settled n) (refusedFor BadIndex)
 
 -- $REC, $TBL: Rn or Tn, which begin at a place of the words; a fetch that was refused or cut leaves all of them
 pub record Refills (from n : ℕ) (v : Fetched) (words : List ℕ) (f : Flow) (u : ℕ) (words′ : List ℕ) (r : Lined) : Type 0 where

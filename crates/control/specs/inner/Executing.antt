@@ -8,7 +8,7 @@ use Rattle.cells.specs.Cell.{Cell}
 use Rattle.cells.specs.inner.Index as I
 use Rattle.meaning.specs.Answer.{Answer}
 use Rattle.meaning.specs.Each.{Each}
-use Rattle.meaning.specs.Place.{at, Does}
+use Rattle.meaning.specs.inner.Place.{at, Does}
 use Rattle.meaning.specs.Number.{endOf}
 use Rattle.meaning.specs.Meaning.{Meaning}
 use Rattle.meaning.specs.declared.question.Question.{Question}

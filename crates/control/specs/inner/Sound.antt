@@ -4,7 +4,7 @@ use mathlib.Core.Bool.{true}
 use mathlib.Core.List.{List, [], _∷_}
 use Prim.Native.Nat.{ℕ, suc, _≤_, _<_}
 use lib.ListN.{length}
-use Rattle.nesting.specs.Nest.{Mark, section, test, other, table}
+use Rattle.nesting.specs.Nest.{Mark, section, test, elsePart, table}
 use Rattle.texts.specs.readers.Text.{textFits}
 use Rattle.template.specs.Opening.{OpenBefore, Checks}
 use Rattle.meaning.specs.Each.{Each}
@@ -19,7 +19,7 @@ abbrev pub Tabled : List ℕ → List Table → List Mark → Type 0
 Tabled t ts [] = length ts ≡ 0
 Tabled t ts (section ∷ M) = Tabled t ts M
 Tabled t ts (test ∷ M) = Tabled t ts M
-Tabled t ts (other ∷ M) = Tabled t ts M
+Tabled t ts (elsePart ∷ M) = Tabled t ts M
 Tabled t [] (table ∷ M) = ⊥
 Tabled t (x ∷ ts) (table ∷ M) = (n : ℕ) × OpenBefore t (x .start) n (table ∷ M) × (x .line ≡ suc n) × Tabled t ts M
 

@@ -5,12 +5,12 @@ use mathlib.Core.List.{List}
 use mathlib.Core.Option.{Option, none, some}
 use Prim.Native.Nat.{ℕ}
 use lib.ListN.{length}
-use Rattle.buffers.specs.Buffer.{room, stored}
+use Rattle.buffers.specs.Buffer.{hasRoom, stored}
 
 -- whether a field lies in the buffer, and the buffer with it there
 unfoldable pub fieldFits : List ℕ → ℕ → Option (List ℕ) → Bool
 fieldFits b n none = false
-fieldFits b n (some s) = room b n (length s)
+fieldFits b n (some s) = hasRoom b n (length s)
 
 unfoldable pub bufferWith : List ℕ → ℕ → Option (List ℕ) → List ℕ
 bufferWith b n none = b

@@ -11,12 +11,12 @@ use Rattle.nesting.specs.declared.Shape.the-variants.{Section, Remark, T
 use Rattle.nesting.specs.declared.Open.{Open}
 use Rattle.nesting.specs.declared.Step.{Step}
 use Rattle.nesting.specs.declared.Step.the-variants.{Went, Wrong}
-use Rattle.nesting.specs.Nest.{Mark, section, test, other, table, tests, tables, behind, allClosed}
+use Rattle.nesting.specs.Nest.{Mark, section, test, elsePart, table, testsOpen, tablesOpen, behind, allClosed}
 
 unfoldable pub digit : Mark → ℕ
 digit section = 1
 digit test = 2
-digit other = 3
+digit elsePart = 3
 digit table = 4
 
 unfoldable pub code : List Mark → ℕ
@@ -26,8 +26,8 @@ code (m ∷ s) = code s * 5 + digit m
 -- the numbers for marks, tests and tables are those of s
 pub record Holds (m t b : ℕ) (s : List Mark) : Type 0 where
   pub coded : m ≡ code s
-  pub tested : t ≡ tests s
-  pub tabled : b ≡ tables s
+  pub tested : t ≡ testsOpen s
+  pub tabled : b ≡ tablesOpen s
   pub few-tests : t ≤ 10
   pub few-tables : b ≤ 5
   pub short : length s ≤ t + b + 1

@@ -11,7 +11,11 @@ use Rattle.values.specs.Machine.{Machine}
 use Rattle.pages.specs.declared.page.Page.{Page}
 use Rattle.pages.specs.declared.heading.Heading.{Heading}
 use Rattle.pages.specs.Heading.{noHeading}
-use Rattle.pages.specs.Page.{advancedOf, sayMeaning, headLine, headFrom, headNumber, highestDefined}
+use Rattle.pages.specs.Page.{brokenOf, advancedOf, sayMeaning, headLine, headFrom, headNumber, highestDefined}
+
+-- "Before a text line, LINENUM 61 causes a break": the page on which what is due stands
+abbrev pub turnedPage : Page → Page
+turnedPage p = cond (ltb 60 (p .row)) (brokenOf p) p
 
 -- a line due: its bytes, where its text starts, and the line that its refusal names
 pub record Due : Type 0 where

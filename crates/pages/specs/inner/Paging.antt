@@ -6,7 +6,7 @@ use Prim.Native.Nat.{ℕ, _+_, _≤_, _<_}
 use lib.ListN.{length}
 use Rattle.meaning.specs.Answer.{Answer}
 use Rattle.meaning.specs.Number.{endOf}
-use Rattle.meaning.specs.Place.{at, Does}
+use Rattle.meaning.specs.inner.Place.{at, Does}
 use Rattle.meaning.specs.declared.count.Counts.{Counts}
 use Rattle.meaning.specs.declared.question.Question.{Question}
 use Rattle.texts.specs.readers.Text.{textFits}

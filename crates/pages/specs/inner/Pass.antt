@@ -9,7 +9,7 @@ use Rattle.meaning.specs.Answer.{Answer}
 use Rattle.meaning.specs.Tree.{done, bind}
 use Rattle.meaning.specs.Meaning.{Meaning}
 use Rattle.meaning.specs.Number.{endOf}
-use Rattle.meaning.specs.Place.{Place, at, Does}
+use Rattle.meaning.specs.inner.Place.{Place, at, Does}
 use Rattle.meaning.specs.declared.count.Counts.{Counts}
 use Rattle.meaning.specs.declared.question.Question.{Question}
 use Rattle.cells.specs.Cell.{Cell}

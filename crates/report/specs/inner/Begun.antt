@@ -33,7 +33,7 @@ pub record Begun (t name b : List ℕ) (n places : ℕ) (index : List ℕ) (r : 
   pub run : r .more ≡ true → Extent
   pub accepted : (m : r .more ≡ true) → templateChecked t name ≡ Accepted (run m)
   pub start : (m : r .more ≡ true) (rows : List (List ℕ)) (source : Question → Answer) → stateOf source (heldIn (r .saved) rows) (r .saved .flow) ≡ startOf (run m)
-  pub end : (m : r .more ≡ true) → r .saved .end ≡ run m .end
+  pub end : (m : r .more ≡ true) → r .saved .end ≡ run m .until
   pub left : r .more ≡ true → r .saved .left ≡ 50000
   pub page : r .more ≡ true → r .saved .flow .page .number ≡ 1
   pub printed : r .more ≡ true → r .saved .printed ≡ 0

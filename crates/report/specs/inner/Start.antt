@@ -36,7 +36,7 @@ startSaved r len count places =
     record {
       flow = startFlow r;
       left = 50000;
-      end = r .end;
+      end = r .until;
       len = len;
       count = count;
       printed = 0;
@@ -51,7 +51,7 @@ emptyReport number line = record { number = number; line = line; pages = 0; byte
 
 -- where there is no next stretch
 unfoldable pub nothingSaved : Saved
-nothingSaved = startSaved (record { start = 0; line = 0; end = 0 }) 0 0 0
+nothingSaved = startSaved (record { start = 0; line = 0; until = 0 }) 0 0 0
 
 unfoldable pub refusedAt : Refusal → ℕ → Stretch
 refusedAt e line = record { more = false; log = noLog; report = emptyReport (refusalNumber e) line; saved = nothingSaved }

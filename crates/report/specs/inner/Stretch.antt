@@ -6,7 +6,7 @@ use Prim.Native.Nat.{ℕ, zero, suc, _+_, _-_, _≤_, _<_}
 use lib.Dec.{ltb}
 use lib.ListN.{length, take, replicate}
 use Rattle.meaning.specs.Tree.{done, bind, finished}
-use Rattle.meaning.specs.Place.{Place, at, Does}
+use Rattle.meaning.specs.inner.Place.{Place, at, Does}
 use Rattle.meaning.specs.Number.{numberOf, lineNamed, endOf}
 use Rattle.meaning.specs.Meaning.{Meaning}
 use Rattle.meaning.specs.declared.question.Question.{Question}

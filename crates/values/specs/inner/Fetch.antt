@@ -10,7 +10,7 @@ use Rattle.meaning.specs.Answer.{Answer}
 use Rattle.meaning.specs.Tree.{stop}
 use Rattle.meaning.specs.Meaning.{Meaning, asksEach}
 use Rattle.meaning.specs.Number.{endOf}
-use Rattle.meaning.specs.Place.{at, Does}
+use Rattle.meaning.specs.inner.Place.{at, Does}
 use Rattle.meaning.specs.declared.question.Question.{Question}
 use Rattle.meaning.specs.declared.refusal.Refusal.the-variants.{BadIndex}
 use Rattle.cells.specs.declared.Answered.{Answered}

@@ -5,7 +5,7 @@ use lib.ListN.{length}
 use Rattle.meaning.specs.Tree.{done, bind}
 use Rattle.meaning.specs.Meaning.{Meaning}
 use Rattle.meaning.specs.Number.{endOf}
-use Rattle.meaning.specs.Place.{at, Does}
+use Rattle.meaning.specs.inner.Place.{at, Does}
 use Rattle.cells.specs.Cell.{Cell}
 use Rattle.cells.specs.inner.Index.{Ready}
 use Rattle.arguments.specs.inner.Parameter.{parameterOf}

@@ -7,7 +7,7 @@ use lib.ListN.{length}
 use Rattle.meaning.specs.Answer.{Answer}
 use Rattle.meaning.specs.Meaning.{Meaning}
 use Rattle.meaning.specs.Number.{endOf}
-use Rattle.meaning.specs.Place.{at, Does}
+use Rattle.meaning.specs.inner.Place.{at, Does}
 use Rattle.meaning.specs.declared.question.Question.{Question}
 use Rattle.cells.specs.declared.Answered.{Answered}
 use Rattle.cells.specs.Asking as C

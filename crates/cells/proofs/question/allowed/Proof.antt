@@ -1,7 +1,7 @@
 -- Each test is one of the definition's, in its order.
 use mathlib.Core.Path.{_≡_, _∙_}
 use Rattle.cells.specs.Cell.{keyOf, keyAllowed}
-use Rattle.cells.specs.Asking.{asked}
+use Rattle.cells.specs.Asking.{keyAsked}
 use Rattle.cells.proofs.Questions.{refused-limits, allowed-one, refused-record, allowed-two, allowed-three, refused-kind}
 use borrow.Author.Needs.{needs}
 use Rattle.cells.proofs.question.allowed.Statement.{statement}
@@ -23,7 +23,7 @@ within-limits-requires : tie.Need-within-limits-requires
 within-limits-requires c κs = search needs
 
 -- what the test of the limits says
-tested : (k : tie.After-within-limits) → k .within-limits .result ≡ keyAllowed (asked (k .before .before .before .before .before .args .question))
+tested : (k : tie.After-within-limits) → k .within-limits .result ≡ keyAllowed (keyAsked (k .before .before .before .before .before .args .question))
 tested k =
     k .within-limits .ensures
     ∙ (λ i. keyAllowed (keyOf (k .before .before .before .before .wide .ensures i) (k .before .before .before .wide2 .ensures i) (k .before .before .wide3 .ensures i) (k .before .wide4 .ensures i)))
