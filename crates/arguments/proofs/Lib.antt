@@ -5,3 +5,4 @@ pub mod NameLetters
 pub mod FilterLaws
 pub mod Bounds
 pub mod Parsed
+pub mod CellLaws

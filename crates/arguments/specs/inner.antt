@@ -1,3 +1,4 @@
 pub mod Named
 pub mod Filtered
 pub mod Parameter
+pub mod CellArgument

@@ -1,4 +1,5 @@
 pub mod Shows
+pub mod FieldValues
 pub mod Making
 pub mod Telling
 pub mod InRange

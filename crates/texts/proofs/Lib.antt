@@ -2,3 +2,4 @@ pub mod FieldLaws
 pub mod PieceLaws
 pub mod TextLaws
 pub mod PlainLaws
+pub mod CellFieldLaws

@@ -47,7 +47,7 @@ pub enum PieceRead {
 }
 
 // What stands behind a field's width, with the closing brace.
-fn places_at(line: &[u8], at: usize) -> PlacesRead
+pub fn places_at(line: &[u8], at: usize) -> PlacesRead
     ensures { λ r. ⌜ r ≡ placesAt (now (line .entry)) at ⌝ }
 {
     let mark = bytes::byte(line, at);

@@ -10,6 +10,7 @@ pub mod Clearing
 pub mod Worths
 pub mod Operands
 pub mod Arguments
+pub mod Cells
 pub mod Keeping
 pub mod Giving
 pub mod Answering

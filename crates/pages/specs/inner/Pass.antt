@@ -14,18 +14,31 @@ use Rattle.meaning.specs.declared.count.Counts.{Counts}
 use Rattle.meaning.specs.declared.question.Question.{Question}
 use Rattle.cells.specs.Cell.{Cell}
 use Rattle.cells.specs.inner.Index.{Ready}
+use Rattle.arguments.specs.declared.argument.Argument.{Argument}
+use Rattle.arguments.specs.inner.Parameter.{parameterOf}
+use Rattle.texts.specs.declared.text.Field.{Field}
+use Rattle.texts.specs.declared.text.FieldRead.the-variants.{FieldTo, NoField}
+use Rattle.texts.specs.declared.text.Places.{Places}
+use Rattle.texts.specs.inner.CellField.{fieldWith}
 use Rattle.texts.specs.declared.text.Piece.{Piece}
 use Rattle.texts.specs.declared.text.Piece.the-variants.{Byte, Placed}
-use Rattle.texts.specs.readers.Text.{textFits}
+use Rattle.texts.specs.readers.Text.{fieldAt, textFits}
 use Rattle.values.specs.declared.scene.Scene.{Scene}
 use Rattle.values.specs.inner.Word.{questions}
 use Rattle.values.specs.Machine.{Machine}
 use Rattle.values.specs.Source.{answers}
 use Rattle.values.specs.inner.State.{Held, held, machine}
+use Rattle.values.specs.inner.Texts.{Sized}
+use Rattle.values.specs.inner.Hearing.{Askable}
+use Rattle.values.specs.inner.Yielding.{ArgumentValue}
+use Rattle.values.specs.declared.worth.Valued.{Valued}
 use Rattle.values.specs.declared.worth.Worth as C
 use Rattle.values.specs.declared.worth.Worth.the-variants as W
 use Rattle.values.specs.Worth.{Worth}
 use Rattle.values.specs.Meanings.{argumentMeaning}
+use Rattle.pages.specs.declared.text.FieldValue.{FieldValue}
+use Rattle.pages.specs.declared.text.FieldValue.the-variants.{ValueOf}
+use Rattle.pages.specs.declared.text.FieldValue.the-variants as R
 use Rattle.pages.specs.declared.text.Made.{Made}
 use Rattle.pages.specs.declared.text.Told.{Told}
 use Rattle.pages.specs.Shown.{fieldBytes}
@@ -69,6 +82,21 @@ machineOf x s source = machine source (x .vars) s
 -- something said of the answers that the store gives, where the index is that of its cells
 abbrev pub Sourced : Lent → ((Question → Answer) → Type 0) → Type 0
 Sourced x P = (n : ℕ) (cs : List Cell) → Ready (x .store) n (x .index) (length (x .index)) cs → P (answers (x .store) n)
+
+-- What a field requires: a place in the log for what it asks, and limits that the checks of the template and of the store give.
+pub record FieldReady (d : ℕ) (l : List ℕ) (at : ℕ) (store : List ℕ) (a : ℕ) : Type 0 where
+  pub asks : (f : Field) (next : ℕ) → fieldAt l at ≡ FieldTo f next → Askable d 1 (parameterOf (f .argument .operand)) a
+  pub sized : Sized l store
+
+-- the field at a place of the line, and what its argument came to
+pub record FieldIs (x : Lent) (s : Scene) (l : List ℕ) (at : ℕ) (log : List ℕ) (a p : ℕ) (log′ : List ℕ) (v : Valued) (w : ℕ) (shown : Places) (next : ℕ) : Type 0 where
+  pub argument : Argument
+  pub field : fieldAt l at ≡ FieldTo (fieldWith argument w shown) next
+  pub value : ArgumentValue l (x .store) (x .index) (x .vars) s argument log a p log′ v
+
+pub record FieldValued (x : Lent) (s : Scene) (l : List ℕ) (at : ℕ) (log : List ℕ) (a p : ℕ) (log′ : List ℕ) (r : FieldValue) : Type 0 where
+  pub some : (v : Valued) (w : ℕ) (shown : Places) (next : ℕ) → r ≡ ValueOf v w shown next → FieldIs x s l at log a p log′ v w shown next
+  pub none : r ≡ R.NoField → fieldAt l at ≡ NoField
 
 -- What a line requires: its text has a form and fits, there are places in the log for all its fields, and limits that the
 -- checks of the template and of the store give.

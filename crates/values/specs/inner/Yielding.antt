@@ -14,7 +14,10 @@ use Rattle.cells.specs.Asking as C
 use Rattle.cells.specs.Cell.{Cell}
 use Rattle.cells.specs.inner.Index.{Ready}
 use Rattle.arguments.specs.declared.argument.Argument.{Argument}
+use Rattle.arguments.specs.declared.index.Index.{Index}
 use Rattle.arguments.specs.declared.operand.Operand.{Operand}
+use Rattle.arguments.specs.declared.operand.Operand.the-variants.{Record}
+use Rattle.arguments.specs.inner.CellArgument.{unfiltered}
 use Rattle.values.specs.inner.Texts.{Strings, strings, textOf}
 use Rattle.values.specs.declared.question.Heard.{Heard}
 use Rattle.values.specs.declared.scene.Scene.{Scene}
@@ -58,3 +61,7 @@ pub record OperandValue (store index : List ℕ) (numbers : List ℤ) (words : L
 
 pub record ArgumentValue (line store index : List ℕ) (vars : Held) (scene : Scene) (x : Argument) (log : List ℕ) (a p : ℕ) (log′ : List ℕ) (r : Valued) : Type 0 where
   pub yields : Yields (strings line store (vars .rows)) index (λ source. argumentMeaning (machine source vars scene) line (scene .number) x) log a p log′ r
+
+-- What `cell_value` says: it is the value of the argument Pn.i without a filter, wherever strings lie and whatever the words hold.
+pub record CellValue (store index : List ℕ) (numbers : List ℤ) (scene : Scene) (n : ℕ) (i : Index) (log : List ℕ) (a p : ℕ) (log′ : List ℕ) (r : Valued) : Type 0 where
+  pub value : (line : List ℕ) (rows : List (List ℕ)) (words : List ℕ) → ArgumentValue line store index (held numbers rows words) scene (unfiltered (Record n i)) log a p log′ r
