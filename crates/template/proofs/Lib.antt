@@ -6,7 +6,7 @@ pub mod WordForm
 pub mod VerdictLaws
 pub mod WalkLaws
 pub mod NameLaws
-pub mod NoteLaws
+pub mod SortedLaws
 pub mod NestLaws
 pub mod FormLaws
 pub mod SectionLaws

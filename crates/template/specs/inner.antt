@@ -1,4 +1,3 @@
-pub mod Hash
 pub mod Numbered
-pub mod Notes
+pub mod Sorted
 pub mod Within

@@ -2,13 +2,13 @@
 //
 // name_of      the name in a line
 // same_bytes   whether two names are the same
-// hash_of      a number for a name, by which most names that differ are told apart
+// is_below     whether the name at the front of some bytes comes before another in their order
 ghost use mathlib.Core.Path.{_≡_};
+ghost use Rattle.scan.specs.Line.{lineOf};
 ghost use Rattle.template.specs.Name.{nameOf, sameBytes};
-ghost use Rattle.template.specs.inner.Hash.{hashOf};
+ghost use Rattle.template.specs.inner.Sorted.{isBelow};
 
-// How many hashes there are: 254 for each of 16,361 slots, a prime.
-const HASHES: usize = 4_155_694;
+const LINE_END: u8 = 10;
 
 // A section's name by its first eight characters; empty where the line isn't $SEC.
 pub fn name_of<'a>(line: &'a [u8]) -> &'a [u8]
@@ -30,15 +30,22 @@ pub fn same_bytes(a: &[u8], b: &[u8]) -> bool
     scan::words::begins_with(b, 0, a)
 }
 
-// A name's hash: the same for the same name. With 927, names that count up or run through the letters seldom share one.
-pub fn hash_of(name: &[u8]) -> usize
-    ensures { λ r. ⌜ r ≡ hashOf (now (name .entry)) ⌝ }
+// Whether some bytes up to their line end come before a name, by the first byte in which they differ.
+pub fn is_below(rest: &[u8], name: &[u8]) -> bool
+    ensures { λ r. ⌜ r ≡ isBelow (lineOf (now (rest .entry))) (now (name .entry)) ⌝ }
 {
-    let mut hash: usize = 0;
     let mut i = 0;
     while i < name.len() {
-        hash = (hash * 927 + scan::bytes::byte(name, i) as usize) % HASHES;
+        if rest.len() <= i {
+            return true;
+        }
+        if rest[i] == LINE_END {
+            return true;
+        }
+        if rest[i] != name[i] {
+            return rest[i] < name[i];
+        }
         i += 1;
     }
-    hash
+    false
 }

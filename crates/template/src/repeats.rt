@@ -2,93 +2,111 @@
 use crate::Verdict;
 use crate::names;
 ghost use mathlib.Core.Path.{_≡_};
-ghost use mathlib.Core.Bool.{false};
-ghost use Prim.Native.Nat.{_≤_};
-ghost use lib.ListN.{length, take};
-ghost use Rattle.template.specs.Lines.{linesOf};
-ghost use Rattle.template.specs.inner.Notes.{RuledOut, notedWith};
-ghost use Rattle.template.specs.Checks.{hasName, cameBefore, nameCheck};
+ghost use Prim.Native.Nat.{_≤_, _<_};
+ghost use lib.ListN.{length};
+ghost use Rattle.template.specs.inner.Sorted.{eightAt, Sorted, Position, standsIn, MovedUp, Inserted};
+ghost use Rattle.template.specs.Checks.{nameCheck};
 
-const SLOTS: usize = 16_361;
+// So many sections a template can have: "$SEC A" and a line end are seven bytes.
+const MOST_SECTIONS: usize = 4_681;
 
-// In a slot no name is noted, or names with one fingerprint, from 1 to 254, or with several.
-const NOTHING: u8 = 0;
-
-const MIXED: u8 = 255;
-
-// Whether one of a template's first lines is the section of a name.
-fn has_name(template: &[u8], lines: u32, name: &[u8]) -> bool
-    requires { ⌜ length (now template) ≤ 32768 ⌝ }
-    ensures { λ r. ⌜ r ≡ hasName (now (name .entry)) (take lines (linesOf (now (template .entry)))) ⌝ }
+// A place of the row as a place of the template.
+fn wide(place: u16) -> usize
+    ensures { λ r. ⌜ r ≡ place ⌝ }
 {
-    let mut at = 0;
-    let mut left: u32 = lines;
-    while at < template.len() {
-        if left == 0 {
-            return false;
+    place as usize
+}
+
+// The eight bytes in which the i-th name of the row lies; a shorter name ends at its line end.
+fn eight_at<'a>(template: &'a [u8], places: &[u16], i: usize) -> &'a [u8]
+    requires { ⌜ i < length (now places) ⌝ }
+    ensures { λ r. ⌜ now r ≡ eightAt (now (template .entry)) (now (places .entry)) i ⌝ }
+{
+    scan::bytes::part(template, wide(places[i]), 8)
+}
+
+// The first position whose name isn't below a name, by halving. The last name is tried first, as names mostly count up.
+fn position(template: &[u8], places: &[u16], count: usize, name: &[u8]) -> usize
+    requires { ⌜ Sorted (now template) (now places) count ⌝ }
+    ensures { λ r. ⌜ Position (now (template .entry)) (now (places .entry)) count (now (name .entry)) r ⌝ }
+{
+    if count == 0 {
+        return 0;
+    }
+    if names::is_below(eight_at(template, places, count - 1), name) {
+        return count;
+    }
+    let mut low = 0;
+    let mut high = count - 1;
+    while low < high {
+        let middle = low + (high - low) / 2;
+        if names::is_below(eight_at(template, places, middle), name) {
+            low = middle + 1;
+            continue;
         }
-        let line = scan::bytes::line_of(&template[at..]);
-        let other = names::name_of(line);
-        if names::same_bytes(name, other) {
-            return true;
-        }
-        at += line.len() + 1;
-        left -= 1;
+        high = middle;
+    }
+    low
+}
+
+// Whether a name stands at a position of the row.
+fn stands_in(template: &[u8], places: &[u16], count: usize, i: usize, name: &[u8]) -> bool
+    requires { ⌜ count ≤ length (now places) ⌝ }
+    ensures { λ r. ⌜ r ≡ standsIn (now (template .entry)) (now (places .entry)) count i (now (name .entry)) ⌝ }
+{
+    if i < count {
+        return names::same_bytes(name, scan::bytes::line_of(eight_at(template, places, i)));
     }
     false
 }
 
-// What is noted in a slot once a name with a fingerprint is noted there too.
-fn noted_with(noted: u8, fingerprint: u8) -> u8
-    ensures { λ r. ⌜ r ≡ notedWith noted fingerprint ⌝ }
+// Moves the first places of a row up by one, the last first.
+fn move_up(row: &mut [u16], count: usize)
+    requires { ⌜ count < length (now row) ⌝ }
+    ensures { λ _. ⌜ MovedUp (now (row .entry)) count (now (row .exit)) ⌝ }
 {
-    if noted == NOTHING {
-        return fingerprint;
+    let mut j = count;
+    while 0 < j {
+        row[j] = row[j - 1];
+        j -= 1;
     }
-    if noted == fingerprint {
-        return fingerprint;
-    }
-    MIXED
 }
 
-// A line that isn't $SEC has the empty name, which never came before; nor did a name where another fingerprint alone is noted.
-fn came_before(template: &[u8], lines: u32, name: &[u8], noted: u8, fingerprint: u8) -> bool
-    requires { ⌜ (length (now template) ≤ 32768) × (RuledOut noted fingerprint → hasName (now name) (take lines (linesOf (now template))) ≡ false) ⌝ }
-    ensures { λ r. ⌜ r ≡ cameBefore (now (name .entry)) (take lines (linesOf (now (template .entry)))) ⌝ }
+// A place more in the row, at a position. What stands from there on is lent as a row of its own: the compiler moves a row from
+// its start on at once.
+fn insert(places: &mut [u16], count: usize, i: usize, at: usize)
+    requires { ⌜ (count < length (now places)) × (i ≤ count) × (at < 65536) ⌝ }
+    ensures { λ _. ⌜ Inserted (now (places .entry)) count i at (now (places .exit)) ⌝ }
 {
-    if name.len() == 0 {
-        return false;
-    }
-    if noted == MIXED {
-        return has_name(template, lines, name);
-    }
-    if noted == fingerprint {
-        return has_name(template, lines, name);
-    }
-    false
+    move_up(&mut places[i..], count - i);
+    places[i] = at as u16;
 }
 
-// Each name before is noted by its fingerprint in a slot, both from its hash, so that few names are sought that are new.
+// The places of the names before stand in a row, in the order of the names. A line that isn't $SEC has the empty name; a name
+// starts behind "$SEC ".
 pub fn check(template: &[u8]) -> Verdict
     requires { ⌜ length (now template) ≤ 32768 ⌝ }
     ensures { λ r. ⌜ r ≡ nameCheck (now (template .entry)) ⌝ }
 {
     let mut at = 0;
     let mut lines: u32 = 0;
-    let mut noted = [NOTHING; SLOTS];
+    let mut places = [0u16; MOST_SECTIONS];
+    let mut count = 0;
     while at < template.len() {
         let line = scan::bytes::line_of(&template[at..]);
         let name = names::name_of(line);
-        let hash = names::hash_of(name);
-        let slot = hash % SLOTS;
-        let fingerprint = (hash / SLOTS + 1) as u8;
-        let before = noted[slot];
-        if came_before(template, lines, name, before, fingerprint) {
-            return Verdict::Fault(lines + 1);
-        }
-        noted[slot] = noted_with(before, fingerprint);
+        let place = at + 5;
         at += line.len() + 1;
         lines += 1;
+        if name.len() == 0 {
+            continue;
+        }
+        let i = position(template, &places, count, name);
+        if stands_in(template, &places, count, i, name) {
+            return Verdict::Fault(lines);
+        }
+        insert(&mut places, count, i, place);
+        count += 1;
     }
     Verdict::Fine
 }
