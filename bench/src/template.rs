@@ -2,6 +2,7 @@
 
 use crate::{stack, time};
 use station_tests::random::Random;
+use station_tests::sections::{self, name, name_at_random};
 use station_tests::template::check;
 use std::hint::black_box;
 
@@ -19,7 +20,7 @@ fn filled(lines: &[&str]) -> Vec<u8> {
 }
 
 /// So many sections, evenly spread, with text between them.
-fn sections(count: usize) -> Vec<u8> {
+fn spread(count: usize) -> Vec<u8> {
     let mut template = Vec::new();
     for n in 0..count {
         template.extend(format!("$SEC {n:04}\n").bytes());
@@ -32,17 +33,34 @@ fn sections(count: usize) -> Vec<u8> {
     template
 }
 
-/// Sections with names of eight characters at random, and nothing else.
-fn random_sections() -> Vec<u8> {
-    let mut random = Random::new(5);
-    let mut template = b"$SEC 0000\n".to_vec();
-    while template.len() + 14 <= LONGEST {
-        template.extend(b"$SEC ");
-        template.extend((0..8).map(|_| random.pick(b"0123456789ABCDEFGHIJKLMNOPQRSTUVWXYZ")));
-        template.push(b'\n');
-    }
+/// Sections with these names and nothing else.
+fn named(names: &[String]) -> Vec<u8> {
+    let mut template = sections::template(names, "");
+    assert!(template.len() <= LONGEST);
     template.resize(LONGEST, b'\n');
     template
+}
+
+/// Names of eight characters in no order: at random; that share the remainder by which check 5 once noted names; alike in five characters.
+fn long_names() -> [(&'static str, Vec<String>); 3] {
+    let mut random = Random::new(5);
+    let remainder = |name: &String| {
+        name.bytes()
+            .fold(0, |key, b| (key * 927 + u64::from(b)) % 16_361)
+    };
+    let mixed = |names: Vec<String>| {
+        let [.., (_, mixed)] = sections::orders(&names);
+        mixed
+    };
+    let at_random = (0..2_340).map(|_| name_at_random(&mut random, 8));
+    let numbers = (0..).map(|n| format!("{n:08}"));
+    let sharing = numbers.filter(|name| remainder(name) == 5).take(2_340);
+    let alike = (0..2_340).map(|n| format!("ALIKE{}", name(n, 3)));
+    [
+        ("at random", at_random.collect()),
+        ("of one remainder", mixed(sharing.collect())),
+        ("alike in five characters", mixed(alike.collect())),
+    ]
 }
 
 /// "0x20–0x7E or 0x0A", byte by byte.
@@ -56,7 +74,7 @@ fn scan(template: &[u8]) -> usize {
 }
 
 fn times(name: &str, template: &[u8]) {
-    let section = b"0000";
+    let section = template[5..].split(|b| *b == b'\n').next().unwrap();
     assert_eq!(check(template, section), (0, 0), "{name}");
     let [checked, scanned, theirs] = time::nanoseconds(
         100,
@@ -96,14 +114,16 @@ pub fn run() {
     times("empty lines", &filled(&[""]));
     times("lines full of fields", &filled(&[fields]));
     times("10 tests and 5 tables deep", &filled(&deep));
-    times("100 sections", &sections(100));
-    times("1,000 sections", &sections(1_000));
-    times(
-        "3,276 sections, names that count up",
-        &sections(LONGEST / 10),
-    );
-    times("2,340 sections, names at random", &random_sections());
-    let template = sections(1_000);
+    times("100 sections", &spread(100));
+    times("1,000 sections", &spread(1_000));
+    times("3,276 sections, names that count up", &spread(LONGEST / 10));
+    for (kind, names) in long_names() {
+        times(&format!("2,340 sections, names {kind}"), &named(&names));
+    }
+    for (order, names) in sections::orders(&sections::most()) {
+        times(&format!("3,792 sections, names {order}"), &named(&names));
+    }
+    let template = spread(1_000);
     let used = stack::used(move || {
         black_box(check(&template, b"0000"));
     });

@@ -11,6 +11,7 @@ pub mod random;
 pub mod report;
 pub mod rows;
 pub mod samples;
+pub mod sections;
 pub mod sheets;
 pub mod store;
 pub mod template;
