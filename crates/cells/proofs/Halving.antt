@@ -1,6 +1,6 @@
 -- Halving: the cells before `low` have lower keys, those from `low + size` on have not.
 use mathlib.Core.Path.{_≡_, refl, sym, ap, _∙_, subst}
-use mathlib.Core.Bool.{Bool, true, false, cond}
+use mathlib.Core.Bool.{Bool, true, false}
 use mathlib.Core.List.{List}
 use Prim.Native.Nat.{ℕ, _+_, _*_, _-_, _/_, _%_, _≤_, _<_}
 use native.Mathlib.Nat.{eq-or-lt-of-le, mul-one, mul-zero}
@@ -10,7 +10,7 @@ use lib.Dec.{ltb, leb, eqb}
 use lib.ListN.{length, getD}
 use mathlib.Core.Logic.{⊎-elim}
 use Rattle.cells.specs.Cell.{keyAsNumber, keyAt}
-use Rattle.cells.specs.inner.Index.{keyIn, Sorted, Position, belowOf, boundOf}
+use Rattle.cells.specs.inner.Index.{keyIn, Sorted, Position, LowerAt, belowOf, boundOf}
 
 pub record Halved (b starts : List ℕ) (count k low size : ℕ) : Type 0 where
   pub few : low + size ≤ count
@@ -56,6 +56,17 @@ bound-below x k h =
     (λ (v : k * 256 ≤ x). not-below x (k * 256) v ∙ sym (not-below (x / 256) k (omega arith)))))
     (λ (u : 18014398509481984 ≤ k). rw (le-ltb k 18014398509481984 u) (is-below x 4611686018427387904 (omega arith) ∙ sym (is-below (x / 256) k (omega arith))))
 
+-- x is what was read at the place of the i-th cell, and r how it compares with the bound
+pub lower-at : (b starts : List ℕ) (bound i at x r : ℕ) → at ≡ getD starts i 0 → (at + 9 ≤ length b → x / 256 ≡ keyAsNumber (keyAt b (at + 1))) → r ≤ 1 → (x < 9223372036854775808 → bound < 9223372036854775808 → r ≡ belowOf x bound) → LowerAt b starts bound i r
+lower-at b starts bound i at x r p f t g =
+    record {
+      most = t;
+      judged = λ count k s c e.
+          let q : x / 256 ≡ keyIn b starts i = f (omega (arith, s .inside i c)) ∙ ap (λ (y : ℕ). keyAsNumber (keyAt b (y + 1))) p in
+          let u : x / 256 < 18014398509481984 = omega (arith, s .small i c) in
+          g (omega arith) (omega (arith, bound-small k)) ∙ ap (belowOf x) e ∙ bound-below x k u ∙ ap (λ (y : ℕ). belowOf y k) q;
+    }
+
 -- a key with a byte behind it, compared with another key: the tests of `has_key`
 module _ (x n k : ℕ) (e : x / 256 ≡ n) where
   pub key-past : x < 18446744073709551616 → 72057594037927936 ≤ k → false ≡ eqb n k
@@ -96,36 +107,45 @@ module _ (b starts : List ℕ) (count k : ℕ) where
       (λ (u : i < m). omega (arith, s .rises i m u l))
       (eq-or-lt-of-le h)
 
-  -- x is what was read at m, and r how it compares with the bound
-  module _ (low size : ℕ) (w : Halved b starts count k low size) (m at x r : ℕ) (l : low ≤ m) (h : m < low + size) (p : at ≡ getD starts m 0) (f : at + 9 ≤ length b → x / 256 ≡ keyAsNumber (keyAt b (at + 1))) (bound : ℕ) (eb : bound ≡ boundOf k) (t : r ≤ 1) (g : x < 9223372036854775808 → bound < 9223372036854775808 → r ≡ belowOf x bound) where
-    compared : Sorted b starts count → r ≡ belowOf (keyIn b starts m) k
-    compared s =
-        let c : m < count = omega (arith, w .few) in
-        let q : x / 256 ≡ keyIn b starts m = f (omega (arith, s .inside m c)) ∙ ap (λ (y : ℕ). keyAsNumber (keyAt b (y + 1))) p in
-        let u : x / 256 < 18014398509481984 = omega (arith, s .small m c) in
-        g (omega arith) (omega (arith, bound-small k)) ∙ ap (belowOf x) eb ∙ bound-below x k u ∙ ap (λ (y : ℕ). belowOf y k) q
+  -- r is how the key of m compares
+  module _ (bound m r : ℕ) (eb : bound ≡ boundOf k) (c : m < count) (h : LowerAt b starts bound m r) where
+    lower-to : r ≡ 1 → Sorted b starts count → (i : ℕ) → i ≤ m → keyIn b starts i < k
+    lower-to e s i l =
+        let here : keyIn b starts m < k = below-cases (keyIn b starts m < k) (keyIn b starts m) k (λ u. u) (λ u. absurd (omega (arith, h .judged count k s c eb, not-below (keyIn b starts m) k u))) in
+        omega (arith, here, at-most s i m l c)
 
-    lower-here : r ≡ 1 → Sorted b starts count → keyIn b starts m < k
-    lower-here e s =
-        below-cases (keyIn b starts m < k) (keyIn b starts m) k (λ u. u) (λ u. absurd (omega (arith, compared s, not-below (keyIn b starts m) k u)))
+    higher-from : r ≡ 0 → Sorted b starts count → (i : ℕ) → m ≤ i → i < count → k ≤ keyIn b starts i
+    higher-from e s i l z =
+        let here : k ≤ keyIn b starts m = below-cases (k ≤ keyIn b starts m) (keyIn b starts m) k (λ u. absurd (omega (arith, h .judged count k s c eb, is-below (keyIn b starts m) k u))) (λ u. u) in
+        omega (arith, here, at-most s m i l z)
 
-    higher-here : r ≡ 0 → Sorted b starts count → k ≤ keyIn b starts m
-    higher-here e s =
-        below-cases (k ≤ keyIn b starts m) (keyIn b starts m) k (λ u. absurd (omega (arith, compared s, is-below (keyIn b starts m) k u))) (λ u. u)
-
-    pub halved-step : (half : ℕ) → m + 1 ≡ low + half → half ≤ size → half + half ≤ size + 1 → Halved b starts count k (low + half * r) (size - half)
-    halved-step half e q v =
-        one-cases (λ (y : ℕ). Halved b starts count k (low + half * y) (size - half)) r t
+    pub halved-step : (low size : ℕ) → Halved b starts count k low size → (half : ℕ) → m + 1 ≡ low + half → half ≤ size → half + half ≤ size + 1 → Halved b starts count k (low + half * r) (size - half)
+    halved-step low size w half e q v =
+        one-cases (λ (y : ℕ). Halved b starts count k (low + half * y) (size - half)) r (h .most)
         (λ o. rw (mul-one half) (record {
           few = omega (arith, w .few);
-          lower = λ s i u. omega (arith, lower-here o s, at-most s i m (omega arith) (omega (arith, w .few)));
+          lower = λ s i u. lower-to o s i (omega arith);
           higher = λ s i u z. w .higher s i (omega arith) z;
         }))
         (λ o. rw (mul-zero half) (record {
           few = omega (arith, w .few);
           lower = λ s i u. w .lower s i (omega arith);
-          higher = λ s i u z. omega (arith, higher-here o s, at-most s m i (omega arith) z);
+          higher = λ s i u z. higher-from o s i (omega arith) z;
         }))
+
+    -- ---- a hint: the position is m or the one behind it, if either
+
+    pub near-start : m + r < 1 → Position b starts count k 0
+    near-start l =
+        record {
+          first = λ s. record { few = omega arith; lower = λ i u. absurd (omega arith); higher = λ i u z. higher-from (omega arith) s i (omega arith) z };
+        }
+
+    pub near-end : count ≤ m + r + r - 1 → Position b starts count k (m + r)
+    near-end l =
+        record {
+          first = λ s. record { few = omega (arith, h .most); lower = λ i u. lower-to (omega (arith, h .most)) s i (omega (arith, h .most)); higher = λ i u z. absurd (omega (arith, h .most)) };
+        }
 
   pub halved-all : (low size : ℕ) → Halved b starts count k low size → size ≤ 0 → Position b starts count k low
   halved-all low size w e =
@@ -136,3 +156,15 @@ module _ (b starts : List ℕ) (count k : ℕ) where
   -- an index that has not the places of all cells
   pub no-room : length starts < count → Position b starts count k 0
   no-room h = record { first = λ s. absurd (omega (arith, s .room)) }
+
+  -- the key on the other side compares the other way
+  pub near-between : (bound m r n t : ℕ) → bound ≡ boundOf k → m < count → LowerAt b starts bound m r → n < count → LowerAt b starts bound n t → 1 ≤ m + r → n ≡ m + r + r - 1 → t + r ≡ 1 → Position b starts count k (m + r)
+  near-between bound m r n t e c h d g l o q =
+      ⊎-elim
+      (λ (y : r ≡ 1). record {
+        first = λ s. record { few = omega arith; lower = λ i u. lower-to bound m r e c h y s i (omega arith); higher = λ i u z. higher-from bound n t e d g (omega arith) s i (omega arith) z };
+      })
+      (λ (y : r < 1). record {
+        first = λ s. record { few = omega arith; lower = λ i u. lower-to bound n t e d g (omega arith) s i (omega arith); higher = λ i u z. higher-from bound m r e c h (omega arith) s i (omega arith) z };
+      })
+      (eq-or-lt-of-le (h .most))

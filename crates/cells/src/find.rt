@@ -6,7 +6,7 @@ ghost use Prim.Native.Nat.{_+_, _/_, _≤_, _<_};
 ghost use lib.Dec.{eqb};
 ghost use lib.ListN.{length, getD};
 ghost use Rattle.cells.specs.Cell.{keyAsNumber, keyAt};
-ghost use Rattle.cells.specs.inner.Index.{Position, SizeAt, belowOf, boundOf};
+ghost use Rattle.cells.specs.inner.Index.{Position, LowerAt, SizeAt, belowOf, boundOf};
 
 // So many keys have 7 bytes: 2^56.
 const KEYS: u64 = 72057594037927936;
@@ -97,6 +97,46 @@ pub fn position(store: &[u8], starts: &[u16], count: usize, key: u64) -> usize
         size -= half;
     }
     low
+}
+
+// 1 where the key of the i-th cell is below the one that a bound was made of, else 0. It compares, since a difference whose
+// lowest byte nobody asks for would be read in seven loads.
+fn lower_at(store: &[u8], starts: &[u16], bound: u64, i: usize) -> usize
+    requires { ⌜ i < length (now starts) ⌝ }
+    ensures { λ r. ⌜ LowerAt (now (store .entry)) (now (starts .entry)) bound i r ⌝ }
+{
+    let at = wide_place(starts[i]);
+    if key_and_byte(store, at) < bound {
+        return 1;
+    }
+    0
+}
+
+// The same position, tried first at a hint, which may be any number, and right behind it. The key at the hint rules one of
+// the two out, and the key on the other side tells whether it is the other one, without a branch on either key alone.
+pub fn near(store: &[u8], starts: &[u16], count: usize, key: u64, hint: usize) -> usize
+    ensures { λ r. ⌜ Position (now (store .entry)) (now (starts .entry)) count key r ⌝ }
+{
+    if starts.len() < count {
+        return 0;
+    }
+    if count <= hint {
+        return position(store, starts, count, key);
+    }
+    let bound = bound_of(key);
+    let lower = lower_at(store, starts, bound, hint);
+    let i = hint + lower;
+    if i < 1 {
+        return 0;
+    }
+    let other = i + lower - 1;
+    if count <= other {
+        return i;
+    }
+    if lower_at(store, starts, bound, other) + lower == 1 {
+        return i;
+    }
+    position(store, starts, count, key)
 }
 
 // How many bytes the cell at a place has; 0 past the store.

@@ -1,9 +1,10 @@
 // The store's cells: their form, the index of their places, and questions about them.
 //
-// ask                 one question to a store
-// index::build        checks the form of a store and writes down where each cell begins
-// question::allowed   whether a question is within its limits
-// question::answer    a question over the index of a store
+// ask                     one question to a store
+// index::build            checks the form of a store and writes down where each cell begins
+// question::allowed       whether a question is within its limits
+// question::answer        a question over the index of a store
+// question::answer_near   the same, first sought near a hint, with where the search ended
 
 mod bytes; // bytes.rt: big-endian numbers
 mod form; // form.rt: the form of keys and cells

@@ -56,19 +56,32 @@ fn number_of(datasource: u32, parameter: u32, record_number: u32, entry: u32) ->
     (d * 65536 + wide(record_number)) * 65536 + wide(entry)
 }
 
+// An answer, and the position where its search ended: a hint for the next.
+pub struct Sought {
+    pub answer: Answered,
+    pub position: usize,
+}
+
 // Kind 1: the value of the cell with a key.
-fn cell_answer(store: &[u8], starts: &[u16], count: usize, key: u64) -> Answered
-    ensures { λ r. ⌜ CellAnswer (now (store .entry)) (now (starts .entry)) count key r ⌝ }
+fn cell_answer(store: &[u8], starts: &[u16], count: usize, key: u64, hint: usize) -> Sought
+    ensures { λ r. ⌜ CellAnswer (now (store .entry)) (now (starts .entry)) count key (r .answer) ⌝ }
 {
-    let i = find::position(store, starts, count, key);
-    if count <= i {
-        return Answered::Missing;
+    let position = find::near(store, starts, count, key, hint);
+    if count <= position {
+        return Sought {
+            answer: Answered::Missing,
+            position,
+        };
     }
-    let at = find::place_of(starts, i);
+    let at = find::place_of(starts, position);
     if find::has_key(store, at, key) {
-        return value::value_at(store, at);
+        let answer = value::value_at(store, at);
+        return Sought { answer, position };
     }
-    Answered::Missing
+    Sought {
+        answer: Answered::Missing,
+        position,
+    }
 }
 
 // The keys of a parameter reach so far for kind 2, those of a record for kind 3.
@@ -107,12 +120,22 @@ fn highest(store: &[u8], starts: &[u16], count: usize, low: u64, end: u64, offse
     value::number_at(store, at, offset)
 }
 
-// The answer to a question over the index of a store; a question out of its limits is answered missing.
-pub fn answer(store: &[u8], starts: &[u16], count: usize, question: Question) -> Answered
-    ensures { λ r. ⌜ Answers (now (store .entry)) (now (starts .entry)) count question r ⌝ }
+// The answer to a question over the index of a store, first sought near a hint, which may be any number; a question out of
+// its limits is answered missing. Kinds 2 and 3 hand the hint back.
+pub fn answer_near(
+    store: &[u8],
+    starts: &[u16],
+    count: usize,
+    question: Question,
+    hint: usize,
+) -> Sought
+    ensures { λ r. ⌜ Answers (now (store .entry)) (now (starts .entry)) count question (r .answer) ⌝ }
 {
     if !allowed(question) {
-        return Answered::Missing;
+        return Sought {
+            answer: Answered::Missing,
+            position: hint,
+        };
     }
     let kind = question.kind;
     let key = number_of(
@@ -122,9 +145,21 @@ pub fn answer(store: &[u8], starts: &[u16], count: usize, question: Question) ->
         question.entry,
     );
     if kind == 1 {
-        return cell_answer(store, starts, count, key);
+        return cell_answer(store, starts, count, key, hint);
     }
     let end = key + reach_of(kind);
     let offset = offset_of(kind);
-    Answered::Highest(highest(store, starts, count, key, end, offset))
+    let n = highest(store, starts, count, key, end, offset);
+    Sought {
+        answer: Answered::Highest(n),
+        position: hint,
+    }
+}
+
+// The same without a hint.
+pub fn answer(store: &[u8], starts: &[u16], count: usize, question: Question) -> Answered
+    ensures { λ r. ⌜ Answers (now (store .entry)) (now (starts .entry)) count question r ⌝ }
+{
+    let sought = answer_near(store, starts, count, question, count);
+    sought.answer
 }

@@ -1,7 +1,7 @@
 -- The loop keeps what `Halved` says.
 use native.Mathlib.Omega.{arith}
 use Prim.Native.Nat.{_+_, _-_, _/_}
-use Rattle.cells.proofs.Halving.{Halved, half-most, halved-start, halved-step, halved-all, no-room}
+use Rattle.cells.proofs.Halving.{Halved, half-most, lower-at, halved-start, halved-step, halved-all, no-room}
 use borrow.Author.Needs.{needs}
 use Rattle.cells.proofs.find.position.Statement.{statement}
 use Rattle.cells.proofs.find.position.Tie as tie
@@ -65,7 +65,8 @@ loop-again : tie.Need-loop-again Inv-loop μ-loop
 loop-again c =
     let l = c .before .before .before .before .before .loop in
     let h = l .size - l .size / 2 in
-    halved-step _ _ _ _ _ _ (l .inv) (l .low + h - 1) _ _ _ (omega arith) (omega arith) (c .before .before .wide-place .ensures) (c .before .key-and-byte .ensures) _ (c .before .before .before .before .before .before .bound-of .ensures) (c .below .ensures .0) (c .below .ensures .1) h (omega arith) (omega arith) (omega arith)
+    let judged = lower-at _ _ _ _ _ _ _ (c .before .before .wide-place .ensures) (c .before .key-and-byte .ensures) (c .below .ensures .0) (c .below .ensures .1) in
+    halved-step _ _ _ _ _ (l .low + h - 1) _ (c .before .before .before .before .before .before .bound-of .ensures) (omega arith) judged _ _ (l .inv) h (omega arith) (omega arith) (omega arith)
 
 returns-2 : tie.Need-returns-2 Inv-loop μ-loop
 returns-2 c = halved-all _ _ _ _ _ _ (c .before .loop .inv) (c .loop-test .left)

@@ -3,8 +3,8 @@ use native.Mathlib.Omega.{arith}
 use Rattle.cells.proofs.Questions.{answers-refused, key-inside, answers-cell, answers-highest, reach-most, offset-most}
 use denote.Ref.{now}
 use borrow.Author.Needs.{needs}
-use Rattle.cells.proofs.question.answer.Statement.{statement}
-use Rattle.cells.proofs.question.answer.Tie as tie
+use Rattle.cells.proofs.question.answer_near.Statement.{statement}
+use Rattle.cells.proofs.question.answer_near.Tie as tie
 
 allowed-requires : tie.Need-allowed-requires
 allowed-requires c κs = search needs
@@ -40,8 +40,8 @@ returns-3 c =
     let k = c .before .before .before .before in
     answers-highest _ _ _ _ _ (k .before .before .allowed .ensures) (k .before .if1 .left) _ (k .number-of .ensures .0) (c .before .before .before .if2 .left) _ _ _ (c .before .before .reach-of .ensures) (c .before .offset-of .ensures) (c .highest .ensures)
 
-pub answer-spec : {M : Type 1} → statement M
-answer-spec =
+pub answer-near-spec : {M : Type 1} → statement M
+answer-near-spec =
     tie.close
     (tie.spec
     allowed-requires
