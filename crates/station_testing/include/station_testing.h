@@ -49,6 +49,12 @@ void station_look_up(const uint8_t *buffer, size_t buffer_length, const uint16_t
                      size_t known, uint32_t kind, uint32_t datasource, uint32_t parameter, uint32_t record,
                      uint32_t entry, uint8_t *answered, int64_t *value, size_t *place, size_t *count);
 
+/* The same, first sought near a hint, which may be any number: *ended says where the search ended, a good hint for the next. */
+void station_look_up_near(const uint8_t *buffer, size_t buffer_length, const uint16_t *places, size_t places_length,
+                          size_t known, uint32_t kind, uint32_t datasource, uint32_t parameter, uint32_t record,
+                          uint32_t entry, size_t hint, uint8_t *answered, int64_t *value, size_t *place,
+                          size_t *count, size_t *ended);
+
 /* The parsed form of a line without its line end, and of the piece of its text at `at`, as 16 numbers: a form, a
    number, seven numbers each of a first and a second argument. What is not there is 0. False, and nothing written, where
    there are fewer than 16 places.

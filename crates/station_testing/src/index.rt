@@ -71,3 +71,36 @@ pub extern "C" fn station_look_up(
     let answer = cells::question::answer(buffer, starts, known, question);
     question::hand_answer(answer, answered, value, place, count);
 }
+
+// The same, first sought near a hint; where the search ended goes to `ended`.
+#[no_mangle]
+pub extern "C" fn station_look_up_near(
+    buffer: &[u8],
+    starts: &[u16],
+    known: usize,
+    kind: u32,
+    datasource: u32,
+    parameter: u32,
+    item: u32,
+    entry: u32,
+    hint: usize,
+    answered: &mut u8,
+    value: &mut i64,
+    place: &mut usize,
+    count: &mut usize,
+    ended: &mut usize,
+)
+    ensures { λ _. ⌜ ToldLookUp (now (buffer .entry)) (now (starts .entry)) known (questionOf kind datasource parameter item entry) (now (answered .exit)) (now (value .exit)) (now (place .exit)) (now (count .exit)) ⌝ }
+{
+    let question = Question {
+        kind: kind,
+        datasource: datasource,
+        parameter: parameter,
+        record: item,
+        entry: entry,
+    };
+    let sought = cells::question::answer_near(buffer, starts, known, question, hint);
+    *ended = sought.position;
+    let answer = sought.answer;
+    question::hand_answer(answer, answered, value, place, count);
+}
