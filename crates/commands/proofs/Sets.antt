@@ -68,8 +68,7 @@ module _ (line store : List ℕ) (numbers : List ℤ) (rows : List (List ℕ)) (
   assigned-integer h a e taken d numbers′ k = record {
     same = λ source. rw (h, ← e, ← (d .same Here), k .above 99 99 (omega arith)) (stored-in (withIntegers (Now source)) (integersIn numbers′) (asVariable (integersIn numbers) n (takenOf taken)) (verdictOf v) (k .same));
     held = r;
-    headings = refl;
-    tables = refl;
+    above = λ i k g. refl;
   }
 
   pub assigned-decimal : t ≡ DecimalTarget n → (a : ℤ) → a ≡ numbered (pos 0) (decimalsIn numbers) n → (taken : Taken) → Takes (decimalNew o a) w taken → (numbers′ : List ℤ) → StoresNumber numbers 99 n taken numbers′ v → Assigns line store (held numbers rows words) o t w (held numbers′ rows words) v
@@ -77,8 +76,7 @@ module _ (line store : List ℕ) (numbers : List ℤ) (rows : List (List ℕ)) (
   assigned-decimal h a e taken d numbers′ k = record {
     same = λ source. rw (h, ← e, ← (d .same Here), k .below 0 99 (omega arith)) (stored-in (withDecimals (Now source)) (decimalsIn numbers′) (asVariable (decimalsIn numbers) n (takenOf taken)) (verdictOf v) (k .same));
     held = r;
-    headings = refl;
-    tables = refl;
+    above = λ i k g. refl;
   }
 
   pub assigned-string : t ≡ StringTarget n → (rows′ : List (List ℕ)) (words′ : List ℕ) → StoresString line store rows words n w rows′ words′ v → Assigns line store (held numbers rows words) o t w (held numbers rows′ words′) v
@@ -86,6 +84,5 @@ module _ (line store : List ℕ) (numbers : List ℤ) (rows : List (List ℕ)) (
   assigned-string h rows′ words′ d = record {
     same = λ source. rw (h, d .above 99 10 (omega arith), d .above 109 10 (omega arith)) (stored-in (withStrings (Now source)) (texts rows′ 0 (lengthsIn words′)) (asVariable (texts rows 0 (lengthsIn words)) n (stringNew (meant Here w))) (verdictOf v) (d .same));
     held = d .held;
-    headings = d .above 119 9 (omega arith);
-    tables = d .above 128 20 (omega arith);
+    above = d .above;
   }

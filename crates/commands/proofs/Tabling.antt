@@ -10,7 +10,7 @@ use lib.Dec.{ltb}
 use lib.IntN.{ℤ, pos, negsuc, natAbs}
 use lib.Signed.{ltZ}
 use lib.ListN.{length, getD, set, take, drop, length-take, length-set, List·getD-eq-default}
-use lib.Seq.{getD-take, getD-drop, getD-set-same, getD-set-other, drop-set-add, take-set-le}
+use lib.Seq.{getD-take, getD-drop, getD-set-same, getD-set-other, drop-set-add, drop-set-lt, take-set-le}
 use Rattle.meaning.specs.declared.refusal.Refusal.{Refusal}
 use Rattle.meaning.specs.declared.refusal.Refusal.the-variants.{OutOfRange}
 use Rattle.commands.specs.declared.table.Table.{Table}
@@ -53,6 +53,10 @@ unfolding bank
 before-set l i k j y h =
     let e : j ≡ i + (j - i) = omega arith in
     ap (λ (q : ℕ). take k (drop i (set l q y))) e ∙ ap (take k) (drop-set-add i l (j - i) y) ∙ take-set-le k (drop i l) (j - i) y (omega arith)
+
+after-set : (l : List ℕ) (i k j y : ℕ) → j < i → bank i k (set l j y) ≡ bank i k l
+unfolding bank
+after-set l i k j y h = ap (take k) (drop-set-lt i l j y h)
 
 module _ (w : List ℕ) (d c l s n : ℕ) (few : d ≤ 4) (row : 148 ≤ length w) (cs : c < 4294967296) (ns : n < 4294967296) where
   abbrev w₁ : List ℕ
@@ -124,6 +128,7 @@ module _ (w : List ℕ) (d c l s n : ℕ) (few : d ≤ 4) (row : 148 ≤ length 
     rest = rest-same;
     stays = record {
       others = λ i k h. before-set w₃ i k (128 + d * 4 + 3) n (omega arith) ∙ before-set w₂ i k (128 + d * 4 + 2) s (omega arith) ∙ before-set w₁ i k (128 + d * 4 + 1) l (omega arith) ∙ before-set w i k (128 + d * 4) c (omega arith);
+      above = λ i k h. after-set w₃ i k (128 + d * 4 + 3) n (omega arith) ∙ after-set w₂ i k (128 + d * 4 + 2) s (omega arith) ∙ after-set w₁ i k (128 + d * 4 + 1) l (omega arith) ∙ after-set w i k (128 + d * 4) c (omega arith);
       same = long₄;
     };
   }
@@ -160,7 +165,7 @@ pub closed-few : (words : List ℕ) (d r : ℕ) → AtMostOpen 5 words d → r �
 closed-few words d r h e = record { few = omega (arith, e, h .few); row = h .row }
 
 stays-all : (words : List ℕ) → Stays words words
-stays-all words = record { others = λ i k h. refl; same = refl }
+stays-all words = record { others = λ i k h. refl; above = λ i k h. refl; same = refl }
 
 -- ---- small functions
 

@@ -9,15 +9,13 @@ use borrow.Author.Tests.{le-leb, lt-leb, leb-false}
 use lib.Dec.{leb}
 use lib.IntN.{ℤ, pos, negsuc}
 use lib.Signed.{ltZ}
-use lib.ListN.{length, drop, take, set, drop-of-length-le, length-take}
+use lib.ListN.{length, set, drop-of-length-le}
 use Rattle.values.specs.inner.Registers.{Puts}
 use Rattle.values.specs.Machine.{setNumbered}
 use Rattle.buffers.proofs.Laws.{map-set}
 use Rattle.template.specs.declared.seek.Sought.{Sought}
-use Rattle.template.specs.declared.seek.Skip.{Skip}
 use Rattle.template.specs.Lines.{linesWithin, linesOf}
 use Rattle.template.specs.Seek.{cutTo, skipFrom, skipped}
-use Rattle.template.proofs.Reach.{found-inside, part-skip}
 use Rattle.meaning.specs.declared.refusal.Refusal.{Refusal}
 use Rattle.meaning.specs.declared.refusal.Refusal.the-variants.{BadIndex}
 use Rattle.meaning.specs.declared.end.Halt.{Halt}
@@ -39,8 +37,8 @@ use Rattle.pages.specs.inner.Packed.{headingIn, headingsOf}
 use Rattle.pages.specs.inner.Paging.{Breaks}
 use Rattle.control.specs.declared.state.Flow.{Flow}
 use Rattle.control.specs.declared.state.Lined.{Lined}
-use Rattle.control.specs.inner.Going.{endedIn, sceneOf, placedAt, pageIn, jumpedIn}
-use Rattle.control.specs.inner.Arms.{Jumpable, Settles, datasourceAt, Refills, Heads, BreaksLine, PagesLine}
+use Rattle.control.specs.inner.Going.{endedIn, sceneOf, pageIn, jumpedIn}
+use Rattle.control.specs.inner.Arms.{Settles, datasourceAt, Refills, Heads, BreaksLine, PagesLine}
 
 -- ---- the flow
 
@@ -56,15 +54,6 @@ pub jumped-outside : (t : List ℕ) (f : Flow) (q : Sought) → length t < f .at
 jumped-outside t f q h =
     let k : length t ≤ f .at = omega arith in
     rw (drop-of-length-le t k, skip-none q, add-zero (f .at), add-zero (f .line))
-
-pub jumped-inside : (t : List ℕ) (f : Flow) (q : Sought) (k : Skip) (r : Flow) → k ≡ skipped (take (length t - f .at) (drop (f .at) t)) q → r ≡ placedAt f (f .at + k .bytes) (f .line + k .lines) → r ≡ jumpedIn t f q
-jumped-inside t f q k r e i = i ∙ ap (λ (x : Skip). placedAt f (f .at + x .bytes) (f .line + x .lines)) (part-skip t q (f .at) k e)
-
--- a jump's sums
-pub jump-sums : (t : List ℕ) (f : Flow) (q : Sought) (k : Skip) → Jumpable t f → f .at ≤ length t → k ≡ skipped (take (length t - f .at) (drop (f .at) t)) q → (f .line + k .lines < 4294967296) × (f .at + k .bytes < 18446744073709551616)
-jump-sums t f q k h l e =
-    let i = found-inside (take (length t - f .at) (drop (f .at) t)) q k e in
-    (omega (arith, i .bytes, i .lines, h .short, h .few, length-take (length t - f .at) (drop (f .at) t)), omega (arith, i .bytes, h .short, length-take (length t - f .at) (drop (f .at) t)))
 
 -- ---- a line that is refused, and one that goes on
 
@@ -102,10 +91,10 @@ datasource-in n h k = rw (le-leb 1 n h, le-leb n 35 k)
 
 module _ (from n : ℕ) (v : Fetched) (words : List ℕ) (f : Flow) (u : ℕ) (r : Lined) where
   pub refill-over : (h : Halt) (l : ℕ) → v .end ≡ Halted h l → r ≡ endedIn (Halted h l) f u (v .asked) → Refills from n v words f u words r
-  refill-over h l e i = record { went = rw e i; puts = λ q. absurd (let z : _≡_ {A = ℕ} 0 1 = cc in omega arith); kept = λ _ _ _. refl; tables = refl }
+  refill-over h l e i = record { went = rw e i; puts = λ q. absurd (let z : _≡_ {A = ℕ} 0 1 = cc in omega arith); kept = λ _ _ _. refl; above = λ i j g. refl }
 
   pub refills : v .end ≡ Finished → from + 10 ≤ 128 → (words′ : List ℕ) → Puts words from 10 n (v .fetched) words′ → r ≡ endedIn Finished f u (v .asked) → Refills from n v words f u words′ r
-  refills e k words′ p i = record { went = rw e i; puts = λ _. p; kept = λ h l q. absurd (let z : _≡_ {A = ℕ} 0 1 = cc in omega arith); tables = p .above 128 20 k }
+  refills e k words′ p i = record { went = rw e i; puts = λ _. p; kept = λ h l q. absurd (let z : _≡_ {A = ℕ} 0 1 = cc in omega arith); above = λ i j g. p .above i j (omega arith) }
 
 -- ---- a break, and $NP
 
@@ -149,6 +138,6 @@ pub heads : (ws ws′ : List ℕ) (n w : ℕ) (h : Heading) (f : Flow) (u a : �
 heads ws ws′ n w h f u a r e q i = record {
   set = ap headingsOf (q .own) ∙ numbered-map (headingsIn ws) n w ∙ ap (setNumbered (headingsOf (headingsIn ws)) n) e;
   others = q .below;
-  tables = q .above 128 20 (omega arith);
+  above = q .above;
   went = i;
 }

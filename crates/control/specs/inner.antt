@@ -1,4 +1,5 @@
 pub mod Going
+pub mod Remembering
 pub mod Arms
 pub mod Held
 pub mod Sound

@@ -32,6 +32,7 @@ ghost use Rattle.values.specs.inner.State.{tablesIn};
 ghost use Rattle.pages.specs.Heading.{noHeading};
 ghost use Rattle.pages.specs.inner.Packed.{Small};
 ghost use Rattle.pages.specs.inner.Paging.{TurnReady};
+ghost use Rattle.control.specs.inner.Remembering.{Remembers};
 ghost use Rattle.control.specs.inner.Going.{endedIn, datasourceIn, pageIn, jumpedIn};
 ghost use Rattle.control.specs.inner.Arms.{Jumpable, Settles, keptIn, branchedIn, begunIn, overIn, datasourceAt, Refills, Clears, Heads, BreaksLine, PagesLine};
 
@@ -86,12 +87,13 @@ pub fn branched(
     judged: Judged,
     number: u32,
     template: &[u8],
+    words: &mut Words,
     flow: Flow,
     printed: usize,
     asked: usize,
 ) -> Lined
-    requires { ⌜ Jumpable (now template) flow ⌝ }
-    ensures { λ r. ⌜ Settles number flow printed asked (branchedIn (now (template .entry)) flow) (judgedOf judged) r ⌝ }
+    requires { ⌜ Jumpable (now template) (now words) flow ⌝ }
+    ensures { λ r. ⌜ (Settles number flow printed asked (branchedIn (now (template .entry)) flow) (judgedOf judged) r) × (Remembers (now (template .entry)) (now (words .entry)) (now (words .exit))) ⌝ }
 {
     match judged {
         Judged::Refused(e) => {
@@ -101,18 +103,24 @@ pub fn branched(
             if holds {
                 return went(flow, printed, asked);
             }
-            let behind = flow::jumped(template, flow, Sought::Branch);
+            let behind = flow::jumped(template, words, flow, Sought::Branch);
             return went(behind, printed, asked);
         }
     }
 }
 
 // "an executed `$ELSE` continues after `$ENDIF`"
-pub fn else_line(template: &[u8], flow: Flow, printed: usize, asked: usize) -> Lined
-    requires { ⌜ Jumpable (now template) flow ⌝ }
-    ensures { λ r. ⌜ r ≡ endedIn Finished (jumpedIn (now (template .entry)) flow TestEnd) printed asked ⌝ }
+pub fn else_line(
+    template: &[u8],
+    words: &mut Words,
+    flow: Flow,
+    printed: usize,
+    asked: usize,
+) -> Lined
+    requires { ⌜ Jumpable (now template) (now words) flow ⌝ }
+    ensures { λ r. ⌜ (r ≡ endedIn Finished (jumpedIn (now (template .entry)) flow TestEnd) printed asked) × (Remembers (now (template .entry)) (now (words .entry)) (now (words .exit))) ⌝ }
 {
-    let next = flow::jumped(template, flow, Sought::TestEnd);
+    let next = flow::jumped(template, words, flow, Sought::TestEnd);
     went(next, printed, asked)
 }
 
@@ -121,12 +129,13 @@ pub fn begun(
     judged: Judged,
     number: u32,
     template: &[u8],
+    words: &mut Words,
     flow: Flow,
     printed: usize,
     asked: usize,
 ) -> Lined
-    requires { ⌜ (Jumpable (now template) flow) × (flow .depth ≤ 4) ⌝ }
-    ensures { λ r. ⌜ Settles number flow printed asked (begunIn (now (template .entry)) flow) (judgedOf judged) r ⌝ }
+    requires { ⌜ (Jumpable (now template) (now words) flow) × (flow .depth ≤ 4) ⌝ }
+    ensures { λ r. ⌜ (Settles number flow printed asked (begunIn (now (template .entry)) flow) (judgedOf judged) r) × (Remembers (now (template .entry)) (now (words .entry)) (now (words .exit))) ⌝ }
 {
     match judged {
         Judged::Refused(e) => {
@@ -137,7 +146,7 @@ pub fn begun(
                 let inside = flow::with_depth(flow, flow.depth + 1);
                 return went(inside, printed, asked);
             }
-            let next = flow::jumped(template, flow, Sought::TableEnd);
+            let next = flow::jumped(template, words, flow, Sought::TableEnd);
             return went(next, printed, asked);
         }
     }
@@ -205,7 +214,7 @@ pub fn fetched(
     }
 }
 
-// A text line on its page.
+// A text line on its page. Its end is told apart and not copied, which is slower.
 pub fn paged(paged: Paged, flow: Flow) -> Lined
     ensures { λ r. ⌜ r ≡ endedIn (paged .end) (pageIn flow (paged .page)) (paged .counts .printed) (paged .counts .asked) ⌝ }
 {
@@ -213,11 +222,19 @@ pub fn paged(paged: Paged, flow: Flow) -> Lined
     let page = paged.page;
     let counts = paged.counts;
     let next = flow::with_page(flow, page);
-    Lined {
-        end,
-        flow: next,
-        printed: counts.printed,
-        asked: counts.asked,
+    match end {
+        Ended::Finished => Lined {
+            end: Ended::Finished,
+            flow: next,
+            printed: counts.printed,
+            asked: counts.asked,
+        },
+        Ended::Halted(h, l) => Lined {
+            end: Ended::Halted(h, l),
+            flow: next,
+            printed: counts.printed,
+            asked: counts.asked,
+        },
     }
 }
 

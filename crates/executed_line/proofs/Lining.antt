@@ -101,6 +101,7 @@ module _ {b index t : List ℕ} {h : Held} {f : Flow} {T : List ℕ} {u a : ℕ}
       table-words = k .table-words;
       headings = sym (length-map (headingsIn (h .words)) headingIn) ∙ k .sound .headings;
       heads = k .sound .heads;
+      remembered = k .remembered;
       room = k .room;
       places = omega (arith, k .places);
     })

@@ -80,8 +80,10 @@ use Rattle.control.specs.inner.Going.{endedIn, datasourceIn, depthIn, feedsIn, 
 use Rattle.control.specs.inner.Executing.{sourceOf, stateAt, machineIn, Executes, FormReady}
 use Rattle.control.specs.inner.Arms.{Jumpable, Settles, keptIn, branchedIn, begunIn, overIn, datasourceAt, Refills, Clears, Heads, BreaksLine, PagesLine}
 use Rattle.control.specs.inner.Forms.{formWith}
+use Rattle.control.specs.inner.Remembering.{Remembered}
 use Rattle.control.proofs.Commanding.{then-executes, went-executes, settles-executes, mapped-same}
 use Rattle.control.proofs.Following.{datasource-is}
+use Rattle.control.proofs.Remembering.{remembered-same}
 
 all-fit : (t : List ℕ) (due : ℕ) (hs : List Heading) (n : ℕ) → Each (Fit t) hs → AllFit (headsDue t due (take n hs))
 all-fit t due hs zero e = (blank-fits, tt)
@@ -131,8 +133,11 @@ module _ {body b index t : List ℕ} {h : Held} {scene : Scene} {start : ℕ} {f
   sound : (l : Line) → line ≡ l → parsed.Sound body l
   sound l e = subst (parsed.Sound body) e (k .parsed)
 
-  pub jumpable : Jumpable t f
-  jumpable = record { short = omega (arith, k .template); few = omega (arith, k .few) }
+  jumpable-in : {ws : List ℕ} → Remembered t ws → Jumpable t ws f
+  jumpable-in r = record { short = omega (arith, k .template); few = omega (arith, k .few); remembered = r }
+
+  pub jumpable : Jumpable t (h .words) f
+  jumpable = jumpable-in (k .remembered)
 
   pub section-ready : (198 ≤ length (h .numbers)) × (128 ≤ length (h .words))
   section-ready = (bank-full (h .numbers) 99 99 (k .decimals) (omega arith), bank-full (h .words) 119 9 (k .headings) (omega arith))
@@ -158,8 +163,8 @@ module _ {body b index t : List ℕ} {h : Held} {scene : Scene} {start : ℕ} {f
   pub begin-ready : (x : Argument) → line ≡ form.BeginTable x → AtMostOpen 4 (h .words) (f .depth)
   begin-ready x e = record { few = k .room-for-table x e; row = tables-row }
 
-  pub begun-ready : (x : Argument) → line ≡ form.BeginTable x → (Jumpable t f) × (f .depth ≤ 4)
-  begun-ready x e = (jumpable, k .room-for-table x e)
+  pub begun-ready : (x : Argument) → line ≡ form.BeginTable x → {ws : List ℕ} → Stays (h .words) ws → (Jumpable t ws f) × (f .depth ≤ 4)
+  begun-ready x e d = (jumpable-in (remembered-same (d .above 148 64 (omega arith)) (k .remembered)), k .room-for-table x e)
 
   pub end-ready : AtMostOpen 5 (h .words) (f .depth)
   end-ready = record { few = k .tables; row = tables-row }
@@ -228,7 +233,7 @@ module _ {body b index t : List ℕ} {h : Held} {scene : Scene} {start : ℕ} {f
 
   heads-same : (ws : List ℕ) (n : ℕ) (x : Heading) (r : Lined) → Heads (h .words) n x f u a ws r → stateAt b (held (h .numbers) (h .rows) ws) f ≡ headed s n x
   heads-same ws n x r d =
-      let y : tablesIn ws ≡ tablesIn (h .words) = d .tables in
+      let y : tablesIn ws ≡ tablesIn (h .words) = d .above 128 20 (omega arith) in
       let l : lengthsIn ws ≡ lengthsIn (h .words) = d .others 0 99 (omega arith) in
       let m : recordsIn ws ≡ recordsIn (h .words) = d .others 99 10 (omega arith) in
       let o : entriesIn ws ≡ entriesIn (h .words) = d .others 109 10 (omega arith) in
@@ -278,18 +283,18 @@ module _ {body b index t : List ℕ} {h : Held} {scene : Scene} {start : ℕ} {f
 
     pub heading-line : (ws : List ℕ) (r : Lined) (n from : ℕ) → line ≡ form.Heading n from → Heads (h .words) n (record { start = start; length = length body; from = from; number = scene .number }) f u a ws r → With T log (held (h .numbers) (h .rows) ws) r
     unfolding formWith formMeaning
-    heading-line ws r n from e x = rw e (went-executes b h (held (h .numbers) (h .rows) ws) f f T u log a p r (headed s n (record { start = start; length = length body; from = from; number = scene .number })) (x .went) refl (heads-same ws n _ r x) (refl, ap length (x .tables)))
+    heading-line ws r n from e x = rw e (went-executes b h (held (h .numbers) (h .rows) ws) f f T u log a p r (headed s n (record { start = start; length = length body; from = from; number = scene .number })) (x .went) refl (heads-same ws n _ r x) (refl, ap length (x .above 128 20 (omega arith))))
 
     pub no-heading-line : (ws : List ℕ) (r : Lined) (n : ℕ) → line ≡ form.NoHeading n → Heads (h .words) n noHeading f u a ws r → With T log (held (h .numbers) (h .rows) ws) r
     unfolding formWith formMeaning
-    no-heading-line ws r n e x = rw e (went-executes b h (held (h .numbers) (h .rows) ws) f f T u log a p r (headed s n noHeading) (x .went) refl (heads-same ws n _ r x) (refl, ap length (x .tables)))
+    no-heading-line ws r n e x = rw e (went-executes b h (held (h .numbers) (h .rows) ws) f f T u log a p r (headed s n noHeading) (x .went) refl (heads-same ws n _ r x) (refl, ap length (x .above 128 20 (omega arith))))
 
     -- what was fetched, then the variables with it
     fetched-line : (along : Along) (from : ℕ) (put : List Answer → Variables) (ws log′ : List ℕ) (r : Lined) (x : Fetched) (y : Fetch) → FetchValue (h .numbers) scene along y log a p log′ x → Refills from (y .number) x (h .words) f u ws r → from + 10 ≤ 119 → (Puts (h .words) from 10 (y .number) (x .fetched) ws → variablesOf (sourceOf b) (held (h .numbers) (h .rows) ws) ≡ put (fetched (sourceOf b) along (x .fetched))) → Executes 330 (bind (bind (fetchMeaning (machineIn b h scene) (scene .number) along (y .parameter) (y .«record») (y .entry) (y .count)) (λ l. done (put l))) (λ v. done (withVariables s v))) b h f T u log a p (held (h .numbers) (h .rows) ws) T log′ r
     fetched-line along from put ws log′ r x y d i o e =
         let m = fetchMeaning (machineIn b h scene) (scene .number) along (y .parameter) (y .«record») (y .entry) (y .count) in
         let g = d .fetches (h .rows) (h .words) in
-        rw (i .went, bind-assoc m (λ l. done (put l)) (λ z. done (withVariables s z))) (then-executes m (fetched (sourceOf b) along (x .fetched)) (λ l. withVariables s (put l)) (x .end) (g .does (sourceOf b) T u (f .page .number)) (omega (arith, g .few)) (refl, ap length (i .tables)) (λ q. let j = i .puts q in variables-same (held (h .numbers) (h .rows) ws) (j .above 119 9 (omega arith)) (i .tables) ∙ ap (withVariables s) (e j)))
+        rw (i .went, bind-assoc m (λ l. done (put l)) (λ z. done (withVariables s z))) (then-executes m (fetched (sourceOf b) along (x .fetched)) (λ l. withVariables s (put l)) (x .end) (g .does (sourceOf b) T u (f .page .number)) (omega (arith, g .few)) (refl, ap length (i .above 128 20 (omega arith))) (λ q. let j = i .puts q in variables-same (held (h .numbers) (h .rows) ws) (j .above 119 9 (omega arith)) (i .above 128 20 (omega arith)) ∙ ap (withVariables s) (e j)))
 
     abbrev putRecords : Fetch → List Answer → Variables
     putRecords y l = withRecords (variablesOf (sourceOf b) h) (setNumbered (map (fetched (sourceOf b) Records) (recordsIn (h .words))) (y .number) l)
@@ -320,7 +325,7 @@ module _ {body b index t : List ℕ} {h : Held} {scene : Scene} {start : ℕ} {f
     pub section-line : (numbers′ : List ℤ) (words′ : List ℕ) (r : Lined) (x y : ℕ) → line ≡ form.Section x y → Clears (h .numbers) (h .words) f u a numbers′ words′ r → With T log (held numbers′ (h .rows) words′) r
     unfolding formWith formMeaning
     section-line numbers′ words′ r x y e c =
-        rw e (went-executes b h (held numbers′ (h .rows) words′) f (feedsIn f true) T u log a p r (cleared s) (c .went) refl same (refl, ap length (ap (bank 128 20) (c .words-zero) ∙ zeros-behind 0 (h .words) 128 20)))
+        rw e (went-executes b h (held numbers′ (h .rows) words′) f (feedsIn f true) T u log a p r (cleared s) (c .went) refl same (refl, ap length (ap (bank 128 20) (c .words-zero) ∙ zeros-behind 0 (h .words) 128 128 20 (omega arith))))
       where
         numbers-zero : (i n : ℕ) → i + n ≤ 198 → bank i n numbers′ ≡ replicate n (pos 0)
         numbers-zero i n l = ap (bank i n) (c .numbers-zero) ∙ zeros-bank (pos 0) (drop 198 (h .numbers)) i n 198 l
@@ -335,7 +340,7 @@ module _ {body b index t : List ℕ} {h : Held} {scene : Scene} {start : ℕ} {f
             let l : texts (h .rows) 0 (lengthsIn words′) ≡ replicate 99 [] = ap (texts (h .rows) 0) (words-zero 0 99 (omega arith)) ∙ texts-cleared (h .rows) 0 99 in
             let m : map (fetched (sourceOf b) Records) (recordsIn words′) ≡ replicate 10 [] = ap (map (fetched (sourceOf b) Records)) (words-zero 99 10 (omega arith)) ∙ fetched-cleared (sourceOf b) Records 10 in
             let o : map (fetched (sourceOf b) Entries) (entriesIn words′) ≡ replicate 10 [] = ap (map (fetched (sourceOf b) Entries)) (words-zero 109 10 (omega arith)) ∙ fetched-cleared (sourceOf b) Entries 10 in
-            let y : tablesIn words′ ≡ tablesIn (h .words) = ap (bank 128 20) (c .words-zero) ∙ zeros-behind 0 (h .words) 128 20 in
+            let y : tablesIn words′ ≡ tablesIn (h .words) = ap (bank 128 20) (c .words-zero) ∙ zeros-behind 0 (h .words) 128 128 20 (omega arith) in
             let q : headingsOf (headingsIn words′) ≡ replicate 9 noHeading = ap headingsOf (words-zero 119 9 (omega arith)) ∙ headings-cleared 9 in
             λ z. record { position = record { at = f .at; line = f .line }; variables = record { integers = i z; decimals = j z; strings = l z; records = m z; entries = o z }; datasource = f .datasource; tables = opened (y z) (f .depth); layout = record { headings = q z; formFeeds = true }; page = f .page }
 
@@ -348,7 +353,7 @@ module _ {body b index t : List ℕ} {h : Held} {scene : Scene} {start : ℕ} {f
     pub set-line : (h′ : Held) (r : Lined) (z : Assigned) (o : Operation) (x : Target) (y : Argument) → line ≡ form.Set o x y → Assigns body b h o x w h′ z → Settles (scene .number) f u a (keptIn f) (verdictOf z) r → Valued T h′ r
     unfolding formWith
     set-line h′ r z o x y e d i =
-        rw e (settles-executes (verdictOf z) (setOf (variablesOf (sourceOf b) h) o x (meant S w)) (λ _. variablesOf (sourceOf b) h′) (withVariables s) (d .same (sourceOf b)) i (d .held .rows-held ∙ sym (k .rows), ap length (d .tables)) (λ _. refl) (λ _. variables-same h′ (d .headings) (d .tables)))
+        rw e (settles-executes (verdictOf z) (setOf (variablesOf (sourceOf b) h) o x (meant S w)) (λ _. variablesOf (sourceOf b) h′) (withVariables s) (d .same (sourceOf b)) i (d .held .rows-held ∙ sym (k .rows), ap length (d .above 128 20 (omega arith))) (λ _. refl) (λ _. variables-same h′ (d .above 119 9 (omega arith)) (d .above 128 20 (omega arith))))
 
     -- a test that came to j
     test-does : (r : Lined) (j : Judged) (z : Settled Bool) → judgedOf j ≡ z → Settles (scene .number) f u a (branchedIn t f) (judgedOf j) r → Executes 330 (bind (concluded (scene .number) z) (λ y. done (branched t s y))) b h f T u log a p h T log r

@@ -90,22 +90,22 @@ pub fn execute<'a>(
         }
         Line::IfNot(_) => {
             let judged = test::if_zero(true, first);
-            arms::branched(judged, scene.number, template, flow, printed, asked)
+            arms::branched(judged, scene.number, template, words, flow, printed, asked)
         }
         Line::If(_) => {
             let judged = test::if_zero(false, first);
-            arms::branched(judged, scene.number, template, flow, printed, asked)
+            arms::branched(judged, scene.number, template, words, flow, printed, asked)
         }
         Line::Compare(c, _, _) => {
             let judged = test::compare(body, store, strings, c, first, second);
-            arms::branched(judged, scene.number, template, flow, printed, asked)
+            arms::branched(judged, scene.number, template, words, flow, printed, asked)
         }
-        Line::Else => arms::else_line(template, flow, printed, asked),
+        Line::Else => arms::else_line(template, words, flow, printed, asked),
         Line::EndIf => arms::went(flow, printed, asked),
         Line::BeginTable(_) => {
             let n = settle::integer_of(first);
             let judged = table::begin_table(n, flow.at, flow.line, words, flow.depth);
-            arms::begun(judged, scene.number, template, flow, printed, asked)
+            arms::begun(judged, scene.number, template, words, flow, printed, asked)
         }
         Line::EndTable(optional) => {
             let k = settle::integer_or(1, optional, first);

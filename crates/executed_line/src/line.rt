@@ -15,6 +15,7 @@ use values::working;
 ghost use Rattle.values.specs.inner.State.{held};
 ghost use Rattle.control.specs.Line.{lineMeaning};
 ghost use Rattle.control.specs.inner.Executing.{stateAt, LineReady, Executes};
+ghost use Rattle.control.specs.inner.Remembering.{Remembered};
 
 // The line that is due: its arguments, then its command.
 pub fn line<'a>(
@@ -30,7 +31,7 @@ pub fn line<'a>(
     flow: Flow,
 ) -> Lined
     requires { ⌜ LineReady (now store) (now index) (now template) (held (now numbers) (now strings) (now words)) flow (now text) (counts .printed) (counts .asked) ⌝ }
-    ensures { λ r. ⌜ Executes 332 (lineMeaning (now (template .entry)) (stateAt (now (store .entry)) (held (now (numbers .entry)) (now (strings .entry)) (now (words .entry))) flow)) (now (store .entry)) (held (now (numbers .entry)) (now (strings .entry)) (now (words .entry))) flow (now (text .entry)) (counts .printed) (now (log .entry)) (counts .asked) (counts .places) (held (now (numbers .exit)) (now (strings .exit)) (now (words .exit))) (now (text .exit)) (now (log .exit)) r ⌝ }
+    ensures { λ r. ⌜ (Executes 332 (lineMeaning (now (template .entry)) (stateAt (now (store .entry)) (held (now (numbers .entry)) (now (strings .entry)) (now (words .entry))) flow)) (now (store .entry)) (held (now (numbers .entry)) (now (strings .entry)) (now (words .entry))) flow (now (text .entry)) (counts .printed) (now (log .entry)) (counts .asked) (counts .places) (held (now (numbers .exit)) (now (strings .exit)) (now (words .exit))) (now (text .exit)) (now (log .exit)) r) × (Remembered (now (template .entry)) (now (words .exit))) ⌝ }
 {
     let at = flow.at;
     let body = scan::bytes::line_of(&template[at..]);

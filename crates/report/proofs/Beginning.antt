@@ -20,7 +20,7 @@ use Rattle.report.specs.declared.state.Stretch.{Stretch}
 use Rattle.report.specs.Report.{refusedReport, checkedOutcome, reportOf}
 use Rattle.report.specs.inner.Start.{startFlow, startSaved, refusedAt, startedAt}
 use Rattle.report.specs.inner.Begun.{Begun}
-use Rattle.report.proofs.Starting.{starts-at}
+use Rattle.report.proofs.Starting.{starts-at, none-remembered}
 use Rattle.report.proofs.Stored.{Serving, part-kept}
 
 module _ (t name b : List ℕ) (n places : ℕ) (p p′ : List ℕ) (x : Indexed) (y : Indexes p (cellsHeld b n) p′ x) (r : Stretch) where
@@ -34,6 +34,7 @@ module _ (t name b : List ℕ) (n places : ℕ) (p p′ : List ℕ) (x : Indexed
         run = λ m. absurd (false≢true m);
         accepted = λ m. absurd (false≢true m);
         start = λ m. absurd (false≢true m);
+        remembered = λ m. absurd (false≢true m);
         end = λ m. absurd (false≢true m);
         left = λ m. absurd (false≢true m);
         page = λ m. absurd (false≢true m);
@@ -71,6 +72,7 @@ module _ (t name b : List ℕ) (n places : ℕ) (p p′ : List ℕ) (x : Indexed
           run = λ _. s;
           accepted = λ _. sym c ∙ i;
           start = λ _ rows source. starts-at s n count places rows source;
+          remembered = λ _. none-remembered t;
           end = λ _. refl;
           left = λ _. refl;
           page = λ _. refl;

@@ -121,6 +121,7 @@ module _ (t name b : List ℕ) (n : ℕ) (T₀ : List ℕ) (R₀ : List Question
           room = omega (arith, g .printed m);
           asked = omega (arith, g .asked m);
           rows-held = hr;
+          remembered = g .remembered m;
           indexed = hi;
         };
         whole = runMeaning t (g .run m);

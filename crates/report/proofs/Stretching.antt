@@ -32,6 +32,7 @@ use Rattle.control.specs.declared.state.Lined.{Lined}
 use Rattle.control.specs.State.{State}
 use Rattle.control.specs.Line.{lineMeaning}
 use Rattle.control.specs.inner.Executing.{sourceOf, Kept, stateAt, LineReady, Executes}
+use Rattle.control.specs.inner.Remembering.{Remembered}
 use Rattle.executed_line.proofs.Sounds.{On, sound-more, line-keeps}
 use Rattle.report.specs.declared.state.Saved.{Saved}
 use Rattle.report.specs.declared.state.Stretch.{Stretch}
@@ -85,6 +86,7 @@ pub record Going (t b : List ℕ) (v : Saved) (rows : List (List ℕ)) (T₀ : L
   pub standing : Standing t left (stateAt (storeOf v b) h f)
   pub rows-held : length (h .rows) ≡ 99
   pub table-words : length (tablesIn (h .words)) ≡ 20
+  pub remembered : Remembered t (h .words)
   pub text-same : length T ≡ length T₀
   pub room : printed ≤ length T
   pub spent : left ≤ v .left
@@ -92,7 +94,7 @@ pub record Going (t b : List ℕ) (v : Saved) (rows : List (List ℕ)) (T₀ : L
   pub places-left : logged ≤ v .places - v .asked
   pub begun : 0 < logged → left < v .left
 
-words-tables : (words : List ℕ) → length words ≡ 148 → length (tablesIn words) ≡ 20
+words-tables : (words : List ℕ) → length words ≡ 212 → length (tablesIn words) ≡ 20
 unfolding bank
 words-tables words e = omega (arith, e, length-take 20 (drop 128 words), length-drop 128 words)
 
@@ -117,12 +119,13 @@ module _ (t b index T : List ℕ) (rows : List (List ℕ)) (s : Stretch) (r : Ru
   cells-is : cells ≡ take (v .count) index
   cells-is = ap (λ (n : ℕ). take n index) (sub-zero (v .count))
 
-  pub going-start : length (v .words) ≡ 148 → Going t b v rows T (heldIn v rows) (v .flow) T (replicate 512 0) (v .left) (v .printed) 0
+  pub going-start : length (v .words) ≡ 212 → Going t b v rows T (heldIn v rows) (v .flow) T (replicate 512 0) (v .left) (v .printed) 0
   going-start e = record {
     leads = λ j. let z : v .left - v .left + j ≡ j = omega arith in rw z (leads-start source (stretch j t (v .end) (stateIn v rows b)) (fresh T v));
     standing = r .standing;
     rows-held = r .rows-held;
     table-words = words-tables (v .words) e;
+    remembered = r .remembered;
     text-same = refl;
     room = r .room;
     spent = omega arith;
@@ -198,6 +201,7 @@ module _ (t b index T : List ℕ) (rows : List (List ℕ)) (s : Stretch) (r : Ru
           room = g .room;
           asked = asked-fit;
           rows-held = g .rows-held;
+          remembered = subst (λ (y : Held). Remembered t (y .words)) q (g .remembered);
           indexed = r .indexed;
         };
         less = λ _. g .begun (omega (arith, k));
@@ -220,13 +224,14 @@ module _ (t b index T : List ℕ) (rows : List (List ℕ)) (s : Stretch) (r : Ru
         inside = within;
         rows = g .rows-held;
         table-words = g .table-words;
+        remembered = g .remembered;
         room = g .room;
         places = omega (arith, few);
       })
 
-      module _ (h′ : Held) (T₂ Q₂ : List ℕ) (o : Lined) (d′ : Executes 332 (lineMeaning t (stateAt part h f)) part h f T₁ printed Q₁ logged (v .places - v .asked) h′ T₂ Q₂ o) where
+      module _ (h′ : Held) (T₂ Q₂ : List ℕ) (o : Lined) (d′ : (Executes 332 (lineMeaning t (stateAt part h f)) part h f T₁ printed Q₁ logged (v .places - v .asked) h′ T₂ Q₂ o) × Remembered t (h′ .words)) where
         d : Executes 332 (lineMeaning t (stateAt (storeOf v b) h f)) (storeOf v b) h f T₁ printed Q₁ logged (v .places - v .asked) h′ T₂ Q₂ o
-        d = subst (λ (q : List ℕ). Executes 332 (lineMeaning t (stateAt q h f)) q h f T₁ printed Q₁ logged (v .places - v .asked) h′ T₂ Q₂ o) part-is d′
+        d = subst (λ (q : List ℕ). Executes 332 (lineMeaning t (stateAt q h f)) q h f T₁ printed Q₁ logged (v .places - v .asked) h′ T₂ Q₂ o) part-is (d′ .0)
 
         abbrev there : Place Question
         there = at T₂ (o .printed) (questions Q₂) (o .asked) (v .places - v .asked) (o .flow .page .number)
@@ -272,6 +277,7 @@ module _ (t b index T : List ℕ) (rows : List (List ℕ)) (s : Stretch) (r : Ru
             standing = stands;
             rows-held = d .rows .0 ∙ g .rows-held;
             table-words = d .rows .1 ∙ g .table-words;
+            remembered = d′ .1;
             text-same = text-next;
             room = room-kept line-done (g .room);
             spent = omega (arith, g .spent);

@@ -56,7 +56,7 @@ fn saved(run: Extent, len: usize, count: usize, places: usize) -> Saved
         asked: 0,
         places,
         numbers: [0; 198],
-        words: [0; 148],
+        words: [0; 212],
     }
 }
 

@@ -1,12 +1,12 @@
 -- Rows of zeros, and the machine that they stand for.
-use mathlib.Core.Path.{_≡_, refl, ap, _∙_}
+use mathlib.Core.Path.{_≡_, refl, sym, ap, _∙_}
 use mathlib.Core.List.{List, [], _∷_, _++_, map}
-use Prim.Native.Nat.{ℕ, zero, suc, _+_, _≤_, _<_}
+use Prim.Native.Nat.{ℕ, zero, suc, _+_, _-_, _≤_, _<_}
 use native.Mathlib.Omega.{arith}
 use native.Mathlib.Nat.{le-antisymm}
 use native.Mathlib.Numerals.{add-one}
 use lib.ListN.{drop, getD, length, length-replicate, length-set, replicate, set, take}
-use lib.Seq.{drop-cons, set-at}
+use lib.Seq.{drop-cons, drop-drop, set-at}
 use Rattle.meaning.specs.Answer.{Answer}
 use Rattle.meaning.specs.declared.question.Question.{Question}
 use Rattle.values.specs.declared.fetch.Along.{Along}
@@ -61,9 +61,13 @@ drop-zeros x l zero = refl
 drop-zeros x l (suc n) = drop-zeros x l n
 
 -- what lies behind the zeros stays
-pub zeros-behind : {A : Type 0} (x : A) (l : List A) (n k : ℕ) → bank n k (replicate n x ++ drop n l) ≡ bank n k l
+pub zeros-behind : {A : Type 0} (x : A) (l : List A) (n i k : ℕ) → n ≤ i → bank i k (replicate n x ++ drop n l) ≡ bank i k l
 unfolding bank
-zeros-behind x l n k = ap (take k) (drop-zeros x (drop n l) n)
+zeros-behind x l n i k h =
+    let e : i ≡ n + (i - n) = omega arith in
+    ap (λ (j : ℕ). take k (drop j (replicate n x ++ drop n l))) e
+    ∙ ap (take k) (sym (drop-drop (i - n) n (replicate n x ++ drop n l)) ∙ ap (drop (i - n)) (drop-zeros x (drop n l) n) ∙ drop-drop (i - n) n l)
+    ∙ ap (λ (j : ℕ). take k (drop j l)) (sym e)
 
 -- SV1 to SV99 of length 0 are empty.
 pub texts-cleared : (rows : List (List ℕ)) (k n : ℕ) → texts rows k (replicate n 0) ≡ replicate n []

@@ -15,8 +15,9 @@ pub const INTEGERS: usize = 0;
 
 pub const DECIMALS: usize = 99;
 
-// The lengths of SV1 to SV99, then R1 to R10, T1 to T10, the headings 1 to 9, and the tables that are open, each in four words.
-pub type Words = [u64; 148];
+// The lengths of SV1 to SV99, then R1 to R10, T1 to T10, the headings 1 to 9, the tables that are open, each in four words, and the
+// jumps that are remembered.
+pub type Words = [u64; 212];
 
 pub const LENGTHS: usize = 0;
 
@@ -27,6 +28,8 @@ pub const ENTRIES: usize = 109;
 pub const HEADINGS: usize = 119;
 
 pub const TABLES: usize = 128;
+
+pub const JUMPS: usize = 148;
 
 // The n-th of a part of the numbers; 0 for any other.
 fn number_in(numbers: &Numbers, from: usize, size: usize, n: usize) -> i64
@@ -138,7 +141,8 @@ pub fn clear_numbers(row: &mut Numbers)
     }
 }
 
-// SV, R, T and the headings: a string of length 0 is empty, a word of 0 has fetched nothing, and is an undefined heading.
+// SV, R, T and the headings: a string of length 0 is empty, a word of 0 has fetched nothing, and is an undefined heading. The jumps
+// stay: they are about the template alone.
 pub fn clear_words(row: &mut Words)
     requires { ⌜ 128 ≤ length (now row) ⌝ }
     ensures { λ _. ⌜ now (row .exit) ≡ replicate 128 0 ++ drop 128 (now (row .entry)) ⌝ }

@@ -10,7 +10,7 @@ use Rattle.meaning.specs.declared.question.Question.{Question}
 use Rattle.lines.specs.declared.command.Operation.{Operation}
 use Rattle.lines.specs.declared.command.Target.{Target}
 use Rattle.values.specs.inner.Texts.{strings}
-use Rattle.values.specs.inner.State.{texts, bank, lengthsIn, headingsIn, tablesIn, Held, variablesOf}
+use Rattle.values.specs.inner.State.{texts, bank, lengthsIn, Held, variablesOf}
 use Rattle.values.specs.declared.worth.Worth as W
 use Rattle.values.specs.inner.Yielding.{meant}
 use Rattle.commands.specs.declared.settle.Taken.{Taken}
@@ -44,5 +44,4 @@ pub record StoresString (line store : List ℕ) (rows : List (List ℕ)) (words 
 pub record Assigns (line store : List ℕ) (vars : Held) (o : Operation) (t : Target) (w : W.Worth) (vars′ : Held) (r : Assigned) : Type 0 where
   pub same : (source : Question → Answer) → setOf (variablesOf source vars) o t (meant (strings line store (vars .rows)) w) ≡ mapped (λ _. variablesOf source vars′) (verdictOf r)
   pub held : Rowed (vars′ .rows)
-  pub headings : headingsIn (vars′ .words) ≡ headingsIn (vars .words)
-  pub tables : tablesIn (vars′ .words) ≡ tablesIn (vars .words)
+  pub above : (i k : ℕ) → 99 ≤ i → bank i k (vars′ .words) ≡ bank i k (vars .words)

@@ -47,6 +47,7 @@ pub record AtMostOpen (n : ℕ) (words : List ℕ) (d : ℕ) : Type 0 where
 -- no other register is set
 pub record Stays (words words′ : List ℕ) : Type 0 where
   pub others : (i k : ℕ) → i + k ≤ 128 → bank i k words′ ≡ bank i k words
+  pub above : (i k : ℕ) → 148 ≤ i → bank i k words′ ≡ bank i k words
   pub same : length words′ ≡ length words
 
 -- a table more

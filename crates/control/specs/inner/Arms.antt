@@ -23,18 +23,20 @@ use Rattle.commands.specs.declared.settle.Taken.{Taken}
 use Rattle.commands.specs.declared.settle.Taken.the-variants as K
 use Rattle.commands.specs.Settling.{Settled, settled, refusedFor}
 use Rattle.values.specs.declared.fetch.Fetched.{Fetched}
-use Rattle.values.specs.inner.State.{bank, headingsIn, tablesIn}
+use Rattle.values.specs.inner.State.{bank, headingsIn}
 use Rattle.pages.specs.declared.heading.Heading.{Heading}
 use Rattle.pages.specs.inner.Packed.{headingsOf}
 use Rattle.pages.specs.Page.{breakMeaning}
 use Rattle.control.specs.declared.state.Flow.{Flow}
 use Rattle.control.specs.declared.state.Lined.{Lined}
+use Rattle.control.specs.inner.Remembering.{Remembered}
 use Rattle.control.specs.inner.Going.{endedIn, depthIn, feedsIn, pageIn, jumpedIn, againIn}
 
--- a jump's sums stay small
-pub record Jumpable (t : List ℕ) (f : Flow) : Type 0 where
+-- a jump's sums stay small, and those that are remembered are right
+pub record Jumpable (t words : List ℕ) (f : Flow) : Type 0 where
   pub short : length t ≤ 65536
   pub few : f .line ≤ 131072
+  pub remembered : Remembered t words
 
 -- where a line ends that neither asks nor prints: refused, or on the flow that follows from its result
 abbrev pub settledIn : {A : Type 0} → ℕ → Flow → ℕ → ℕ → (A → Flow) → Settled A → Lined
@@ -66,7 +68,7 @@ pub record Refills (from n : ℕ) (v : Fetched) (words : List ℕ) (f : Flow) (u
   pub went : r ≡ endedIn (v .end) f u (v .asked)
   pub puts : v .end ≡ Finished → Puts words from 10 n (v .fetched) words′
   pub kept : (h : Halt) (l : ℕ) → v .end ≡ Halted h l → words′ ≡ words
-  pub tables : tablesIn words′ ≡ tablesIn words
+  pub above : (i k : ℕ) → 128 ≤ i → bank i k words′ ≡ bank i k words
 
 -- $SEC
 pub record Clears (numbers : List ℤ) (words : List ℕ) (f : Flow) (u a : ℕ) (numbers′ : List ℤ) (words′ : List ℕ) (r : Lined) : Type 0 where
@@ -78,7 +80,7 @@ pub record Clears (numbers : List ℤ) (words : List ℕ) (f : Flow) (u a : ℕ)
 pub record Heads (words : List ℕ) (n : ℕ) (h : Heading) (f : Flow) (u a : ℕ) (words′ : List ℕ) (r : Lined) : Type 0 where
   pub set : headingsOf (headingsIn words′) ≡ setNumbered (headingsOf (headingsIn words)) n h
   pub others : (i k : ℕ) → i + k ≤ 119 → bank i k words′ ≡ bank i k words
-  pub tables : tablesIn words′ ≡ tablesIn words
+  pub above : (i k : ℕ) → 128 ≤ i → bank i k words′ ≡ bank i k words
   pub went : r ≡ endedIn Finished f u a
 
 -- a break

@@ -23,6 +23,7 @@ use Rattle.lines.specs.declared.command.Line.the-variants.{BeginTable}
 use Rattle.pages.specs.inner.Packed.{headingsOf}
 use Rattle.lines.specs.inner.Sound as parsed
 use Rattle.control.specs.inner.Going.{sceneOf}
+use Rattle.control.specs.inner.Remembering.{Remembered}
 use Rattle.control.specs.declared.state.Flow.{Flow}
 use Rattle.control.specs.declared.state.Lined.{Lined}
 use Rattle.control.specs.inner.Held.{stateOf}
@@ -64,6 +65,7 @@ pub record LineReady (b index : List ℕ) (t : List ℕ) (h : Held) (f : Flow) (
   pub inside : f .at < length t
   pub rows : length (h .rows) ≡ 99
   pub table-words : length (tablesIn (h .words)) ≡ 20
+  pub remembered : Remembered t (h .words)
   pub room : u ≤ length T
   pub places : a + 332 ≤ 512
 
@@ -89,5 +91,6 @@ pub record FormReady (body b index : List ℕ) (t : List ℕ) (h : Held) (scene 
   pub table-words : length (tablesIn (h .words)) ≡ 20
   pub headings : length (headingsIn (h .words)) ≡ 9
   pub heads : Each (Fit t) (headingsOf (headingsIn (h .words)))
+  pub remembered : Remembered t (h .words)
   pub room : u ≤ length T
   pub places : a + 330 ≤ 512

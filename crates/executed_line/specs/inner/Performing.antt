@@ -12,7 +12,9 @@ use Rattle.control.specs.declared.state.Flow.{Flow}
 use Rattle.control.specs.declared.state.Lined.{Lined}
 use Rattle.control.specs.inner.Executing.{stateAt, Executes}
 use Rattle.control.specs.inner.Forms.{formWith}
+use Rattle.control.specs.inner.Remembering.{Remembered}
 
 -- What `execute` says, by all that it is handed and hands back.
 pub record Performs (body b t : List ℕ) (h : Held) (scene : Scene) (start : ℕ) (f : Flow) (form : Line) (v w : Worth) (T : List ℕ) (u : ℕ) (log : List ℕ) (a p : ℕ) (h′ : Held) (T′ log′ : List ℕ) (r : Lined) : Type 0 where
   pub executes : Executes 330 (formWith t start (scene .number) body (stateAt b h f) form (worths (meant (strings body b (h .rows)) v) (meant (strings body b (h .rows)) w))) b h f T u log a p h′ T′ log′ r
+  pub remembered : Remembered t (h′ .words)

@@ -15,6 +15,7 @@ use Rattle.report.specs.declared.Report.{Report}
 use Rattle.values.specs.inner.State.{Held, held}
 use Rattle.control.specs.inner.Held.{stateOf}
 use Rattle.control.specs.inner.Executing.{Kept}
+use Rattle.control.specs.inner.Remembering.{Remembered}
 use Rattle.report.specs.Report.{startOf, Outcome, textIn, reportOf, reportIn}
 
 -- what is saved between two stretches, beside the rows of SV
@@ -33,6 +34,7 @@ pub record Begun (t name b : List ℕ) (n places : ℕ) (index : List ℕ) (r : 
   pub run : r .more ≡ true → Extent
   pub accepted : (m : r .more ≡ true) → templateChecked t name ≡ Accepted (run m)
   pub start : (m : r .more ≡ true) (rows : List (List ℕ)) (source : Question → Answer) → stateOf source (heldIn (r .saved) rows) (r .saved .flow) ≡ startOf (run m)
+  pub remembered : r .more ≡ true → Remembered t (r .saved .words)
   pub end : (m : r .more ≡ true) → r .saved .end ≡ run m .until
   pub left : r .more ≡ true → r .saved .left ≡ 50000
   pub page : r .more ≡ true → r .saved .flow .page .number ≡ 1

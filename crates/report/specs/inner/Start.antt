@@ -43,7 +43,7 @@ startSaved r len count places =
       asked = 0;
       places = places;
       numbers = replicate 198 (pos 0);
-      words = replicate 148 0;
+      words = replicate 212 0;
     }
 
 abbrev pub emptyReport : ℕ → ℕ → Report

@@ -21,6 +21,7 @@ use Rattle.control.specs.State.{State}
 use Rattle.control.specs.Line.{lineMeaning}
 use Rattle.control.specs.inner.Sound.{Sound}
 use Rattle.control.specs.inner.Executing.{sourceOf, Kept}
+use Rattle.control.specs.inner.Remembering.{Remembered}
 use Rattle.report.specs.Report.{runFrom}
 use Rattle.report.specs.inner.Begun.{heldIn}
 
@@ -51,6 +52,7 @@ pub record RunReady (t b index T : List ℕ) (rows : List (List ℕ)) (v : Saved
   pub room : v .printed ≤ length T
   pub asked : v .asked ≤ v .places
   pub rows-held : length rows ≡ 99
+  pub remembered : Remembered t (v .words)
   pub indexed : length index ≡ 5461
 
 -- a log that is empty, with the places that are left

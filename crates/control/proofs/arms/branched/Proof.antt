@@ -1,5 +1,6 @@
 -- Refused, or by what the test came to.
 use Rattle.control.proofs.Following.{settles-refused, settles-on}
+use Rattle.control.proofs.Remembering.{remembers-all}
 use Rattle.commands.specs.inner.Taking.{judgedOf}
 use Rattle.commands.specs.declared.settle.Judged.the-variants.{Holds}
 use mathlib.Core.Bool.{true, false}
@@ -15,7 +16,7 @@ refused-requires : tie.Need-refused-requires
 refused-requires c κs = search needs
 
 returns : tie.Need-returns
-returns c = settles-refused _ (ap judgedOf (c .before .before .judged .given .1)) (c .refused .ensures)
+returns c = (settles-refused _ (ap judgedOf (c .before .before .judged .given .1)) (c .refused .ensures), remembers-all (c .before .before .before .before .before .pre .remembered))
 
 enum-known-judged-2 : tie.Need-enum-known-judged-2
 enum-known-judged-2 c = search needs
@@ -24,7 +25,7 @@ went-requires : tie.Need-went-requires
 went-requires c κs = search needs
 
 returns-2 : tie.Need-returns-2
-returns-2 c = settles-on true _ (ap judgedOf (c .before .before .before .judged2 .given .1 ∙ ap Holds (c .before .if1 .taken))) refl (c .went .ensures)
+returns-2 c = (settles-on true _ (ap judgedOf (c .before .before .before .judged2 .given .1 ∙ ap Holds (c .before .if1 .taken))) refl (c .went .ensures), remembers-all (c .before .before .before .before .before .before .pre .remembered))
 
 jumped-requires : tie.Need-jumped-requires
 jumped-requires c κs = search needs
@@ -33,7 +34,7 @@ went-requires-2 : tie.Need-went-requires-2
 went-requires-2 c κs = search needs
 
 returns-3 : tie.Need-returns-3
-returns-3 c = settles-on false _ (ap judgedOf (c .before .before .before .before .judged2 .given .1 ∙ ap Holds (c .before .before .if1 .left))) (c .before .jumped .ensures) (c .went2 .ensures)
+returns-3 c = (settles-on false _ (ap judgedOf (c .before .before .before .before .before .judged2 .given .1 ∙ ap Holds (c .before .before .before .if1 .left))) (c .before .jumped .ensures .0) (c .went2 .ensures), c .before .jumped .ensures .1)
 
 pub branched-spec : {M : Type 1} → statement M
 branched-spec =

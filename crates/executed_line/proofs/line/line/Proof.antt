@@ -41,7 +41,7 @@ onward-requires : tie.Need-onward-requires
 onward-requires c κs = search needs
 
 returns : tie.Need-returns
-returns c = line-over (c .before .before .before .before .before .before .before .before .before .before .before .before .before .before .before .before .before .before .before .pre) (c .before .before .before .before .before .before .before .before .before .before .before .before .before .line-of .ensures) (c .before .before .before .before .before .before .before .before .before .before .scene-of .ensures) (c .before .before .before .before .before .before .before .before .before .past .ensures) (form-parsed (c .before .before .before .before .before .before .before .before .before .before .before .before .before .before .before .before .before .before .before .pre) (c .before .before .before .before .before .before .before .before .before .before .before .before .before .line-of .ensures) (c .before .before .before .before .before .before .before .before .before .before .before .before .form-of .ensures)) _ _ _ (c .before .before .before .before .before .before .before .before .inputs-of .ensures) _ _ (c .before .before .before .work-out .ensures) _ _ _ (c .before .enum-told2 .given .1) (c .onward .ensures)
+returns c = (line-over (c .before .before .before .before .before .before .before .before .before .before .before .before .before .before .before .before .before .before .before .pre) (c .before .before .before .before .before .before .before .before .before .before .before .before .before .line-of .ensures) (c .before .before .before .before .before .before .before .before .before .before .scene-of .ensures) (c .before .before .before .before .before .before .before .before .before .past .ensures) (form-parsed (c .before .before .before .before .before .before .before .before .before .before .before .before .before .before .before .before .before .before .before .pre) (c .before .before .before .before .before .before .before .before .before .before .before .before .before .line-of .ensures) (c .before .before .before .before .before .before .before .before .before .before .before .before .form-of .ensures)) _ _ _ (c .before .before .before .before .before .before .before .before .inputs-of .ensures) _ _ (c .before .before .before .work-out .ensures) _ _ _ (c .before .enum-told2 .given .1) (c .onward .ensures), c .before .before .before .before .before .before .before .before .before .before .before .before .before .before .before .before .before .before .before .pre .remembered)
 
 execute-requires : tie.Need-execute-requires
 execute-requires c κs = form-ready (c .before .before .before .before .before .before .before .before .before .before .before .before .before .before .before .before .before .before .before .before .before .before .before .pre) (c .before .before .before .before .before .before .before .before .before .before .before .before .before .before .before .before .before .line-of .ensures) (c .before .before .before .before .before .before .before .before .before .before .before .before .before .before .scene-of .ensures) (c .before .before .before .before .before .before .before .before .before .before .before .before .before .past .ensures) (form-parsed (c .before .before .before .before .before .before .before .before .before .before .before .before .before .before .before .before .before .before .before .before .before .before .before .pre) (c .before .before .before .before .before .before .before .before .before .before .before .before .before .before .before .before .before .line-of .ensures) (c .before .before .before .before .before .before .before .before .before .before .before .before .before .before .before .before .form-of .ensures)) _ (c .before .before .before .before .before .before .before .work-out .ensures .few)
@@ -50,7 +50,7 @@ same-length : tie.Need-same-length
 same-length c = search needs
 
 returns-2 : tie.Need-returns-2
-returns-2 c = line-follows (c .before .before .before .before .before .before .before .before .before .before .before .before .before .before .before .before .before .before .before .before .before .before .before .before .before .before .pre) (c .before .before .before .before .before .before .before .before .before .before .before .before .before .before .before .before .before .before .before .before .line-of .ensures) (c .before .before .before .before .before .before .before .before .before .before .before .before .before .before .before .before .before .scene-of .ensures) (c .before .before .before .before .before .before .before .before .before .before .before .before .before .before .before .before .past .ensures) (form-parsed (c .before .before .before .before .before .before .before .before .before .before .before .before .before .before .before .before .before .before .before .before .before .before .before .before .before .before .pre) (c .before .before .before .before .before .before .before .before .before .before .before .before .before .before .before .before .before .before .before .before .line-of .ensures) (c .before .before .before .before .before .before .before .before .before .before .before .before .before .before .before .before .before .before .before .form-of .ensures)) _ _ _ (c .before .before .before .before .before .before .before .before .before .before .before .before .before .before .before .inputs-of .ensures) _ _ (c .before .before .before .before .before .before .before .before .before .before .work-out .ensures) _ _ _ _ (c .before .before .before .before .before .before .before .before .enum-told .given .1) (c .before .before .execute .ensures)
+returns-2 c = (line-follows (c .before .before .before .before .before .before .before .before .before .before .before .before .before .before .before .before .before .before .before .before .before .before .before .before .before .before .pre) (c .before .before .before .before .before .before .before .before .before .before .before .before .before .before .before .before .before .before .before .before .line-of .ensures) (c .before .before .before .before .before .before .before .before .before .before .before .before .before .before .before .before .before .scene-of .ensures) (c .before .before .before .before .before .before .before .before .before .before .before .before .before .before .before .before .past .ensures) (form-parsed (c .before .before .before .before .before .before .before .before .before .before .before .before .before .before .before .before .before .before .before .before .before .before .before .before .before .before .pre) (c .before .before .before .before .before .before .before .before .before .before .before .before .before .before .before .before .before .before .before .before .line-of .ensures) (c .before .before .before .before .before .before .before .before .before .before .before .before .before .before .before .before .before .before .before .form-of .ensures)) _ _ _ (c .before .before .before .before .before .before .before .before .before .before .before .before .before .before .before .inputs-of .ensures) _ _ (c .before .before .before .before .before .before .before .before .before .before .work-out .ensures) _ _ _ _ (c .before .before .before .before .before .before .before .before .enum-told .given .1) (c .before .before .execute .ensures), c .before .before .execute .ensures .remembered)
 
 pub line-spec : {M : Type 1} → statement M
 line-spec =

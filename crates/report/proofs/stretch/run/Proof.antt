@@ -29,7 +29,7 @@ sub-places : tie.Need-sub-places Inv-loop μ-loop
 sub-places c = c .before .before .before .before .before .before .before .before .before .pre .asked
 
 loop-holds : tie.Need-loop-holds Inv-loop μ-loop
-loop-holds c = let e : length (c .before .before .before .before .before .before .before .before .before .before .before .before .args .s .saved .words) ≡ 148 = search (needs, c .before .before .before .before .before .before .before .before .before .before .before .before .good .1 .1 .1 .1 .1 .0 .1 .1 .1 .1 .1 .0 .1 .1) in going-start _ _ _ _ _ (c .before .before .before .before .before .before .before .before .before .before .before .before .args .s) (c .before .before .before .before .before .before .before .before .before .before .before .before .pre) e
+loop-holds c = let e : length (c .before .before .before .before .before .before .before .before .before .before .before .before .args .s .saved .words) ≡ 212 = search (needs, c .before .before .before .before .before .before .before .before .before .before .before .before .good .1 .1 .1 .1 .1 .0 .1 .1 .1 .1 .1 .0 .1 .1) in going-start _ _ _ _ _ (c .before .before .before .before .before .before .before .before .before .before .before .before .args .s) (c .before .before .before .before .before .before .before .before .before .before .before .before .pre) e
 
 over-requires : tie.Need-over-requires Inv-loop μ-loop
 over-requires c κs = search (needs, asked-fit)
