@@ -29,9 +29,17 @@ impl Lent {
     }
 
     pub fn ours(&mut self, template: &[u8], store: &[u8]) -> second::Report {
+        self.ours_of(template, b"", store)
+    }
+
+    pub fn theirs(&mut self, template: &[u8], store: &[u8]) -> second::Report {
+        self.theirs_of(template, b"", store)
+    }
+
+    pub fn ours_of(&mut self, template: &[u8], section: &[u8], store: &[u8]) -> second::Report {
         report(
             template,
-            b"",
+            section,
             store,
             store.len(),
             &mut self.text,
@@ -39,11 +47,11 @@ impl Lent {
         )
     }
 
-    pub fn theirs(&mut self, template: &[u8], store: &[u8]) -> second::Report {
+    pub fn theirs_of(&mut self, template: &[u8], section: &[u8], store: &[u8]) -> second::Report {
         let length = store.len();
         second::report(
             template,
-            b"",
+            section,
             store,
             length,
             &mut self.text,

@@ -1,6 +1,8 @@
 //! Times of the proved calls beside the second interpreter and plain Rust, in one run, as ratios; and their stack use.
-//! With the name of a sheet, `twelve` or `commands`, one report of it, whose instructions callgrind counts; with `stack`, the stack alone.
+//! With the name of a sheet, `twelve` or `commands`, or of what grows and how many (`lines 1000`), one report of it, whose instructions
+//! callgrind counts (`./count`); with `stack`, the stack alone.
 
+mod growth;
 mod lent;
 mod report;
 mod sheets;
@@ -11,10 +13,13 @@ mod template;
 mod time;
 
 fn main() {
-    match std::env::args().nth(1).as_deref() {
-        Some("stack") => single::stacks(),
-        Some(name) => single::run(name),
-        None => {
+    let mut words = std::env::args().skip(1);
+    let (name, count) = (words.next(), words.next());
+    match (name.as_deref(), count) {
+        (Some("stack"), _) => single::stacks(),
+        (Some(kind), Some(n)) => growth::run(kind, n.parse().expect("how many")),
+        (Some(name), None) => single::run(name),
+        (None, _) => {
             store::run();
             template::run();
             report::run();

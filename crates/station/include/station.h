@@ -11,7 +11,7 @@
    - A `length` longer than its buffer is no fault: it is refused with 1.
    - Nothing is kept after a call, and no call has a state of its own: calls may run at the same time on any threads, as long
      as none writes what another reads or writes.
-   - A call takes less than 64 KB of stack (STATION_STACK_BYTES), no heap, and calls nothing but memcpy and memset. */
+   - A call takes less than 64 KB of stack (STATION_STACK_BYTES), no heap, and calls nothing but memcpy, memmove and memset. */
 #ifndef STATION_H
 #define STATION_H
 
