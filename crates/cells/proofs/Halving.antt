@@ -61,7 +61,7 @@ pub lower-at : (b starts : List ℕ) (bound i at x r : ℕ) → at ≡ getD star
 lower-at b starts bound i at x r p f t g =
     record {
       most = t;
-      judged = λ count k s c e.
+      compares = λ count k s c e.
           let q : x / 256 ≡ keyIn b starts i = f (omega (arith, s .inside i c)) ∙ ap (λ (y : ℕ). keyAsNumber (keyAt b (y + 1))) p in
           let u : x / 256 < 18014398509481984 = omega (arith, s .small i c) in
           g (omega arith) (omega (arith, bound-small k)) ∙ ap (belowOf x) e ∙ bound-below x k u ∙ ap (λ (y : ℕ). belowOf y k) q;
@@ -111,12 +111,12 @@ module _ (b starts : List ℕ) (count k : ℕ) where
   module _ (bound m r : ℕ) (eb : bound ≡ boundOf k) (c : m < count) (h : LowerAt b starts bound m r) where
     lower-to : r ≡ 1 → Sorted b starts count → (i : ℕ) → i ≤ m → keyIn b starts i < k
     lower-to e s i l =
-        let here : keyIn b starts m < k = below-cases (keyIn b starts m < k) (keyIn b starts m) k (λ u. u) (λ u. absurd (omega (arith, h .judged count k s c eb, not-below (keyIn b starts m) k u))) in
+        let here : keyIn b starts m < k = below-cases (keyIn b starts m < k) (keyIn b starts m) k (λ u. u) (λ u. absurd (omega (arith, h .compares count k s c eb, not-below (keyIn b starts m) k u))) in
         omega (arith, here, at-most s i m l c)
 
     higher-from : r ≡ 0 → Sorted b starts count → (i : ℕ) → m ≤ i → i < count → k ≤ keyIn b starts i
     higher-from e s i l z =
-        let here : k ≤ keyIn b starts m = below-cases (k ≤ keyIn b starts m) (keyIn b starts m) k (λ u. absurd (omega (arith, h .judged count k s c eb, is-below (keyIn b starts m) k u))) (λ u. u) in
+        let here : k ≤ keyIn b starts m = below-cases (k ≤ keyIn b starts m) (keyIn b starts m) k (λ u. absurd (omega (arith, h .compares count k s c eb, is-below (keyIn b starts m) k u))) (λ u. u) in
         omega (arith, here, at-most s m i l z)
 
     pub halved-step : (low size : ℕ) → Halved b starts count k low size → (half : ℕ) → m + 1 ≡ low + half → half ≤ size → half + half ≤ size + 1 → Halved b starts count k (low + half * r) (size - half)

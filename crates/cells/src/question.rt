@@ -57,18 +57,18 @@ fn number_of(datasource: u32, parameter: u32, record_number: u32, entry: u32) ->
 }
 
 // An answer, and the position where its search ended: a hint for the next.
-pub struct Sought {
+pub struct Near {
     pub answer: Answered,
     pub position: usize,
 }
 
 // Kind 1: the value of the cell with a key.
-fn cell_answer(store: &[u8], starts: &[u16], count: usize, key: u64, hint: usize) -> Sought
+fn cell_answer(store: &[u8], starts: &[u16], count: usize, key: u64, hint: usize) -> Near
     ensures { λ r. ⌜ CellAnswer (now (store .entry)) (now (starts .entry)) count key (r .answer) ⌝ }
 {
     let position = find::near(store, starts, count, key, hint);
     if count <= position {
-        return Sought {
+        return Near {
             answer: Answered::Missing,
             position,
         };
@@ -76,9 +76,9 @@ fn cell_answer(store: &[u8], starts: &[u16], count: usize, key: u64, hint: usize
     let at = find::place_of(starts, position);
     if find::has_key(store, at, key) {
         let answer = value::value_at(store, at);
-        return Sought { answer, position };
+        return Near { answer, position };
     }
-    Sought {
+    Near {
         answer: Answered::Missing,
         position,
     }
@@ -128,11 +128,11 @@ pub fn answer_near(
     count: usize,
     question: Question,
     hint: usize,
-) -> Sought
+) -> Near
     ensures { λ r. ⌜ Answers (now (store .entry)) (now (starts .entry)) count question (r .answer) ⌝ }
 {
     if !allowed(question) {
-        return Sought {
+        return Near {
             answer: Answered::Missing,
             position: hint,
         };
@@ -150,7 +150,7 @@ pub fn answer_near(
     let end = key + reach_of(kind);
     let offset = offset_of(kind);
     let n = highest(store, starts, count, key, end, offset);
-    Sought {
+    Near {
         answer: Answered::Highest(n),
         position: hint,
     }

@@ -119,4 +119,4 @@ boundOf k = cond (ltb k 18014398509481984) (k * 256) 4611686018427387904
 -- r is 1 where the key of the i-th cell is below the one that a bound was made of, else 0
 pub record LowerAt (b starts : List ℕ) (bound i r : ℕ) : Type 0 where
   pub most : r ≤ 1
-  pub judged : (count k : ℕ) → Sorted b starts count → i < count → bound ≡ boundOf k → r ≡ belowOf (keyIn b starts i) k
+  pub compares : (count k : ℕ) → Sorted b starts count → i < count → bound ≡ boundOf k → r ≡ belowOf (keyIn b starts i) k

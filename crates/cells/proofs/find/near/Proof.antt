@@ -44,7 +44,7 @@ add-if5 c = omega (arith, c .lower-at2 .ensures .most, c .before .before .before
 returns-5 : tie.Need-returns-5
 returns-5 c =
     let k = c .before .before .before .before in
-    near-between _ _ _ _ _ _ _ _ _ (k .before .bound-of .ensures) (omega arith) (k .lower-at .ensures) (omega arith) (c .before .lower-at2 .ensures) (omega arith) (omega arith) (c .if5 .taken)
+    near-between _ _ _ _ _ _ _ _ _ (k .before .bound-of .ensures) (omega arith) (k .lower-at .ensures) (omega arith) (c .before .lower-at2 .ensures) (omega arith) (omega arith) (omega (arith, c .if5 .taken))
 
 position-requires-2 : tie.Need-position-requires-2
 position-requires-2 c κs = search needs
