@@ -3,12 +3,14 @@
 use crate::{stack, time};
 use second::{Question, Value};
 use station_tests::random::Random;
-use station_tests::store::{ask, cell, index, key, look_up, put, remove, Handed, MOST_CELLS};
+use station_tests::store::{
+    ask, cell, index, key, look_up, look_up_near, put, remove, Handed, MOST_CELLS,
+};
 use std::hint::black_box;
 
 const QUESTIONS: usize = 2_000;
 
-/// A store of integers in datasources 1 to 35, their keys in order, and random questions for its cells.
+/// A store of integers in datasources 1 to 35, and the questions for its cells in the order of their keys.
 fn full_store(cells: u16) -> (Vec<u8>, Vec<Question>) {
     let keys: Vec<[u16; 4]> = (0..cells)
         .map(|n| [1 + n / 160, 1 + n % 160, n % 7, n % 3])
@@ -17,9 +19,8 @@ fn full_store(cells: u16) -> (Vec<u8>, Vec<Question>) {
         .iter()
         .flat_map(|k| cell(*k, &Value::Integer(7)))
         .collect();
-    let mut random = Random::new(0xbe);
-    let questions = (0..QUESTIONS).map(|_| {
-        let [datasource, parameter, record, entry] = random.pick(&keys).map(u32::from);
+    let questions = keys.iter().map(|k| {
+        let [datasource, parameter, record, entry] = k.map(u32::from);
         Question {
             kind: 1,
             datasource,
@@ -29,6 +30,12 @@ fn full_store(cells: u16) -> (Vec<u8>, Vec<Question>) {
         }
     });
     (store, questions.collect())
+}
+
+/// Random ones of some questions.
+fn picked(sequence: &[Question]) -> Vec<Question> {
+    let mut random = Random::new(0xbe);
+    (0..QUESTIONS).map(|_| random.pick(sequence)).collect()
 }
 
 fn key_at(store: &[u8], at: usize) -> u64 {
@@ -124,7 +131,8 @@ fn walk(store: &[u8], q: Question) -> Found {
 }
 
 fn times(cells: u16) {
-    let (store, questions) = full_store(cells);
+    let (store, sequence) = full_store(cells);
+    let questions = picked(&sequence);
     let mut places = vec![0; MOST_CELLS];
     let count = index(&store, store.len(), &mut places).expect("a store in form");
     let mut spare = places.clone();
@@ -186,6 +194,36 @@ fn times(cells: u16) {
     );
 }
 
+/// Of questions that take turns, the time near where the last one ended, by the time without a hint.
+fn near(store: &[u8], questions: &[Question]) -> f64 {
+    let mut places = vec![0; MOST_CELLS];
+    let count = index(store, store.len(), &mut places).expect("a store in form");
+    let q = |i: usize| questions[i % questions.len()];
+    let mut last = 0;
+    let [lookup, near] = time::nanoseconds(
+        21,
+        [
+            (20_000, &mut |i| {
+                let mut handed = Handed::default();
+                look_up(store, &places, count, q(i), &mut handed);
+                black_box(&handed);
+            }),
+            (20_000, &mut |i| {
+                let mut handed = Handed::default();
+                last = look_up_near(store, &places, count, q(i), last, &mut handed);
+                black_box(&handed);
+            }),
+        ],
+    );
+    near / lookup
+}
+
+fn near_times(cells: u16) {
+    let (store, sequence) = full_store(cells);
+    let (random, in_sequence) = (near(&store, &picked(&sequence)), near(&store, &sequence));
+    println!("| {cells} | {random:.2} | {in_sequence:.2} |");
+}
+
 fn stacks() {
     let (store, questions) = full_store(MOST_CELLS as u16 - 3);
     let (length, q) = (store.len(), questions[0]);
@@ -212,6 +250,11 @@ pub fn run() {
     println!("Ratios of times, kind 1, random cells of a full store:");
     println!("| cells | lookup / binary search | lookup / search inlined | lookup / walk | form check / ask | ask / second's ask | ask / walk |");
     println!("| --- | --- | --- | --- | --- | --- | --- |");
-    [100, 1_000, MOST_CELLS as u16].into_iter().for_each(times);
+    let sizes = [100, 1_000, MOST_CELLS as u16];
+    sizes.into_iter().for_each(times);
+    println!("\nA lookup near where the last one ended, by one without a hint:");
+    println!("| cells | random | in sequence |");
+    println!("| --- | --- | --- |");
+    sizes.into_iter().for_each(near_times);
     stacks();
 }

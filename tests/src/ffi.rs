@@ -53,6 +53,24 @@ extern "C" {
         place: &mut usize,
         count: &mut usize,
     );
+    fn station_look_up_near(
+        buffer: *const u8,
+        buffer_length: usize,
+        places: *const u16,
+        places_length: usize,
+        known: usize,
+        kind: u32,
+        datasource: u32,
+        parameter: u32,
+        record: u32,
+        entry: u32,
+        hint: usize,
+        answered: &mut u8,
+        value: &mut i64,
+        place: &mut usize,
+        count: &mut usize,
+        ended: &mut usize,
+    );
     fn station_line(
         line: *const u8,
         line_length: usize,
@@ -184,6 +202,40 @@ pub fn look_up(buffer: &[u8], places: &[u16], known: usize, q: Asking, h: &mut H
             &mut h.count,
         )
     };
+}
+
+/// The same, first sought near a hint; where the search ended is returned.
+#[inline]
+pub fn look_up_near(
+    buffer: &[u8],
+    places: &[u16],
+    known: usize,
+    q: Asking,
+    hint: usize,
+    h: &mut Handed,
+) -> usize {
+    let mut ended = 0;
+    unsafe {
+        station_look_up_near(
+            buffer.as_ptr(),
+            buffer.len(),
+            places.as_ptr(),
+            places.len(),
+            known,
+            q.kind,
+            q.datasource,
+            q.parameter,
+            q.record,
+            q.entry,
+            hint,
+            &mut h.kind,
+            &mut h.value,
+            &mut h.place,
+            &mut h.count,
+            &mut ended,
+        )
+    };
+    ended
 }
 
 /// Whether there was room for the row of a line.

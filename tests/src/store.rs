@@ -48,6 +48,30 @@ pub fn looked_up(buffer: &[u8], places: &[u16], known: usize, q: Question) -> An
     answer(h, buffer)
 }
 
+/// The same, first sought near a hint; where the search ended is returned.
+pub fn look_up_near(
+    buffer: &[u8],
+    places: &[u16],
+    known: usize,
+    q: Question,
+    hint: usize,
+    h: &mut Handed,
+) -> usize {
+    ffi::look_up_near(buffer, places, known, asked(q), hint, h)
+}
+
+pub fn looked_up_near(
+    buffer: &[u8],
+    places: &[u16],
+    known: usize,
+    q: Question,
+    hint: usize,
+) -> (Answer, usize) {
+    let mut h = Handed::BEFORE;
+    let ended = look_up_near(buffer, places, known, q, hint, &mut h);
+    (answer(h, buffer), ended)
+}
+
 pub fn put(buffer: &mut [u8], length: usize, cell: &[u8]) -> Edited {
     let (number, length) = testing::put(buffer, length, cell);
     Edited { number, length }

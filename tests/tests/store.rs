@@ -4,7 +4,7 @@ use second::{Answer, Edited, Question, Value};
 use station_tests::compared;
 use station_tests::random::Random;
 use station_tests::store::{
-    ask, cell, decimals, index, index_in, key, looked_up, put, remove, MOST_CELLS,
+    ask, cell, decimals, index, index_in, key, looked_up, looked_up_near, put, remove, MOST_CELLS,
 };
 use std::collections::BTreeMap;
 
@@ -301,6 +301,54 @@ fn the_index_with_every_number_of_places() {
         let broken = if 0 < length { length } else { 1 };
         assert_eq!(index_in(&buffer, broken, &mut places, &mut count), 1);
         assert_eq!((places, count), (vec![9; MOST_CELLS], 7));
+    }
+}
+
+/// A question near any hint has the answer that it has without one, and so has one near where the last ended.
+#[test]
+fn any_hint_gives_the_same_answer() {
+    let mut random = Random::new(0x41);
+    for _ in 0..2_000 {
+        let cells = random.below(40);
+        let (buffer, length) = some_store(&mut random, cells, 0);
+        let mut places = vec![0; MOST_CELLS];
+        let known = index(&buffer, length, &mut places).expect("a store in form");
+        let mut last = 0;
+        for _ in 0..40 {
+            let q = some_question(&mut random);
+            let answer = looked_up(&buffer, &places, known, q);
+            let any = random.below(known as u64 + 2) as usize;
+            for hint in [any, random.word() as usize, usize::MAX] {
+                let (near, _) = looked_up_near(&buffer, &places, known, q, hint);
+                assert_eq!(near, answer, "{q:?} near {hint}");
+            }
+            let (near, ended) = looked_up_near(&buffer, &places, known, q, last);
+            assert_eq!(near, answer, "{q:?} near {last}");
+            last = ended;
+        }
+    }
+}
+
+/// In sequence each cell is found right behind the one before it.
+#[test]
+fn hints_in_sequence() {
+    let (buffer, length) = full_store(MOST_CELLS as u16, LIMIT);
+    let mut places = vec![0; MOST_CELLS];
+    let known = index(&buffer, length, &mut places).expect("a store in form");
+    let mut last = 0;
+    for n in 0..known {
+        let [datasource, parameter, record, entry] =
+            [1 + n / 160, 1 + n % 160, n % 7, n % 3].map(|x| x as u32);
+        let q = Question {
+            kind: 1,
+            datasource,
+            parameter,
+            record,
+            entry,
+        };
+        let (near, ended) = looked_up_near(&buffer, &places, known, q, last);
+        assert_eq!((near, ended), (looked_up(&buffer, &places, known, q), n));
+        last = ended;
     }
 }
 
