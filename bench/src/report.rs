@@ -5,7 +5,7 @@ use crate::sheets::{load, twelve};
 use crate::time;
 use second::{Question, Value};
 use station_tests::report::Asked;
-use station_tests::store::{cell, index, look_up, Handed, MOST_CELLS};
+use station_tests::store::{cell, index, look_up_near, Handed, MOST_CELLS};
 use station_tests::template::check;
 use std::hint::black_box;
 
@@ -196,8 +196,9 @@ fn sheet_of_twelve() {
                 black_box(check(&template, b""));
             }),
             (1, &mut |_| {
+                let mut last = 0;
                 for q in &questions {
-                    look_up(&store, &places, count, *q, &mut handed);
+                    last = look_up_near(&store, &places, count, *q, last, &mut handed);
                 }
                 black_box(&handed);
             }),
