@@ -194,6 +194,25 @@ fn times(cells: u16) {
     );
 }
 
+/// 2,000 lookups over so many cells, whose instructions callgrind counts: `look` and `near` of random ones, `sequence` near the last one.
+pub fn once(kind: &str, cells: usize) {
+    let (store, sequence) = full_store(cells as u16);
+    let questions = match kind {
+        "sequence" => sequence.into_iter().cycle().take(QUESTIONS).collect(),
+        _ => picked(&sequence),
+    };
+    let mut places = vec![0; MOST_CELLS];
+    let count = index(&store, store.len(), &mut places).expect("a store in form");
+    let (mut handed, mut hint) = (Handed::default(), 0);
+    for q in questions {
+        match kind {
+            "look" => look_up(&store, &places, count, q, &mut handed),
+            _ => hint = look_up_near(&store, &places, count, q, hint, &mut handed),
+        }
+    }
+    black_box(&handed);
+}
+
 /// Of questions that take turns, the time near where the last one ended, by the time without a hint.
 fn near(store: &[u8], questions: &[Question]) -> f64 {
     let mut places = vec![0; MOST_CELLS];

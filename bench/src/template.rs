@@ -41,27 +41,42 @@ fn named(names: &[String]) -> Vec<u8> {
     template
 }
 
-/// Names of eight characters in no order: at random; that share the remainder by which check 5 once noted names; alike in five characters.
-fn long_names() -> [(&'static str, Vec<String>); 3] {
+/// The last of the orders: none.
+fn mixed(names: Vec<String>) -> Vec<String> {
+    let [.., (_, mixed)] = sections::orders(&names);
+    mixed
+}
+
+fn at_random() -> Vec<String> {
     let mut random = Random::new(5);
+    (0..2_340).map(|_| name_at_random(&mut random, 8)).collect()
+}
+
+/// Names that share the remainder by which check 5 once noted names.
+fn of_one_remainder() -> Vec<String> {
     let remainder = |name: &String| {
         name.bytes()
             .fold(0, |key, b| (key * 927 + u64::from(b)) % 16_361)
     };
-    let mixed = |names: Vec<String>| {
-        let [.., (_, mixed)] = sections::orders(&names);
-        mixed
-    };
-    let at_random = (0..2_340).map(|_| name_at_random(&mut random, 8));
     let numbers = (0..).map(|n| format!("{n:08}"));
-    let sharing = numbers.filter(|name| remainder(name) == 5).take(2_340);
-    let alike = (0..2_340).map(|n| format!("ALIKE{}", name(n, 3)));
-    [
-        ("at random", at_random.collect()),
-        ("of one remainder", mixed(sharing.collect())),
-        ("alike in five characters", mixed(alike.collect())),
-    ]
+    mixed(
+        numbers
+            .filter(|name| remainder(name) == 5)
+            .take(2_340)
+            .collect(),
+    )
 }
+
+fn alike() -> Vec<String> {
+    mixed((0..2_340).map(|n| format!("ALIKE{}", name(n, 3))).collect())
+}
+
+/// Names of eight characters in no order.
+const LONG_NAMES: [(&str, fn() -> Vec<String>); 3] = [
+    ("at random", at_random),
+    ("of one remainder", of_one_remainder),
+    ("alike in five characters", alike),
+];
 
 /// "0x20–0x7E or 0x0A", byte by byte.
 fn scan(template: &[u8]) -> usize {
@@ -97,11 +112,11 @@ fn times(name: &str, template: &[u8]) {
     );
 }
 
-pub fn run() {
-    println!("Ratios of times, templates of 32,768 bytes:");
-    println!("| template | check / scan | check / second's check |");
-    println!("| --- | --- | --- |");
-    let long = "x".repeat(132);
+/// A template's name, and how it is made.
+type Made = (String, Box<dyn Fn() -> Vec<u8>>);
+
+/// The templates that are timed; each is made where it is needed, since the names of some take long to find.
+fn all() -> Vec<Made> {
     let fields = "{IV1,4}{FV99,6.2}{SV7,4}{P12.3,3}{9,1}{R2,2}{P3.IV2.LOOP,9.3}{P1|RECCNT,7}{\"abc\",5}{PAGENUM,3}";
     let deep = [
         ["$IF IV1"; 10].as_slice(),
@@ -110,18 +125,50 @@ pub fn run() {
         &["$ENDIF"; 10],
     ]
     .concat();
-    times("lines of 132 bytes", &filled(&[&long]));
-    times("empty lines", &filled(&[""]));
-    times("lines full of fields", &filled(&[fields]));
-    times("10 tests and 5 tables deep", &filled(&deep));
-    times("100 sections", &spread(100));
-    times("1,000 sections", &spread(1_000));
-    times("3,276 sections, names that count up", &spread(LONGEST / 10));
-    for (kind, names) in long_names() {
-        times(&format!("2,340 sections, names {kind}"), &named(&names));
+    let mut all: Vec<Made> = Vec::new();
+    let mut add = |name: &str, made: Box<dyn Fn() -> Vec<u8>>| all.push((name.to_owned(), made));
+    add(
+        "lines of 132 bytes",
+        Box::new(|| filled(&[&"x".repeat(132)])),
+    );
+    add("empty lines", Box::new(|| filled(&[""])));
+    add("lines full of fields", Box::new(move || filled(&[fields])));
+    add(
+        "10 tests and 5 tables deep",
+        Box::new(move || filled(&deep)),
+    );
+    add("100 sections", Box::new(|| spread(100)));
+    add("1,000 sections", Box::new(|| spread(1_000)));
+    add(
+        "3,276 sections, names that count up",
+        Box::new(|| spread(LONGEST / 10)),
+    );
+    for (kind, names) in LONG_NAMES {
+        let name = format!("2,340 sections, names {kind}");
+        add(&name, Box::new(move || named(&names())));
     }
-    for (order, names) in sections::orders(&sections::most()) {
-        times(&format!("3,792 sections, names {order}"), &named(&names));
+    for (n, (order, _)) in sections::orders(&[String::new()]).into_iter().enumerate() {
+        let name = format!("3,792 sections, names {order}");
+        let made = move || named(&sections::orders(&sections::most())[n].1);
+        add(&name, Box::new(made));
+    }
+    all
+}
+
+/// One check of the n-th template, whose instructions callgrind counts; nothing where there are fewer.
+pub fn once(n: usize) {
+    if let Some((name, made)) = all().get(n) {
+        assert_eq!(check(&made(), b""), (0, 0), "{name}");
+        println!("{name}");
+    }
+}
+
+pub fn run() {
+    println!("Ratios of times, templates of 32,768 bytes:");
+    println!("| template | check / scan | check / second's check |");
+    println!("| --- | --- | --- |");
+    for (name, made) in all() {
+        times(&name, &made());
     }
     let template = spread(1_000);
     let used = stack::used(move || {
