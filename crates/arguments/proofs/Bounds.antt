@@ -7,7 +7,7 @@ use lib.IntN.{nat_abs}
 use lib.ListN.{length}
 use Rattle.numbers.specs.declared.Quantity.{Quantity}
 use Rattle.numbers.specs.declared.Quantity.TheVariants.{Integer, Decimal}
-use Rattle.numbers.specs.Range.{integerLimit, decimalLimit}
+use Rattle.numbers.specs.Range.{integer_limit, decimal_limit}
 use Rattle.arguments.specs.declared.index.Index.{Index}
 use Rattle.arguments.specs.declared.index.Index.TheVariants.{Fixed, Variable, Loop}
 use Rattle.arguments.specs.declared.operand.Operand.{Operand}
@@ -21,8 +21,8 @@ pub record Between (low high n : ℕ) : Type 0 where
 
 -- "Values lie within ±2,000,000,000, so within ±2×10^15 millionths"
 abbrev pub QuantityWithin : Quantity → Type 0
-QuantityWithin (Integer z) = nat_abs z ≤ integerLimit
-QuantityWithin (Decimal z) = nat_abs z ≤ decimalLimit
+QuantityWithin (Integer z) = nat_abs z ≤ integer_limit
+QuantityWithin (Decimal z) = nat_abs z ≤ decimal_limit
 
 -- "An index .. is 1–3 digits, IVn or LOOP"
 abbrev pub IndexWithin : Index → Type 0
@@ -58,17 +58,17 @@ pub record ArgumentWithin (l : List ℕ) (a : Argument) : Type 0 where
   pub filter : admits a.filter (count_of a.operand) ≡ true
 
 -- how many questions an operand asks: a cell one
-abbrev pub questionsOf : Operand → ℕ
-questionsOf (NumberLiteral q) = 0
-questionsOf (StringLiteral start end) = 0
-questionsOf (IntegerVariable n) = 0
-questionsOf (DecimalVariable n) = 0
-questionsOf (StringVariable n) = 0
-questionsOf PageNumber = 0
-questionsOf LineNumber = 0
-questionsOf LoopCounter = 0
-questionsOf (RecordElement n) = 0
-questionsOf (EntryElement n) = 0
-questionsOf (Parameter n) = 1
-questionsOf (Record n r) = 1
-questionsOf (Entry n r e) = 1
+abbrev pub questions_of : Operand → ℕ
+questions_of (NumberLiteral q) = 0
+questions_of (StringLiteral start end) = 0
+questions_of (IntegerVariable n) = 0
+questions_of (DecimalVariable n) = 0
+questions_of (StringVariable n) = 0
+questions_of PageNumber = 0
+questions_of LineNumber = 0
+questions_of LoopCounter = 0
+questions_of (RecordElement n) = 0
+questions_of (EntryElement n) = 0
+questions_of (Parameter n) = 1
+questions_of (Record n r) = 1
+questions_of (Entry n r e) = 1

@@ -13,10 +13,10 @@ pub negative_fits : (m : ℕ) → m < 2 ^ 63 → SFits w64 (neg_ℤ (pos m))
 negative_fits zero h = record { sfits = omega arith }
 negative_fits (suc n) h = record { sfits = omega arith }
 
-signed-fits : (b : Bool) (m : ℕ) → m < 2 ^ 63 → SFits w64 (signed b m)
-signed-fits true m h = negative_fits m h
-signed-fits false m h = record { sfits = h }
+signed_fits : (b : Bool) (m : ℕ) → m < 2 ^ 63 → SFits w64 (signed b m)
+signed_fits true m h = negative_fits m h
+signed_fits false m h = record { sfits = h }
 
 -- a signed number is read back from its bits
 pub read_back : (b : Bool) (m limit : ℕ) (z : ℤ) → m ≤ limit → limit < 2 ^ 63 → z ≡ signed b m → to_z w64 (of_z w64 z) ≡ z
-read_back b m limit z k h e = to_z-of_z w64 z (rw e (signed-fits b m (omega arith)))
+read_back b m limit z k h e = to_z-of_z w64 z (rw e (signed_fits b m (omega arith)))

@@ -7,8 +7,8 @@ use Rattle.arguments.specs.declared.argument.Filter.TheVariants.{Unfiltered, Abs
 
 -- "|RECCNT on Pn, |ENTCNT on Pn.r": the count that may follow an operand
 pub data Count : Type 0 where
-  ofRecords : Count
-  ofEntries : Count
+  of_records : Count
+  of_entries : Count
   neither : Count
 
 unfoldable pub count_of : Operand → Count
@@ -22,8 +22,8 @@ count_of LineNumber = neither
 count_of LoopCounter = neither
 count_of (RecordElement n) = neither
 count_of (EntryElement n) = neither
-count_of (Parameter n) = ofRecords
-count_of (Record n r) = ofEntries
+count_of (Parameter n) = of_records
+count_of (Record n r) = of_entries
 count_of (Entry n r e) = neither
 
 -- "RECCNT and ENTCNT elsewhere are 3. Other filters may stand after any argument"
@@ -33,9 +33,9 @@ admits Absolute c = true
 admits Truncated c = true
 admits UpperCase c = true
 admits Length c = true
-admits RecordCount ofRecords = true
-admits RecordCount ofEntries = false
+admits RecordCount of_records = true
+admits RecordCount of_entries = false
 admits RecordCount neither = false
-admits EntryCount ofRecords = false
-admits EntryCount ofEntries = true
+admits EntryCount of_records = false
+admits EntryCount of_entries = true
 admits EntryCount neither = false

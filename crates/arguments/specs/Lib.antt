@@ -1,4 +1,4 @@
 pub mod Admitted
-pub mod readers
-pub mod inner
+pub mod Readers
+pub mod Inner
 pub mod Rows

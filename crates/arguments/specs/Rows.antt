@@ -4,29 +4,29 @@ use Rattle.numbers.specs.declared.Quantity.TheVariants.{Integer, Decimal}
 use Rattle.scan.specs.Ascii.{ascii}
 use Rattle.scan.specs.Run.{belongs, span}
 use Rattle.scan.specs.Line.{byte_at}
-use Rattle.scan.specs.Value.{valueFrom}
-use Rattle.scan.specs.readers.Digits.{digitsAt, number_at}
-use Rattle.scan.specs.Words.{begins, standsAt, first_of}
+use Rattle.scan.specs.Value.{value_from}
+use Rattle.scan.specs.Readers.Digits.{digits_at, number_at}
+use Rattle.scan.specs.Words.{begins, stands_at, first_of}
 use Rattle.arguments.specs.declared.literal.LiteralRead.TheVariants.{LiteralTo, NoLiteral}
 use Rattle.arguments.specs.declared.index.Index.TheVariants.{Fixed, Loop}
 use Rattle.arguments.specs.declared.operand.Operand.TheVariants.{StringLiteral, IntegerVariable, RecordElement, Parameter, Entry}
 use Rattle.arguments.specs.declared.operand.OperandRead.TheVariants.{OperandTo, NoOperand}
-use Rattle.arguments.specs.readers.Literal.{inMillionths, fractionAt, unsignedAt, literalAt}
-use Rattle.arguments.specs.readers.Index.{variableIndex, index_at}
-use Rattle.arguments.specs.readers.Operand.{stringAt, entry_of, recordOf, cell_of, cell_at, whole_at, numberedOf, numberedAt, names, named_at, numberOr, operand_at}
+use Rattle.arguments.specs.Readers.Literal.{in_millionths, fraction_at, unsigned_at, literal_at}
+use Rattle.arguments.specs.Readers.Index.{variable_index, index_at}
+use Rattle.arguments.specs.Readers.Operand.{string_at, entry_of, record_read_of, cell_of, cell_at, whole_at, numbered_of, numbered_at, names, named_at, number_or, operand_at}
 
 abbrev Rows : Type 0
 Rows =
     -- ±2,000,000,000, and one more
-    (literalAt (ascii "2000000000") 0 ≡ LiteralTo (Integer (pos 2000000000)) 10)
-    × (literalAt (ascii "-2000000000") 0 ≡ LiteralTo (Integer (negsuc 1999999999)) 11)
-    × (literalAt (ascii "2000000001") 0 ≡ NoLiteral)
-    × (literalAt (ascii "2000000000.000000") 0 ≡ LiteralTo (Decimal (pos 2000000000000000)) 17)
-    × (literalAt (ascii "2000000000.000001") 0 ≡ NoLiteral)
+    (literal_at (ascii "2000000000") 0 ≡ LiteralTo (Integer (pos 2000000000)) 10)
+    × (literal_at (ascii "-2000000000") 0 ≡ LiteralTo (Integer (negsuc 1999999999)) 11)
+    × (literal_at (ascii "2000000001") 0 ≡ NoLiteral)
+    × (literal_at (ascii "2000000000.000000") 0 ≡ LiteralTo (Decimal (pos 2000000000000000)) 17)
+    × (literal_at (ascii "2000000000.000001") 0 ≡ NoLiteral)
     -- ten digits, and eleven: the last is left over
-    × (literalAt (ascii "0000000007") 0 ≡ LiteralTo (Integer (pos 7)) 10)
-    × (literalAt (ascii "00000000007") 0 ≡ LiteralTo (Integer (pos 0)) 10)
-    × (literalAt (ascii "-0.5") 0 ≡ LiteralTo (Decimal (negsuc 499999)) 4)
+    × (literal_at (ascii "0000000007") 0 ≡ LiteralTo (Integer (pos 7)) 10)
+    × (literal_at (ascii "00000000007") 0 ≡ LiteralTo (Integer (pos 0)) 10)
+    × (literal_at (ascii "-0.5") 0 ≡ LiteralTo (Decimal (negsuc 499999)) 4)
     -- 16 bytes, and 17
     × (operand_at (ascii "\"1234567890123456\"") 0 ≡ OperandTo (StringLiteral 1 17) 18)
     × (operand_at (ascii "\"12345678901234567\"") 0 ≡ NoOperand)
@@ -43,5 +43,5 @@ Rows =
 
 -- The rows hold.
 pub rows : Rows
-unfolding belongs span byte_at valueFrom digitsAt number_at begins standsAt first_of inMillionths fractionAt unsignedAt literalAt variableIndex index_at stringAt entry_of recordOf cell_of cell_at whole_at numberedOf numberedAt names named_at numberOr operand_at
+unfolding belongs span byte_at value_from digits_at number_at begins stands_at first_of in_millionths fraction_at unsigned_at literal_at variable_index index_at string_at entry_of record_read_of cell_of cell_at whole_at numbered_of numbered_at names named_at number_or operand_at
 rows = (refl, refl, refl, refl, refl, refl, refl, refl, refl, refl, refl, refl, refl, refl, refl, refl, refl, refl)

@@ -1,8 +1,8 @@
 // Operands with filters.
 ghost use Rattle.std.specs.Prelude.{◌≡◌};
 ghost use Rattle.arguments.specs.Admitted.{count_of};
-ghost use Rattle.arguments.specs.readers.Argument.{argumentAt};
-ghost use Rattle.arguments.specs.inner.Filtered.{filterOf, countNumber, admitted};
+ghost use Rattle.arguments.specs.Readers.Argument.{argument_at};
+ghost use Rattle.arguments.specs.Inner.Filtered.{filter_of, count_number, admitted};
 
 use crate::operand::{Operand, OperandRead};
 use crate::{name, operand};
@@ -37,7 +37,7 @@ pub enum ArgumentRead {
 
 // The filter of a name of the table.
 fn filter_of(k: usize) -> Filter
-    ensures { result ≡ filterOf k }
+    ensures { result ≡ filter_of k }
 {
     if k == 0 {
         return Filter::Absolute;
@@ -59,7 +59,7 @@ fn filter_of(k: usize) -> Filter
 
 // The name in the table of the count that an operand admits: 4 for RECCNT, 5 for ENTCNT, 0 for neither.
 fn count_of(operand: Operand) -> usize
-    ensures { result ≡ countNumber (count_of operand) }
+    ensures { result ≡ count_number (count_of operand) }
 {
     match operand {
         Operand::NumberLiteral(_) => 0,
@@ -89,7 +89,7 @@ fn is_admitted(operand: Operand, k: usize) -> bool
 }
 
 pub fn argument_at(line: &[u8], at: usize) -> ArgumentRead
-    ensures { result ≡ argumentAt line.now at }
+    ensures { result ≡ argument_at line.now at }
 {
     let OperandRead::OperandTo(operand, next) = operand::operand_at(line, at) else {
         return ArgumentRead::NoArgument;

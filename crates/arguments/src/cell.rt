@@ -1,7 +1,7 @@
 // The argument that most fields have: a cell without entry and filter. It is read at once, and any other is left to
 // argument::argument_at, which tries every form and hands each part on in an enum of its own.
 ghost use Rattle.std.specs.Prelude.{◌≡◌};
-ghost use Rattle.arguments.specs.inner.CellArgument.{recordAt, ReadsCell};
+ghost use Rattle.arguments.specs.Inner.CellArgument.{record_at, ReadsCell};
 
 use crate::index;
 use crate::index::{Index, IndexRead};
@@ -17,7 +17,7 @@ pub enum CellRead {
 
 // What stands behind a cell's parameter: "absent parts 0".
 fn record_at(line: &[u8], at: usize) -> IndexRead
-    ensures { result ≡ recordAt line.now at }
+    ensures { result ≡ record_at line.now at }
 {
     if bytes::byte(line, at) == b'.' {
         return index::index_at(line, at + 1);

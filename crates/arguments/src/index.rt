@@ -1,6 +1,6 @@
 // Indexes in a line.
 ghost use Rattle.std.specs.Prelude.{◌≡◌};
-ghost use Rattle.arguments.specs.readers.Index.{index_at};
+ghost use Rattle.arguments.specs.Readers.Index.{index_at};
 
 use scan::digits::Numeral;
 use scan::{digits, words};

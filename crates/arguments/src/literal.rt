@@ -1,7 +1,7 @@
 // Integers and decimals in a line.
 ghost use Rattle.std.specs.Prelude.{◌≡◌, ◌<◌, ◌^◌};
 ghost use Rattle.numbers.specs.Sign.{signed};
-ghost use Rattle.arguments.specs.readers.Literal.{literalAt, unsignedAt, fractionAt};
+ghost use Rattle.arguments.specs.Readers.Literal.{literal_at, unsigned_at, fraction_at};
 
 use numbers::Quantity;
 use scan::{bytes, digits};
@@ -31,7 +31,7 @@ fn with_sign(negative: bool, magnitude: usize) -> i64
 // The digits behind a decimal's point, with what stands before it.
 fn fraction_at(line: &[u8], at: usize, negative: bool, whole: usize) -> LiteralRead
     requires { whole < 10000000000 }
-    ensures { result ≡ fractionAt line.now at negative whole }
+    ensures { result ≡ fraction_at line.now at negative whole }
 {
     let fraction = digits::digits_at(line, at, 6);
     if fraction.count == 0 {
@@ -48,7 +48,7 @@ fn fraction_at(line: &[u8], at: usize, negative: bool, whole: usize) -> LiteralR
 
 // A number without its sign.
 fn unsigned_at(line: &[u8], at: usize, negative: bool) -> LiteralRead
-    ensures { result ≡ unsignedAt line.now at negative }
+    ensures { result ≡ unsigned_at line.now at negative }
 {
     let whole = digits::digits_at(line, at, 10);
     if whole.count == 0 {
@@ -68,7 +68,7 @@ fn unsigned_at(line: &[u8], at: usize, negative: bool) -> LiteralRead
 
 // "an integer (optional `-`, 1–10 digits); a decimal (the same, a point, 1–6 digits)"
 pub fn literal_at(line: &[u8], at: usize) -> LiteralRead
-    ensures { result ≡ literalAt line.now at }
+    ensures { result ≡ literal_at line.now at }
 {
     let first = bytes::byte(line, at);
     if first == b'-' {

@@ -1,15 +1,15 @@
 // Which name stands at a place: its first letter tells which names can, and these are compared with the line.
 ghost use Rattle.std.specs.Prelude.{◌≡◌};
-ghost use Rattle.scan.specs.inner.Tables.{word_at};
-ghost use Rattle.arguments.specs.inner.Named.{nameWords};
-ghost use Rattle.arguments.specs.inner.Filtered.{filterNames};
+ghost use Rattle.scan.specs.Inner.Tables.{word_at};
+ghost use Rattle.arguments.specs.Inner.Named.{name_words};
+ghost use Rattle.arguments.specs.Inner.Filtered.{filter_names};
 
 use scan::words::WordRead;
 use scan::{bytes, words};
 
 // Any of the operands' names. Apart from its caller, since the table is built with each call.
 fn any_operand(line: &[u8], at: usize) -> WordRead
-    ensures { result ≡ word_at nameWords line.now at }
+    ensures { result ≡ word_at name_words line.now at }
 {
     let names = b"PAGENUM LINENUM LOOP    IV      FV      SV      R       T       P       ";
     words::word_at(line, at, names)
@@ -17,7 +17,7 @@ fn any_operand(line: &[u8], at: usize) -> WordRead
 
 // The first name of the table of operands that stands at a place.
 pub fn operand_name(line: &[u8], at: usize) -> WordRead
-    ensures { result ≡ word_at nameWords line.now at }
+    ensures { result ≡ word_at name_words line.now at }
 {
     let first = bytes::byte(line, at);
     match first {
@@ -40,7 +40,7 @@ pub fn operand_name(line: &[u8], at: usize) -> WordRead
 
 // Any of the filters' names.
 fn any_filter(line: &[u8], at: usize) -> WordRead
-    ensures { result ≡ word_at filterNames line.now at }
+    ensures { result ≡ word_at filter_names line.now at }
 {
     let names = b"ABS     INT     UPPER   LEN     RECCNT  ENTCNT  ";
     words::word_at(line, at, names)
@@ -48,7 +48,7 @@ fn any_filter(line: &[u8], at: usize) -> WordRead
 
 // The first name of the table of filters that stands at a place.
 pub fn filter_name(line: &[u8], at: usize) -> WordRead
-    ensures { result ≡ word_at filterNames line.now at }
+    ensures { result ≡ word_at filter_names line.now at }
 {
     let first = bytes::byte(line, at);
     match first {

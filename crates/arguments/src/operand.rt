@@ -1,7 +1,7 @@
 // What stands before a filter: strings, numbers, variables, counters and cells.
 ghost use Rattle.std.specs.Prelude.{◌≡◌};
-ghost use Rattle.arguments.specs.readers.Operand.{stringAt, cell_at, numberedAt, named_at, operand_at};
-ghost use Rattle.arguments.specs.inner.Named.{numbered, limitOf};
+ghost use Rattle.arguments.specs.Readers.Operand.{string_at, cell_at, numbered_at, named_at, operand_at};
+ghost use Rattle.arguments.specs.Inner.Named.{numbered, limit_of};
 
 use crate::index::{Index, IndexRead};
 use crate::literal::LiteralRead;
@@ -43,7 +43,7 @@ pub enum OperandRead {
 
 // A string behind its first quote.
 fn string_at(line: &[u8], at: usize) -> OperandRead
-    ensures { result ≡ stringAt line.now at }
+    ensures { result ≡ string_at line.now at }
 {
     let length = run::count(bytes::part(line, at, 16), Class::InString);
     let end = at + length;
@@ -95,7 +95,7 @@ fn numbered_of(name: usize, n: usize) -> Operand
 }
 
 fn limit_of(name: usize) -> usize
-    ensures { result ≡ limitOf name }
+    ensures { result ≡ limit_of name }
 {
     if name < 6 {
         return 99;
@@ -104,7 +104,7 @@ fn limit_of(name: usize) -> usize
 }
 
 fn numbered_at(line: &[u8], at: usize, name: usize) -> OperandRead
-    ensures { result ≡ numberedAt (numbered name) (limitOf name) line.now at }
+    ensures { result ≡ numbered_at (numbered name) (limit_of name) line.now at }
 {
     let limit = limit_of(name);
     let Numeral::Value(n, next) = digits::number_at(line, at, limit) else {

@@ -1,6 +1,6 @@
 // The variable that a command sets. Of the operands it is read alone, so that operand::operand_at has one caller.
 ghost use Rattle.std.specs.Prelude.{◌≡◌};
-ghost use Rattle.arguments.specs.inner.Variable.{beginsVariable, variableAt};
+ghost use Rattle.arguments.specs.Inner.Variable.{begins_variable, variable_at};
 
 use crate::operand::{Operand, OperandRead};
 use scan::digits::Numeral;
@@ -8,7 +8,7 @@ use scan::{bytes, digits};
 
 // I, F or S.
 fn begins_variable(first: u8) -> bool
-    ensures { result ≡ beginsVariable first }
+    ensures { result ≡ begins_variable first }
 {
     if first == b'I' {
         return true;
@@ -21,7 +21,7 @@ fn begins_variable(first: u8) -> bool
 
 // IVn, FVn or SVn; none where any other operand stands.
 pub fn variable_at(line: &[u8], at: usize) -> OperandRead
-    ensures { result ≡ variableAt line.now at }
+    ensures { result ≡ variable_at line.now at }
 {
     let first = bytes::byte(line, at);
     if !begins_variable(first) {

@@ -3,8 +3,8 @@ use Rattle.std.specs.Prelude.{◌≡◌, Bool, cond, ◌&&◌, List, ℕ, ◌+�
 use Rattle.std.proofs.lemmas.List.Edits.{sets}
 
 -- k bytes at n lie in b
-unfoldable pub hasRoom : List ℕ → ℕ → ℕ → Bool
-hasRoom b n k = leb (n + k) (length b)
+unfoldable pub has_room : List ℕ → ℕ → ℕ → Bool
+has_room b n k = leb (n + k) (length b)
 
 -- the k bytes of b at n
 abbrev pub part : List ℕ → ℕ → ℕ → List ℕ
@@ -12,18 +12,18 @@ part b n k = take k (drop n b)
 
 -- b with s at n where there is room, else b as it was
 unfoldable pub stored : List ℕ → ℕ → List ℕ → List ℕ
-stored b n s = cond (hasRoom b n (length s)) (sets b n s) b
+stored b n s = cond (has_room b n (length s)) (sets b n s) b
 
 -- b with a copy, at `to`, of its k bytes at `from`, where both lie in b, else b as it was
 unfoldable pub shifted : List ℕ → ℕ → ℕ → ℕ → List ℕ
-shifted b from to k = cond (hasRoom b from k && hasRoom b to k) (sets b to (part b from k)) b
+shifted b from to k = cond (has_room b from k && has_room b to k) (sets b to (part b from k)) b
 
 -- b' is the buffer after s was to be stored at n, and r the answer
 pub record Stored (b : List ℕ) (n : ℕ) (s b' : List ℕ) (r : Bool) : Type 0 where
-  pub told : r ≡ hasRoom b n (length s)
+  pub told : r ≡ has_room b n (length s)
   pub buffer : b' ≡ stored b n s
 
 -- b' is the buffer after its k bytes at `from` were to go to `to`, and r the answer
 pub record Shifted (b : List ℕ) (from to k : ℕ) (b' : List ℕ) (r : Bool) : Type 0 where
-  pub told : r ≡ (hasRoom b from k && hasRoom b to k)
+  pub told : r ≡ (has_room b from k && has_room b to k)
   pub buffer : b' ≡ shifted b from to k

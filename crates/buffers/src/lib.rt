@@ -4,11 +4,11 @@
 // Each answers whether there was room; where there was none the buffer is untouched.
 ghost use Rattle.std.specs.Prelude.{◌≡◌, ◌+◌, ◌≤◌, ◌<◌, length, replicate};
 ghost use Rattle.std.proofs.lemmas.List.Edits.{sets};
-ghost use Rattle.buffers.specs.Buffer.{hasRoom, part, Stored, Shifted};
+ghost use Rattle.buffers.specs.Buffer.{has_room, part, Stored, Shifted};
 
 // Whether `count` bytes at `at` lie in the buffer.
 pub fn has_room(buffer: &[u8], at: usize, count: usize) -> bool
-    ensures { result ≡ hasRoom buffer.now at count }
+    ensures { result ≡ has_room buffer.now at count }
 {
     if at <= buffer.len() {
         return count <= buffer.len() - at;

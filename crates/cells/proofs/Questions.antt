@@ -8,71 +8,71 @@ use Rattle.meaning.specs.declared.question.Question.{Question}
 use Rattle.cells.specs.declared.Answered.{Answered}
 use Rattle.cells.specs.declared.Answered.TheVariants.{Missing, Highest}
 use Rattle.cells.specs.Bytes.{pair, pair_at}
-use Rattle.cells.specs.Cell.{Key, key_of, Cell, between, keyAllowed, keyBytes, keyAsNumber, cellBytes}
-use Rattle.cells.specs.Asking.{keyAsked, Query, theCell, highestRecord, highestEntry, unused, queryOf, queryAllowed, questionAllowed, lookup, found, highestOf, ofParameter, ofRecord, queryAnswer, answer, stringStart, meant}
-use Rattle.cells.specs.inner.Tests.{unusedZero}
-use Rattle.cells.specs.inner.Index as I
-use Rattle.cells.specs.inner.Index.{Ready, InStore, CellAnswer, Answers, reachOf, offset_of}
-use Rattle.cells.proofs.BigEndian.{and-true, both, pair_reads}
-use Rattle.cells.proofs.CellForm.{key-allowed, Limits, limits}
-use Rattle.cells.proofs.Locating.{held-some}
-use Rattle.cells.proofs.Answering.{Range, highest-in}
+use Rattle.cells.specs.Cell.{Key, key_of, Cell, between, key_allowed, key_bytes, key_as_number, cell_bytes}
+use Rattle.cells.specs.Asking.{key_asked, Query, the_cell, highest_record, highest_entry, unused, query_of, query_allowed, question_allowed, lookup, found, highest_of, of_parameter, of_record, query_answer, answer, string_start, meant}
+use Rattle.cells.specs.Inner.Tests.{unused_zero}
+use Rattle.cells.specs.Inner.Index as I
+use Rattle.cells.specs.Inner.Index.{Ready, InStore, CellAnswer, Answers, reach_of, offset_of}
+use Rattle.cells.proofs.BigEndian.{and_true, both, pair_reads}
+use Rattle.cells.proofs.CellForm.{key_allowed_law, Limits, limits}
+use Rattle.cells.proofs.Locating.{held_some}
+use Rattle.cells.proofs.Answering.{Range, highest_in}
 
 -- ---- the range of keys of a parameter, and of a record
 
-module _ (k : Key) (l : Limits k) (e : k.entryNumber ≡ 0) where
-  of-record : (c : Cell) → ofRecord k.datasource k.parameter k.recordNumber c ≡ true → (c.key.datasource ≡ k.datasource) × (c.key.parameter ≡ k.parameter) × (c.key.recordNumber ≡ k.recordNumber)
-  unfolding ofRecord ofParameter
-  of-record c t =
-      let a = and-true (eqb c.key.datasource k.datasource && eqb c.key.parameter k.parameter) (eqb c.key.recordNumber k.recordNumber) t in
-      let b = and-true (eqb c.key.datasource k.datasource) (eqb c.key.parameter k.parameter) a.0 in
+module _ (k : Key) (l : Limits k) (e : k.entry_number ≡ 0) where
+  of_record_law : (c : Cell) → of_record k.datasource k.parameter k.record_number c ≡ true → (c.key.datasource ≡ k.datasource) × (c.key.parameter ≡ k.parameter) × (c.key.record_number ≡ k.record_number)
+  unfolding of_record of_parameter
+  of_record_law c t =
+      let a = and_true (eqb c.key.datasource k.datasource && eqb c.key.parameter k.parameter) (eqb c.key.record_number k.record_number) t in
+      let b = and_true (eqb c.key.datasource k.datasource) (eqb c.key.parameter k.parameter) a.0 in
       (eqb-true _ _ b.0, eqb-true _ _ b.1, eqb-true _ _ a.1)
 
-  pub record-range : Range (ofRecord k.datasource k.parameter k.recordNumber) (λ c. c.key.entryNumber) (keyAsNumber k) (keyAsNumber k + 65536)
-  unfolding keyAsNumber ofRecord ofParameter
-  record-range =
+  pub record_range : Range (of_record k.datasource k.parameter k.record_number) (λ c. c.key.entry_number) (key_as_number k) (key_as_number k + 65536)
+  unfolding key_as_number of_record of_parameter
+  record_range =
       record {
-        from = λ c a t. let o = of-record c t in omega arith;
-        below = λ c a t. let o = of-record c t in let m = limits c.key (key-allowed c a) in omega arith;
+        from = λ c a t. let o = of_record_law c t in omega arith;
+        below = λ c a t. let o = of_record_law c t in let m = limits c.key (key_allowed_law c a) in omega arith;
         means = λ c a h u.
-            let m = limits c.key (key-allowed c a) in
+            let m = limits c.key (key_allowed_law c a) in
             both
             (both (eq-eqb c.key.datasource k.datasource (omega arith)) (eq-eqb c.key.parameter k.parameter (omega arith)))
-            (eq-eqb c.key.recordNumber k.recordNumber (omega arith));
-        rises = λ c d a b t s h. let o = of-record c t in let p = of-record d s in omega arith;
+            (eq-eqb c.key.record_number k.record_number (omega arith));
+        rises = λ c d a b t s h. let o = of_record_law c t in let p = of_record_law d s in omega arith;
       }
 
-  module _ (z : k.recordNumber ≡ 0) where
-    of-parameter : (c : Cell) → ofParameter k.datasource k.parameter c ≡ true → (c.key.datasource ≡ k.datasource) × (c.key.parameter ≡ k.parameter)
-    unfolding ofParameter
-    of-parameter c t =
-        let b = and-true (eqb c.key.datasource k.datasource) (eqb c.key.parameter k.parameter) t in
+  module _ (z : k.record_number ≡ 0) where
+    of_parameter_law : (c : Cell) → of_parameter k.datasource k.parameter c ≡ true → (c.key.datasource ≡ k.datasource) × (c.key.parameter ≡ k.parameter)
+    unfolding of_parameter
+    of_parameter_law c t =
+        let b = and_true (eqb c.key.datasource k.datasource) (eqb c.key.parameter k.parameter) t in
         (eqb-true _ _ b.0, eqb-true _ _ b.1)
 
-    pub parameter-range : Range (ofParameter k.datasource k.parameter) (λ c. c.key.recordNumber) (keyAsNumber k) (keyAsNumber k + 4294967296)
-    unfolding keyAsNumber ofParameter
-    parameter-range =
+    pub parameter_range : Range (of_parameter k.datasource k.parameter) (λ c. c.key.record_number) (key_as_number k) (key_as_number k + 4294967296)
+    unfolding key_as_number of_parameter
+    parameter_range =
         record {
-          from = λ c a t. let o = of-parameter c t in omega arith;
-          below = λ c a t. let o = of-parameter c t in let m = limits c.key (key-allowed c a) in omega arith;
+          from = λ c a t. let o = of_parameter_law c t in omega arith;
+          below = λ c a t. let o = of_parameter_law c t in let m = limits c.key (key_allowed_law c a) in omega arith;
           means = λ c a h u.
-              let m = limits c.key (key-allowed c a) in
+              let m = limits c.key (key_allowed_law c a) in
               both (eq-eqb c.key.datasource k.datasource (omega arith)) (eq-eqb c.key.parameter k.parameter (omega arith));
           rises = λ c d a b t s h.
-              let o = of-parameter c t in
-              let p = of-parameter d s in
-              let m = limits c.key (key-allowed c a) in
-              let n = limits d.key (key-allowed d b) in
+              let o = of_parameter_law c t in
+              let p = of_parameter_law d s in
+              let m = limits c.key (key_allowed_law c a) in
+              let n = limits d.key (key_allowed_law d b) in
               omega arith;
         }
 
-record-at : (c : Cell) → c.key.recordNumber ≡ pair_at (cellBytes c) 4
-unfolding cellBytes keyBytes pair pair_at
-record-at c = sym (pair_reads c.key.recordNumber)
+record_at_law : (c : Cell) → c.key.record_number ≡ pair_at (cell_bytes c) 4
+unfolding cell_bytes key_bytes pair pair_at
+record_at_law c = sym (pair_reads c.key.record_number)
 
-entry_at : (c : Cell) → c.key.entryNumber ≡ pair_at (cellBytes c) 6
-unfolding cellBytes keyBytes pair pair_at
-entry_at c = sym (pair_reads c.key.entryNumber)
+entry_at : (c : Cell) → c.key.entry_number ≡ pair_at (cell_bytes c) 6
+unfolding cell_bytes key_bytes pair pair_at
+entry_at c = sym (pair_reads c.key.entry_number)
 
 -- ---- what is asked, by the numbers
 
@@ -86,11 +86,11 @@ and_none false = refl
 
 module _ (q : Question) where
   -- what holds of the three questions that the numbers can ask, and of none, holds of what they ask
-  pub by-query : (P : Option Query → Type 0) → P none → P (some (theCell (keyAsked q))) → P (some (highestRecord q.datasource q.parameter)) → P (some (highestEntry q.datasource q.parameter q.«record»)) → P (queryOf q)
-  unfolding queryOf unused
-  by-query P n x y z = go (eqb q.kind 1) (eqb q.kind 2) (eqb q.kind 3) (eqb q.«record» 0) (eqb q.entry 0)
+  pub by_query : (P : Option Query → Type 0) → P none → P (some (the_cell (key_asked q))) → P (some (highest_record q.datasource q.parameter)) → P (some (highest_entry q.datasource q.parameter q.«record»)) → P (query_of q)
+  unfolding query_of unused
+  by_query P n x y z = go (eqb q.kind 1) (eqb q.kind 2) (eqb q.kind 3) (eqb q.«record» 0) (eqb q.entry 0)
     where
-      go : (a b c r e : Bool) → P (cond a (some (theCell (keyAsked q))) (cond b (cond r (cond e (some (highestRecord q.datasource q.parameter)) none) none) (cond c (cond e (some (highestEntry q.datasource q.parameter q.«record»)) none) none)))
+      go : (a b c r e : Bool) → P (cond a (some (the_cell (key_asked q))) (cond b (cond r (cond e (some (highest_record q.datasource q.parameter)) none) none) (cond c (cond e (some (highest_entry q.datasource q.parameter q.«record»)) none) none)))
       go true b c r e = x
       go false true c true true = y
       go false true c true false = n
@@ -100,109 +100,109 @@ module _ (q : Question) where
       go false false false r e = n
 
   -- a question is within its limits where its four numbers are, and those that its kind doesn't use are 0
-  pub by-numbers : questionAllowed q ≡ keyAllowed (keyAsked q) && unusedZero q
-  unfolding questionAllowed queryOf queryAllowed unused unusedZero
-  by-numbers = go (eqb q.kind 1) (eqb q.kind 2) (eqb q.kind 3) (eqb q.«record» 0) refl (eqb q.entry 0) refl
+  pub by_numbers : question_allowed q ≡ key_allowed (key_asked q) && unused_zero q
+  unfolding question_allowed query_of query_allowed unused unused_zero
+  by_numbers = go (eqb q.kind 1) (eqb q.kind 2) (eqb q.kind 3) (eqb q.«record» 0) refl (eqb q.entry 0) refl
     where
-      go : (a b c r : Bool) → eqb q.«record» 0 ≡ r → (e : Bool) → eqb q.entry 0 ≡ e → queryAllowed (cond a (some (theCell (keyAsked q))) (cond b (cond r (cond e (some (highestRecord q.datasource q.parameter)) none) none) (cond c (cond e (some (highestEntry q.datasource q.parameter q.«record»)) none) none))) ≡ keyAllowed (keyAsked q) && cond a true (cond b (r && e) (cond c e false))
-      go true b c r i e j = sym (and_one (keyAllowed (keyAsked q)))
-      go false true c true i true j = rw (eqb-true q.«record» 0 i, eqb-true q.entry 0 j) (sym (and_one (keyAllowed (key_of q.datasource q.parameter 0 0))))
-      go false true c true i false j = sym (and_none (keyAllowed (keyAsked q)))
-      go false true c false i e j = sym (and_none (keyAllowed (keyAsked q)))
-      go false false true r i true j = rw (eqb-true q.entry 0 j) (sym (and_one (keyAllowed (key_of q.datasource q.parameter q.«record» 0))))
-      go false false true r i false j = sym (and_none (keyAllowed (keyAsked q)))
-      go false false false r i e j = sym (and_none (keyAllowed (keyAsked q)))
+      go : (a b c r : Bool) → eqb q.«record» 0 ≡ r → (e : Bool) → eqb q.entry 0 ≡ e → query_allowed (cond a (some (the_cell (key_asked q))) (cond b (cond r (cond e (some (highest_record q.datasource q.parameter)) none) none) (cond c (cond e (some (highest_entry q.datasource q.parameter q.«record»)) none) none))) ≡ key_allowed (key_asked q) && cond a true (cond b (r && e) (cond c e false))
+      go true b c r i e j = sym (and_one (key_allowed (key_asked q)))
+      go false true c true i true j = rw (eqb-true q.«record» 0 i, eqb-true q.entry 0 j) (sym (and_one (key_allowed (key_of q.datasource q.parameter 0 0))))
+      go false true c true i false j = sym (and_none (key_allowed (key_asked q)))
+      go false true c false i e j = sym (and_none (key_allowed (key_asked q)))
+      go false false true r i true j = rw (eqb-true q.entry 0 j) (sym (and_one (key_allowed (key_of q.datasource q.parameter q.«record» 0))))
+      go false false true r i false j = sym (and_none (key_allowed (key_asked q)))
+      go false false false r i e j = sym (and_none (key_allowed (key_asked q)))
 
   module _ (cs : List Cell) where
-    pub answer-one : q.kind ≡ 1 → answer q cs ≡ found (lookup (keyAsNumber (keyAsked q)) cs)
-    unfolding answer queryOf queryAnswer
-    answer-one e = rw (eq-eqb _ _ e)
+    pub answer_one : q.kind ≡ 1 → answer q cs ≡ found (lookup (key_as_number (key_asked q)) cs)
+    unfolding answer query_of query_answer
+    answer_one e = rw (eq-eqb _ _ e)
 
     module _ (a : q.kind ≡ 1 → ⊥) (z : q.entry ≡ 0) where
-      pub answer-two : q.kind ≡ 2 → q.«record» ≡ 0 → answer q cs ≡ highest (highestOf (ofParameter q.datasource q.parameter) (λ c. c.key.recordNumber) cs)
-      unfolding answer queryOf unused queryAnswer
-      answer-two e r = rw (ne_eqb _ _ a, eq-eqb _ _ e, eq-eqb _ _ r, eq-eqb _ _ z)
+      pub answer_two : q.kind ≡ 2 → q.«record» ≡ 0 → answer q cs ≡ highest (highest_of (of_parameter q.datasource q.parameter) (λ c. c.key.record_number) cs)
+      unfolding answer query_of unused query_answer
+      answer_two e r = rw (ne_eqb _ _ a, eq-eqb _ _ e, eq-eqb _ _ r, eq-eqb _ _ z)
 
-      pub answer-three : (q.kind ≡ 2 → ⊥) → q.kind ≡ 3 → answer q cs ≡ highest (highestOf (ofRecord q.datasource q.parameter q.«record») (λ c. c.key.entryNumber) cs)
-      unfolding answer queryOf unused queryAnswer
-      answer-three b e = rw (ne_eqb _ _ a, ne_eqb _ _ b, eq-eqb _ _ e, eq-eqb _ _ z)
+      pub answer_three : (q.kind ≡ 2 → ⊥) → q.kind ≡ 3 → answer q cs ≡ highest (highest_of (of_record q.datasource q.parameter q.«record») (λ c. c.key.entry_number) cs)
+      unfolding answer query_of unused query_answer
+      answer_three b e = rw (ne_eqb _ _ a, ne_eqb _ _ b, eq-eqb _ _ e, eq-eqb _ _ z)
 
 -- ---- the tests of `allowed`
 
-module _ (q : Question) (t : Bool) (k : t ≡ keyAllowed (keyAsked q)) where
-  pub refused-limits : not t ≡ true → false ≡ questionAllowed q
-  refused-limits n = rw (by-numbers q, sym k ∙ not-true t n)
+module _ (q : Question) (t : Bool) (k : t ≡ key_allowed (key_asked q)) where
+  pub refused_limits : not t ≡ true → false ≡ question_allowed q
+  refused_limits n = rw (by_numbers q, sym k ∙ not-true t n)
 
   module _ (n : not t ≡ false) where
-    inside : keyAllowed (keyAsked q) ≡ true
+    inside : key_allowed (key_asked q) ≡ true
     inside = sym k ∙ not-false t n
 
-    pub allowed-one : q.kind ≡ 1 → true ≡ questionAllowed q
-    unfolding unusedZero
-    allowed-one e = rw (by-numbers q, inside, eq-eqb _ _ e)
+    pub allowed_one : q.kind ≡ 1 → true ≡ question_allowed q
+    unfolding unused_zero
+    allowed_one e = rw (by_numbers q, inside, eq-eqb _ _ e)
 
     module _ (a : q.kind ≡ 1 → ⊥) where
-      pub refused-record : q.kind ≡ 2 → 0 < q.«record» → false ≡ questionAllowed q
-      unfolding unusedZero
-      refused-record e h = rw (by-numbers q, inside, ne_eqb _ _ a, eq-eqb _ _ e, ne_eqb q.«record» 0 (λ z. omega arith))
+      pub refused_record : q.kind ≡ 2 → 0 < q.«record» → false ≡ question_allowed q
+      unfolding unused_zero
+      refused_record e h = rw (by_numbers q, inside, ne_eqb _ _ a, eq-eqb _ _ e, ne_eqb q.«record» 0 (λ z. omega arith))
 
-      pub allowed-two : q.kind ≡ 2 → q.«record» ≤ 0 → eqb q.entry 0 ≡ questionAllowed q
-      unfolding unusedZero
-      allowed-two e h = rw (by-numbers q, inside, ne_eqb _ _ a, eq-eqb _ _ e, eq-eqb q.«record» 0 (omega arith))
+      pub allowed_two : q.kind ≡ 2 → q.«record» ≤ 0 → eqb q.entry 0 ≡ question_allowed q
+      unfolding unused_zero
+      allowed_two e h = rw (by_numbers q, inside, ne_eqb _ _ a, eq-eqb _ _ e, eq-eqb q.«record» 0 (omega arith))
 
       module _ (b : q.kind ≡ 2 → ⊥) where
-        pub allowed-three : q.kind ≡ 3 → eqb q.entry 0 ≡ questionAllowed q
-        unfolding unusedZero
-        allowed-three e = rw (by-numbers q, inside, ne_eqb _ _ a, ne_eqb _ _ b, eq-eqb _ _ e)
+        pub allowed_three : q.kind ≡ 3 → eqb q.entry 0 ≡ question_allowed q
+        unfolding unused_zero
+        allowed_three e = rw (by_numbers q, inside, ne_eqb _ _ a, ne_eqb _ _ b, eq-eqb _ _ e)
 
-        pub refused-kind : (q.kind ≡ 3 → ⊥) → false ≡ questionAllowed q
-        unfolding unusedZero
-        refused-kind e = rw (by-numbers q, inside, ne_eqb _ _ a, ne_eqb _ _ b, ne_eqb _ _ e)
+        pub refused_kind : (q.kind ≡ 3 → ⊥) → false ≡ question_allowed q
+        unfolding unused_zero
+        refused_kind e = rw (by_numbers q, inside, ne_eqb _ _ a, ne_eqb _ _ b, ne_eqb _ _ e)
 
 -- ---- the answers of `answer`
 
-module _ (b index : List ℕ) (count : ℕ) (q : Question) (t : Bool) (k : t ≡ questionAllowed q) where
-  pub answers-refused : not t ≡ true → Answers b index count q Missing
+module _ (b index : List ℕ) (count : ℕ) (q : Question) (t : Bool) (k : t ≡ question_allowed q) where
+  pub answers_refused : not t ≡ true → Answers b index count q Missing
   unfolding meant InStore
-  answers-refused n = record { answer = λ m cs r. rw (sym k ∙ not-true t n); inside = λ m cs r. tt }
+  answers_refused n = record { answer = λ m cs r. rw (sym k ∙ not-true t n); inside = λ m cs r. tt }
 
   module _ (n : not t ≡ false) where
-    whole : questionAllowed q ≡ true
+    whole : question_allowed q ≡ true
     whole = sym k ∙ not-false t n
 
-    parts : (keyAllowed (keyAsked q) ≡ true) × (unusedZero q ≡ true)
-    parts = and-true (keyAllowed (keyAsked q)) (unusedZero q) (sym (by-numbers q) ∙ whole)
+    parts : (key_allowed (key_asked q) ≡ true) × (unused_zero q ≡ true)
+    parts = and_true (key_allowed (key_asked q)) (unused_zero q) (sym (by_numbers q) ∙ whole)
 
-    pub key-inside : keyAllowed (keyAsked q) ≡ true
-    key-inside = parts.0
+    pub key_inside : key_allowed (key_asked q) ≡ true
+    key_inside = parts.0
 
-    module _ (key : ℕ) (e : key ≡ keyAsNumber (keyAsked q)) where
-      pub answers-cell : q.kind ≡ 1 → (r : Answered) → CellAnswer b index count key r → Answers b index count q r
-      unfolding stringStart
-      answers-cell o r c = record { answer = λ m cs d. rw (whole, answer-one q cs o, ← e) (c.found m cs d); inside = λ m cs d. rw (← e) (c.inside m cs d) }
+    module _ (key : ℕ) (e : key ≡ key_as_number (key_asked q)) where
+      pub answers_cell : q.kind ≡ 1 → (r : Answered) → CellAnswer b index count key r → Answers b index count q r
+      unfolding string_start
+      answers_cell o r c = record { answer = λ m cs d. rw (whole, answer_one q cs o, ← e) (c.found m cs d); inside = λ m cs d. rw (← e) (c.inside m cs d) }
 
       module _ (o : q.kind ≡ 1 → ⊥) (r : ℕ) where
-        answers-records : q.kind ≡ 2 → I.Highest b index count key (key + 4294967296) 4 r → Answers b index count q (Highest r)
-        unfolding meant unusedZero InStore
-        answers-records w h = record { answer = go; inside = λ m cs d. tt }
+        answers_records : q.kind ≡ 2 → I.Highest b index count key (key + 4294967296) 4 r → Answers b index count q (Highest r)
+        unfolding meant unused_zero InStore
+        answers_records w h = record { answer = go; inside = λ m cs d. tt }
           where
             zeros : (q.«record» ≡ 0) × (q.entry ≡ 0)
             zeros =
                 let z : eqb q.«record» 0 && eqb q.entry 0 ≡ true = rw (ne_eqb _ _ o, eq-eqb _ _ w) at parts.1 in
-                let a = and-true (eqb q.«record» 0) (eqb q.entry 0) z in
+                let a = and_true (eqb q.«record» 0) (eqb q.entry 0) z in
                 (eqb-true _ _ a.0, eqb-true _ _ a.1)
 
-            range : Range (ofParameter q.datasource q.parameter) (λ c. c.key.recordNumber) key (key + 4294967296)
-            range = rw e (parameter-range (keyAsked q) (limits (keyAsked q) key-inside) zeros.1 zeros.0)
+            range : Range (of_parameter q.datasource q.parameter) (λ c. c.key.record_number) key (key + 4294967296)
+            range = rw e (parameter_range (key_asked q) (limits (key_asked q) key_inside) zeros.1 zeros.0)
 
-            go : (m : ℕ) (cs : List Cell) → Ready b m index count cs → highest r ≡ cond (questionAllowed q) (answer q cs) missing
+            go : (m : ℕ) (cs : List Cell) → Ready b m index count cs → highest r ≡ cond (question_allowed q) (answer q cs) missing
             go m cs d =
-                rw (whole, answer-two q cs o zeros.1 w zeros.0)
-                (ap highest (highest-in (ofParameter q.datasource q.parameter) (λ c. c.key.recordNumber) key (key + 4294967296) 4 range record-at cs (held-some b m cs d.holds).holds.valid.allowed r (h.last m cs d)))
+                rw (whole, answer_two q cs o zeros.1 w zeros.0)
+                (ap highest (highest_in (of_parameter q.datasource q.parameter) (λ c. c.key.record_number) key (key + 4294967296) 4 range record_at_law cs (held_some b m cs d.holds).holds.valid.allowed r (h.last m cs d)))
 
-        answers-entries : (q.kind ≡ 2 → ⊥) → I.Highest b index count key (key + 65536) 6 r → Answers b index count q (Highest r)
-        unfolding meant unusedZero InStore
-        answers-entries w h = record { answer = go; inside = λ m cs d. tt }
+        answers_entries : (q.kind ≡ 2 → ⊥) → I.Highest b index count key (key + 65536) 6 r → Answers b index count q (Highest r)
+        unfolding meant unused_zero InStore
+        answers_entries w h = record { answer = go; inside = λ m cs d. tt }
           where
             third : (x : Bool) → eqb q.kind 3 ≡ x → cond x (eqb q.entry 0) false ≡ true → (q.kind ≡ 3) × (q.entry ≡ 0)
             third true t y = (eqb-true _ _ t, eqb-true _ _ y)
@@ -211,33 +211,33 @@ module _ (b index : List ℕ) (count : ℕ) (q : Question) (t : Bool) (k : t ≡
             three : (q.kind ≡ 3) × (q.entry ≡ 0)
             three = third (eqb q.kind 3) refl (rw (ne_eqb _ _ o, ne_eqb _ _ w) at parts.1)
 
-            range : Range (ofRecord q.datasource q.parameter q.«record») (λ c. c.key.entryNumber) key (key + 65536)
-            range = rw e (record-range (keyAsked q) (limits (keyAsked q) key-inside) three.1)
+            range : Range (of_record q.datasource q.parameter q.«record») (λ c. c.key.entry_number) key (key + 65536)
+            range = rw e (record_range (key_asked q) (limits (key_asked q) key_inside) three.1)
 
-            go : (m : ℕ) (cs : List Cell) → Ready b m index count cs → highest r ≡ cond (questionAllowed q) (answer q cs) missing
+            go : (m : ℕ) (cs : List Cell) → Ready b m index count cs → highest r ≡ cond (question_allowed q) (answer q cs) missing
             go m cs d =
-                rw (whole, answer-three q cs o three.1 w three.0)
-                (ap highest (highest-in (ofRecord q.datasource q.parameter q.«record») (λ c. c.key.entryNumber) key (key + 65536) 6 range entry_at cs (held-some b m cs d.holds).holds.valid.allowed r (h.last m cs d)))
+                rw (whole, answer_three q cs o three.1 w three.0)
+                (ap highest (highest_in (of_record q.datasource q.parameter q.«record») (λ c. c.key.entry_number) key (key + 65536) 6 range entry_at cs (held_some b m cs d.holds).holds.valid.allowed r (h.last m cs d)))
 
-        pub answers-highest : (reach offset : ℕ) → reach ≡ reachOf q.kind → offset ≡ offset_of q.kind → I.Highest b index count key (key + reach) offset r → Answers b index count q (Highest r)
-        unfolding reachOf offset_of
-        answers-highest reach offset u v h = go (eqb q.kind 2) refl (rw (u, v) at h)
+        pub answers_highest : (reach offset : ℕ) → reach ≡ reach_of q.kind → offset ≡ offset_of q.kind → I.Highest b index count key (key + reach) offset r → Answers b index count q (Highest r)
+        unfolding reach_of offset_of
+        answers_highest reach offset u v h = go (eqb q.kind 2) refl (rw (u, v) at h)
           where
             go : (x : Bool) → eqb q.kind 2 ≡ x → I.Highest b index count key (key + cond x 4294967296 65536) (cond x 4 6) r → Answers b index count q (Highest r)
-            go true y h = answers-records (eqb-true _ _ y) h
-            go false y h = answers-entries (λ w. false≢true (sym y ∙ eq-eqb _ _ w)) h
+            go true y h = answers_records (eqb-true _ _ y) h
+            go false y h = answers_entries (λ w. false≢true (sym y ∙ eq-eqb _ _ w)) h
 
-pub reach-most : (kind : ℕ) → reachOf kind ≤ 4294967296
-unfolding reachOf
-reach-most kind = go (eqb kind 2)
+pub reach_most : (kind : ℕ) → reach_of kind ≤ 4294967296
+unfolding reach_of
+reach_most kind = go (eqb kind 2)
   where
     go : (x : Bool) → cond x 4294967296 65536 ≤ 4294967296
     go true = omega arith
     go false = omega arith
 
-pub offset-most : (kind : ℕ) → offset_of kind ≤ 6
+pub offset_most : (kind : ℕ) → offset_of kind ≤ 6
 unfolding offset_of
-offset-most kind = go (eqb kind 2)
+offset_most kind = go (eqb kind 2)
   where
     go : (x : Bool) → cond x 4 6 ≤ 6
     go true = omega arith

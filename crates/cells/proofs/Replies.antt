@@ -12,37 +12,37 @@ use Rattle.cells.specs.declared.Answered.{Answered}
 use Rattle.cells.specs.declared.Answered.TheVariants.{Missing, Integer, Decimal, StringAt, Highest}
 use Rattle.cells.specs.declared.index.Indexed.{Indexed}
 use Rattle.cells.specs.declared.index.Indexed.TheVariants.{Count, BadStore}
-use Rattle.cells.specs.Cell.{Cell, cellAllowed, cellBytes}
-use Rattle.cells.specs.Store.{encode, cellsAllowed, cellsHeld}
-use Rattle.cells.specs.inner.Index.{offsets, counted, Filled, Indexes, Ready, InStore, Answers}
-use Rattle.cells.specs.Asking.{questionAllowed, answer, refusedWith, replied, askOf, stringStart, handed, asked_of, meant}
-use Rattle.cells.proofs.BigEndian.{and-true}
-use Rattle.cells.proofs.Locating.{held-some, cell-least}
-use Rattle.cells.proofs.Walking.{length-offsets}
+use Rattle.cells.specs.Cell.{Cell, cell_allowed, cell_bytes}
+use Rattle.cells.specs.Store.{encode, cells_allowed, cells_held}
+use Rattle.cells.specs.Inner.Index.{offsets, counted, Filled, Indexes, Ready, InStore, Answers}
+use Rattle.cells.specs.Asking.{question_allowed, answer, refused_with, replied, ask_of, string_start, handed, asked_of, meant}
+use Rattle.cells.proofs.BigEndian.{and_true}
+use Rattle.cells.proofs.Locating.{held_some, cell_least}
+use Rattle.cells.proofs.Walking.{length_offsets}
 
 -- ---- an answer is handed back as what it means, from its place
 
-pub as-handed : (b : List ℕ) (n i : ℕ) (x : Answered) → InStore b n i x → x ≡ handed i (meant b x)
+pub as_handed : (b : List ℕ) (n i : ℕ) (x : Answered) → InStore b n i x → x ≡ handed i (meant b x)
 unfolding InStore handed meant
-as-handed b n i Missing s = refl
-as-handed b n i (Integer z) s = refl
-as-handed b n i (Decimal z) s = refl
-as-handed b n i (StringAt j k) s = ap₂ StringAt s.0 (sym (length-take-le k (drop j b) (omega (arith, s.1, s.2, length-drop j b))))
-as-handed b n i (Highest m) s = refl
+as_handed b n i Missing s = refl
+as_handed b n i (Integer z) s = refl
+as_handed b n i (Decimal z) s = refl
+as_handed b n i (StringAt j k) s = ap₂ StringAt s.0 (sym (length-take-le k (drop j b) (omega (arith, s.1, s.2, length-drop j b))))
+as_handed b n i (Highest m) s = refl
 
-pub answer-handed : {b p : List ℕ} {n count : ℕ} {cs : List Cell} (q : Question) (x : Answered) → Answers b p count q x → Ready b n p count cs → x ≡ handed (stringStart q (some cs)) (cond (questionAllowed q) (answer q cs) missing)
-answer-handed {b = b} {n = n} {cs = cs} q x w r =
-    as-handed b n (stringStart q (some cs)) x (w.inside n cs r) ∙ ap (handed (stringStart q (some cs))) (w.answer n cs r)
+pub answer_handed : {b p : List ℕ} {n count : ℕ} {cs : List Cell} (q : Question) (x : Answered) → Answers b p count q x → Ready b n p count cs → x ≡ handed (string_start q (some cs)) (cond (question_allowed q) (answer q cs) missing)
+answer_handed {b = b} {n = n} {cs = cs} q x w r =
+    as_handed b n (string_start q (some cs)) x (w.inside n cs r) ∙ ap (handed (string_start q (some cs))) (w.answer n cs r)
 
 -- ---- what the index tells
 
-no-count : {n : ℕ} → BadStore ≡ Count n → ⊥
-no-count e = let z : ◌≡◌ {A = ℕ} 0 1 = cc in omega arith
+no_count : {n : ℕ} → BadStore ≡ Count n → ⊥
+no_count e = let z : ◌≡◌ {A = ℕ} 0 1 = cc in omega arith
 
-pub none-counted : (o : Option (List Cell)) → BadStore ≡ counted o → o ≡ none
+pub none_counted : (o : Option (List Cell)) → BadStore ≡ counted o → o ≡ none
 unfolding counted
-none-counted none e = refl
-none-counted (some cs) e = absurd (no-count e)
+none_counted none e = refl
+none_counted (some cs) e = absurd (no_count e)
 
 pub record Found (o : Option (List Cell)) (p p' : List ℕ) (n : ℕ) : Type 0 where
   pub cells : List Cell
@@ -50,34 +50,34 @@ pub record Found (o : Option (List Cell)) (p p' : List ℕ) (n : ℕ) : Type 0 w
   pub tally : n ≡ length cells
   pub filled : p' ≡ sets p 0 (offsets 0 cells)
 
-pub some-counted : (o : Option (List Cell)) (p p' : List ℕ) (n : ℕ) → Count n ≡ counted o → Filled p p' o → Found o p p' n
+pub some_counted : (o : Option (List Cell)) (p p' : List ℕ) (n : ℕ) → Count n ≡ counted o → Filled p p' o → Found o p p' n
 unfolding counted Filled
-some-counted none p p' n e f = absurd (no-count (sym e))
-some-counted (some cs) p p' n e f = record { cells = cs; held = refl; tally = cc; filled = f }
+some_counted none p p' n e f = absurd (no_count (sym e))
+some_counted (some cs) p p' n e f = record { cells = cs; held = refl; tally = cc; filled = f }
 
 -- 65,536 bytes hold at most 5,461 cells
-pub encode-least : (cs : List Cell) → cellsAllowed cs ≡ true → 12 * length cs ≤ length (encode cs)
-unfolding encode cellsAllowed
-encode-least [] a = omega arith
-encode-least (c ∷ cs) a =
-    let t = and-true (cellAllowed c) (cellsAllowed cs) a in
-    omega (arith, length-append (cellBytes c) (encode cs), cell-least c t.0, encode-least cs t.1)
+pub encode_least : (cs : List Cell) → cells_allowed cs ≡ true → 12 * length cs ≤ length (encode cs)
+unfolding encode cells_allowed
+encode_least [] a = omega arith
+encode_least (c ∷ cs) a =
+    let t = and_true (cell_allowed c) (cells_allowed cs) a in
+    omega (arith, length-append (cell_bytes c) (encode cs), cell_least c t.0, encode_least cs t.1)
 
-module _ (b : List ℕ) (n : ℕ) (p p' : List ℕ) (r : Indexed) (i : Indexes p (cellsHeld b n) p' r) where
-  pub not-held : r ≡ BadStore → cellsHeld b n ≡ none
-  not-held e = none-counted (cellsHeld b n) (sym e ∙ i.told)
+module _ (b : List ℕ) (n : ℕ) (p p' : List ℕ) (r : Indexed) (i : Indexes p (cells_held b n) p' r) where
+  pub not_held : r ≡ BadStore → cells_held b n ≡ none
+  not_held e = none_counted (cells_held b n) (sym e ∙ i.told)
 
-  pub built : (count : ℕ) → r ≡ Count count → Found (cellsHeld b n) p p' count
-  built count e = some-counted (cellsHeld b n) p p' count (sym e ∙ i.told) i.filled
+  pub built : (count : ℕ) → r ≡ Count count → Found (cells_held b n) p p' count
+  built count e = some_counted (cells_held b n) p p' count (sym e ∙ i.told) i.filled
 
   -- an index with room for 5,461 places serves for every store
-  pub index-ready : (count : ℕ) → r ≡ Count count → 5461 ≤ length p → (cs : List Cell) × Ready b n p' count cs
-  index-ready count e l =
+  pub index_ready : (count : ℕ) → r ≡ Count count → 5461 ≤ length p → (cs : List Cell) × Ready b n p' count cs
+  index_ready count e l =
       let f = built count e in
       let cs = f.cells in
-      let h = held-some b n cs f.held in
-      let m : 12 * length cs ≤ 65536 = omega (arith, encode-least cs h.holds.valid.allowed, ap length h.holds.bytes, length-take-le n b h.inside, h.most) in
-      let k : length (offsets 0 cs) ≡ length cs = length-offsets cs 0 in
+      let h = held_some b n cs f.held in
+      let m : 12 * length cs ≤ 65536 = omega (arith, encode_least cs h.holds.valid.allowed, ap length h.holds.bytes, length-take-le n b h.inside, h.most) in
+      let k : length (offsets 0 cs) ≡ length cs = length_offsets cs 0 in
       let s : p' ≡ offsets 0 cs ++ drop (0 + length (offsets 0 cs)) p = f.filled ∙ sets-eq (offsets 0 cs) p 0 (omega arith) in (
         cs,
         record {
@@ -90,19 +90,19 @@ module _ (b : List ℕ) (n : ℕ) (p p' : List ℕ) (r : Indexed) (i : Indexes p
 
   -- ---- the answers of `ask`
 
-  pub ask-bad-store : (q : Question) → r ≡ BadStore → record { end = refusedWith R.BadStore; answer = Missing } ≡ asked_of b n q
-  unfolding asked_of askOf replied handed
-  ask-bad-store q e = rw (not-held e)
+  pub ask_bad_store : (q : Question) → r ≡ BadStore → record { end = refused_with R.BadStore; answer = Missing } ≡ asked_of b n q
+  unfolding asked_of ask_of replied handed
+  ask_bad_store q e = rw (not_held e)
 
-  module _ (q : Question) (count : ℕ) (e : r ≡ Count count) (t : Bool) (a : t ≡ questionAllowed q) where
-    pub ask-bad-request : not t ≡ true → record { end = refusedWith R.BadRequest; answer = Missing } ≡ asked_of b n q
-    unfolding asked_of askOf replied handed
-    ask-bad-request u = rw ((built count e).held, sym a ∙ not-true t u)
+  module _ (q : Question) (count : ℕ) (e : r ≡ Count count) (t : Bool) (a : t ≡ question_allowed q) where
+    pub ask_bad_request : not t ≡ true → record { end = refused_with R.BadRequest; answer = Missing } ≡ asked_of b n q
+    unfolding asked_of ask_of replied handed
+    ask_bad_request u = rw ((built count e).held, sym a ∙ not-true t u)
 
-    pub ask-answered : not t ≡ false → 5461 ≤ length p → (x : Answered) → Answers b p' count q x → record { end = Finished; answer = x } ≡ asked_of b n q
-    unfolding asked_of askOf replied
-    ask-answered u l x w =
-        let g = index-ready count e l in
-        let v : questionAllowed q ≡ true = sym a ∙ not-false t u in
-        let h : x ≡ handed (stringStart q (some g.0)) (cond (questionAllowed q) (answer q g.0) missing) = answer-handed q x w g.1 in
+    pub ask_answered : not t ≡ false → 5461 ≤ length p → (x : Answered) → Answers b p' count q x → record { end = Finished; answer = x } ≡ asked_of b n q
+    unfolding asked_of ask_of replied
+    ask_answered u l x w =
+        let g = index_ready count e l in
+        let v : question_allowed q ≡ true = sym a ∙ not-false t u in
+        let h : x ≡ handed (string_start q (some g.0)) (cond (question_allowed q) (answer q g.0) missing) = answer_handed q x w g.1 in
         rw (g.1.holds, v) (ap (λ (y : Answered). record { end = Finished; answer = y }) (rw v at h))

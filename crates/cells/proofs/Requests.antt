@@ -4,128 +4,128 @@ use mathlib.Core.Bool.{false≢true}
 use mathlib.Core.Option.{Option, none, some}
 use borrow.Author.Tests.{not-true, not-false}
 use Rattle.cells.specs.declared.request.Request.TheVariants as R
-use Rattle.cells.specs.Bytes.{begins, equalBytes}
-use Rattle.cells.specs.Cell.{Key, Cell, keyAsNumber, keyAllowed, key_at, keyBytes, cellAllowed, cellBytes, cell_of, kindByte, passing, front, wholeCell, wholeKey}
-use Rattle.cells.specs.inner.Tests.{sizeFound, frontSize, Sized}
-use Rattle.cells.specs.inner.Request.{requested, requestedKey, CellAsked, KeyAsked}
-use Rattle.cells.proofs.BigEndian.{Bytes, and-true, both, begins-self, begins-says}
-use Rattle.cells.proofs.CellForm.{passing-some, front-some, front-cell, cell-reads, value-allowed, cell-key, key_back, length-key, key_reads, cell-size, size-most}
-use Rattle.cells.proofs.Walking.{size-found, size_none}
-use Rattle.cells.proofs.Runs.{some_inj, none-some, cell-some}
+use Rattle.cells.specs.Bytes.{begins, equal_bytes}
+use Rattle.cells.specs.Cell.{Key, Cell, key_as_number, key_allowed, key_at, key_bytes, cell_allowed, cell_bytes, cell_of, kind_byte, passing, front, whole_cell, whole_key}
+use Rattle.cells.specs.Inner.Tests.{size_found, front_size, Sized}
+use Rattle.cells.specs.Inner.Request.{requested, requested_key, CellAsked, KeyAsked}
+use Rattle.cells.proofs.BigEndian.{Bytes, and_true, both, begins_self, begins_says}
+use Rattle.cells.proofs.CellForm.{passing_some, front_some, front_cell, cell_reads, value_allowed_law, cell_key, key_back, length_key, key_reads, cell_size, size_most}
+use Rattle.cells.proofs.Walking.{size_found_law, size_none}
+use Rattle.cells.proofs.Runs.{some_inj, none_some, cell_some}
 
 -- s is the bytes of a cell within the limits
 pub record Whole (s : List ℕ) (c : Cell) : Type 0 where
-  pub allowed : cellAllowed c ≡ true
-  pub bytes : s ≡ cellBytes c
+  pub allowed : cell_allowed c ≡ true
+  pub bytes : s ≡ cell_bytes c
 
-same-says : (p s : List ℕ) → equalBytes p s ≡ true → s ≡ p
-unfolding equalBytes
-same-says p s e =
-    let t = and-true (begins p s) (eqb (length p) (length s)) e in
+same_says : (p s : List ℕ) → equal_bytes p s ≡ true → s ≡ p
+unfolding equal_bytes
+same_says p s e =
+    let t = and_true (begins p s) (eqb (length p) (length s)) e in
     let l : length p ≡ length s = eqb-true _ _ t.1 in
-    begins-says p s t.0 ∙ ap (λ (x : List ℕ). p ++ x) (drop_of_length-le s {i = length p} (omega arith)) ∙ append-nil p
+    begins_says p s t.0 ∙ ap (λ (x : List ℕ). p ++ x) (drop_of_length-le s {i = length p} (omega arith)) ∙ append-nil p
 
-same_self : (p : List ℕ) → equalBytes p p ≡ true
-unfolding equalBytes
-same_self p = both (ap (begins p) (sym (append-nil p)) ∙ begins-self p []) (eq-eqb (length p) (length p) refl)
+same_self : (p : List ℕ) → equal_bytes p p ≡ true
+unfolding equal_bytes
+same_self p = both (ap (begins p) (sym (append-nil p)) ∙ begins_self p []) (eq-eqb (length p) (length p) refl)
 
-pub whole-some : (s : List ℕ) (c : Cell) → wholeCell s ≡ some c → Whole s c
-unfolding wholeCell
-whole-some s c e = let h = passing-some (λ b. equalBytes b s) (cell_of s) c e in record { allowed = h.0; bytes = same-says _ _ h.1 }
+pub whole_some : (s : List ℕ) (c : Cell) → whole_cell s ≡ some c → Whole s c
+unfolding whole_cell
+whole_some s c e = let h = passing_some (λ b. equal_bytes b s) (cell_of s) c e in record { allowed = h.0; bytes = same_says _ _ h.1 }
 
-pub whole-cell : (c : Cell) → cellAllowed c ≡ true → wholeCell (cellBytes c) ≡ some c
-unfolding wholeCell passing
-whole-cell c e =
-    ap (passing (λ b. equalBytes b (cellBytes c))) (ap cell_of (sym (append-nil (cellBytes c))) ∙ cell-reads c [] (value-allowed c e)) ∙ rw (e, same_self (cellBytes c))
+pub whole_cell_law : (c : Cell) → cell_allowed c ≡ true → whole_cell (cell_bytes c) ≡ some c
+unfolding whole_cell passing
+whole_cell_law c e =
+    ap (passing (λ b. equal_bytes b (cell_bytes c))) (ap cell_of (sym (append-nil (cell_bytes c))) ∙ cell_reads c [] (value_allowed_law c e)) ∙ rw (e, same_self (cell_bytes c))
 
-no_whole : (s : List ℕ) → ((c : Cell) → Whole s c → ⊥) → CellAsked s (wholeCell s) R.Bad
+no_whole : (s : List ℕ) → ((c : Cell) → Whole s c → ⊥) → CellAsked s (whole_cell s) R.Bad
 unfolding requested
-no_whole s n = go (wholeCell s) refl
+no_whole s n = go (whole_cell s) refl
   where
-    go : (o : Option Cell) → wholeCell s ≡ o → CellAsked s o R.Bad
-    go none e = record { told = refl; short = λ c q. absurd (none-some q) }
-    go (some c) e = absurd (n c (whole-some s c e))
+    go : (o : Option Cell) → whole_cell s ≡ o → CellAsked s o R.Bad
+    go none e = record { told = refl; short = λ c q. absurd (none_some q) }
+    go (some c) e = absurd (n c (whole_some s c e))
 
 -- the answers of `cell_request`
 module _ (s : List ℕ) (size : ℕ) (z : Sized s size) where
-  size_is : (c : Cell) → Whole s c → size ≡ length (cellBytes c)
-  unfolding frontSize sizeFound
-  size_is c w = z.size ∙ ap sizeFound (ap front (w.bytes ∙ sym (append-nil (cellBytes c))) ∙ front-cell c [] w.allowed)
+  size_is : (c : Cell) → Whole s c → size ≡ length (cell_bytes c)
+  unfolding front_size size_found
+  size_is c w = z.size ∙ ap size_found (ap front (w.bytes ∙ sym (append-nil (cell_bytes c))) ∙ front_cell c [] w.allowed)
 
-  pub request-none : size < 1 → CellAsked s (wholeCell s) R.Bad
-  request-none h = no_whole s (λ c w. omega (arith, size_is c w, cell-some c))
+  pub request_none : size < 1 → CellAsked s (whole_cell s) R.Bad
+  request_none h = no_whole s (λ c w. omega (arith, size_is c w, cell_some c))
 
-  pub request-more : size < length s → CellAsked s (wholeCell s) R.Bad
-  request-more h = no_whole s (λ c w. omega (arith, size_is c w, ap length w.bytes))
+  pub request_more : size < length s → CellAsked s (whole_cell s) R.Bad
+  request_more h = no_whole s (λ c w. omega (arith, size_is c w, ap length w.bytes))
 
-  pub request-cell : 1 ≤ size → length s ≤ size → (key : ℕ) → key ≡ keyAsNumber (key_at s 1) → CellAsked s (wholeCell s) (R.Key key)
+  pub request_cell : 1 ≤ size → length s ≤ size → (key : ℕ) → key ≡ key_as_number (key_at s 1) → CellAsked s (whole_cell s) (R.Key key)
   unfolding requested
-  request-cell h l key k = go (front s) refl
+  request_cell h l key k = go (front s) refl
     where
-      found : (c : Cell) → s ≡ cellBytes c → cellAllowed c ≡ true → CellAsked s (wholeCell s) (R.Key key)
+      found : (c : Cell) → s ≡ cell_bytes c → cell_allowed c ≡ true → CellAsked s (whole_cell s) (R.Key key)
       found c e a =
-          rw (ap wholeCell e ∙ whole-cell c a)
+          rw (ap whole_cell e ∙ whole_cell_law c a)
           (record {
-            told = ap R.Key (k ∙ ap (λ (x : List ℕ). keyAsNumber (key_at x 1)) (e ∙ sym (append-nil (cellBytes c))) ∙ ap keyAsNumber (cell-key c []));
-            short = λ d q. omega (arith, ap length e, cell-size c.key c.value (value-allowed c a), size-most (kindByte c.value));
+            told = ap R.Key (k ∙ ap (λ (x : List ℕ). key_as_number (key_at x 1)) (e ∙ sym (append-nil (cell_bytes c))) ∙ ap key_as_number (cell_key c []));
+            short = λ d q. omega (arith, ap length e, cell_size c.key c.value (value_allowed_law c a), size_most (kind_byte c.value));
           })
 
-      go : (o : Option Cell) → front s ≡ o → CellAsked s (wholeCell s) (R.Key key)
+      go : (o : Option Cell) → front s ≡ o → CellAsked s (whole_cell s) (R.Key key)
       go none e = absurd (omega (arith, size_none s size z.size e))
       go (some c) e =
-          let f = front-some s c e in
-          let n : size ≡ length (cellBytes c) = size-found s size c z.size e in
-          found c (f.bytes ∙ ap (λ (x : List ℕ). cellBytes c ++ x) (drop_of_length-le s {i = length (cellBytes c)} (omega arith)) ∙ append-nil (cellBytes c)) f.allowed
+          let f = front_some s c e in
+          let n : size ≡ length (cell_bytes c) = size_found_law s size c z.size e in
+          found c (f.bytes ∙ ap (λ (x : List ℕ). cell_bytes c ++ x) (drop_of_length-le s {i = length (cell_bytes c)} (omega arith)) ∙ append-nil (cell_bytes c)) f.allowed
 
 -- ---- keys
 
 pub record WholeKey (s : List ℕ) (k : Key) : Type 0 where
-  pub allowed : keyAllowed k ≡ true
-  pub bytes : s ≡ keyBytes k
+  pub allowed : key_allowed k ≡ true
+  pub bytes : s ≡ key_bytes k
 
-pub key-some : (s : List ℕ) (k : Key) → wholeKey s ≡ some k → WholeKey s k
-unfolding wholeKey
-key-some s k e = go (keyAllowed (key_at s 0) && equalBytes (keyBytes (key_at s 0)) s) refl e
+pub key_some : (s : List ℕ) (k : Key) → whole_key s ≡ some k → WholeKey s k
+unfolding whole_key
+key_some s k e = go (key_allowed (key_at s 0) && equal_bytes (key_bytes (key_at s 0)) s) refl e
   where
-    go : (t : Bool) → keyAllowed (key_at s 0) && equalBytes (keyBytes (key_at s 0)) s ≡ t → cond t (some (key_at s 0)) none ≡ some k → WholeKey s k
+    go : (t : Bool) → key_allowed (key_at s 0) && equal_bytes (key_bytes (key_at s 0)) s ≡ t → cond t (some (key_at s 0)) none ≡ some k → WholeKey s k
     go true t q =
-        let h = and-true (keyAllowed (key_at s 0)) (equalBytes (keyBytes (key_at s 0)) s) t in
-        subst (WholeKey s) (some_inj q) (record { allowed = h.0; bytes = same-says _ _ h.1 })
-    go false t q = absurd (none-some q)
+        let h = and_true (key_allowed (key_at s 0)) (equal_bytes (key_bytes (key_at s 0)) s) t in
+        subst (WholeKey s) (some_inj q) (record { allowed = h.0; bytes = same_says _ _ h.1 })
+    go false t q = absurd (none_some q)
 
--- reading is the inverse of writing: a key's bytes are that key's, and no other's (`key-some`)
-pub whole-key : (k : Key) → keyAllowed k ≡ true → wholeKey (keyBytes k) ≡ some k
-unfolding wholeKey
-whole-key k e =
-    ap (λ (x : Key). cond (keyAllowed x && equalBytes (keyBytes x) (keyBytes k)) (some x) none) (ap (λ (s : List ℕ). key_at s 0) (sym (append-nil (keyBytes k))) ∙ key_reads k [])
-    ∙ rw (e, same_self (keyBytes k))
+-- reading is the inverse of writing: a key's bytes are that key's, and no other's (`key_some`)
+pub whole_key_law : (k : Key) → key_allowed k ≡ true → whole_key (key_bytes k) ≡ some k
+unfolding whole_key
+whole_key_law k e =
+    ap (λ (x : Key). cond (key_allowed x && equal_bytes (key_bytes x) (key_bytes k)) (some x) none) (ap (λ (s : List ℕ). key_at s 0) (sym (append-nil (key_bytes k))) ∙ key_reads k [])
+    ∙ rw (e, same_self (key_bytes k))
 
-no_key : (s : List ℕ) → ((k : Key) → WholeKey s k → ⊥) → KeyAsked (wholeKey s) R.Bad
-unfolding requestedKey
-no_key s n = go (wholeKey s) refl
+no_key : (s : List ℕ) → ((k : Key) → WholeKey s k → ⊥) → KeyAsked (whole_key s) R.Bad
+unfolding requested_key
+no_key s n = go (whole_key s) refl
   where
-    go : (o : Option Key) → wholeKey s ≡ o → KeyAsked o R.Bad
+    go : (o : Option Key) → whole_key s ≡ o → KeyAsked o R.Bad
     go none e = record { told = refl }
-    go (some k) e = absurd (n k (key-some s k e))
+    go (some k) e = absurd (n k (key_some s k e))
 
 -- the answers of `key_request`
 module _ (s : List ℕ) where
-  key-length : (k : Key) → WholeKey s k → length s ≡ 7
-  key-length k w = ap length w.bytes ∙ length-key k
+  key_length : (k : Key) → WholeKey s k → length s ≡ 7
+  key_length k w = ap length w.bytes ∙ length_key k
 
-  pub key-short : length s < 7 → KeyAsked (wholeKey s) R.Bad
-  key-short h = no_key s (λ k w. omega (arith, key-length k w))
+  pub key_short : length s < 7 → KeyAsked (whole_key s) R.Bad
+  key_short h = no_key s (λ k w. omega (arith, key_length k w))
 
-  pub key-long : 7 < length s → KeyAsked (wholeKey s) R.Bad
-  key-long h = no_key s (λ k w. omega (arith, key-length k w))
+  pub key_long : 7 < length s → KeyAsked (whole_key s) R.Bad
+  key_long h = no_key s (λ k w. omega (arith, key_length k w))
 
-  module _ (t : Bool) (a : t ≡ keyAllowed (key_at s 0)) where
-    pub key-out : not t ≡ true → KeyAsked (wholeKey s) R.Bad
-    key-out n =
-        no_key s (λ k w. false≢true (sym (not-true t n) ∙ a ∙ ap (λ (x : List ℕ). keyAllowed (key_at x 0)) (w.bytes ∙ sym (append-nil (keyBytes k))) ∙ ap keyAllowed (key_reads k []) ∙ w.allowed))
+  module _ (t : Bool) (a : t ≡ key_allowed (key_at s 0)) where
+    pub key_out : not t ≡ true → KeyAsked (whole_key s) R.Bad
+    key_out n =
+        no_key s (λ k w. false≢true (sym (not-true t n) ∙ a ∙ ap (λ (x : List ℕ). key_allowed (key_at x 0)) (w.bytes ∙ sym (append-nil (key_bytes k))) ∙ ap key_allowed (key_reads k []) ∙ w.allowed))
 
-    pub key_in : not t ≡ false → Bytes s → 7 ≤ length s → length s ≤ 7 → (key : ℕ) → key ≡ keyAsNumber (key_at s 0) → KeyAsked (wholeKey s) (R.Key key)
-    unfolding wholeKey requestedKey
+    pub key_in : not t ≡ false → Bytes s → 7 ≤ length s → length s ≤ 7 → (key : ℕ) → key ≡ key_as_number (key_at s 0) → KeyAsked (whole_key s) (R.Key key)
+    unfolding whole_key requested_key
     key_in n b h l key k =
-        let e : keyBytes (key_at s 0) ≡ s = sym (append-nil (keyBytes (key_at s 0))) ∙ ap (λ (x : List ℕ). keyBytes (key_at s 0) ++ x) (sym (drop_of_length-le s {i = 0 + 7} (omega arith))) ∙ key_back s b 0 (omega arith) in
-        rw (sym a ∙ not-false t n, ap (λ (x : List ℕ). equalBytes x s) e ∙ same_self s) (record { told = ap R.Key k })
+        let e : key_bytes (key_at s 0) ≡ s = sym (append-nil (key_bytes (key_at s 0))) ∙ ap (λ (x : List ℕ). key_bytes (key_at s 0) ++ x) (sym (drop_of_length-le s {i = 0 + 7} (omega arith))) ∙ key_back s b 0 (omega arith) in
+        rw (sym a ∙ not-false t n, ap (λ (x : List ℕ). equal_bytes x s) e ∙ same_self s) (record { told = ap R.Key k })

@@ -3,77 +3,77 @@ use Rattle.std.proofs.Common.{◌≡◌, ℕ, suc, ◌+◌, ◌-◌, ◌<◌, �
 use mathlib.Core.Option.{Option, none, some}
 use borrow.Author.Tests.{lt-leb}
 use lib.Seq.{sets}
-use Rattle.buffers.proofs.Laws.{sets-append}
+use Rattle.buffers.proofs.Laws.{sets_append}
 use Rattle.cells.specs.declared.index.Indexed.{Indexed}
 use Rattle.cells.specs.declared.index.Indexed.TheVariants.{Count, BadStore}
-use Rattle.cells.specs.Cell.{Cell, keyAsNumber, keyNumber, key_at, cellAllowed, cellBytes, front}
-use Rattle.cells.specs.inner.Tests.{sizeFound, frontSize, Sized}
-use Rattle.cells.specs.Store.{encode, cellsAllowed, above, rising, cells, cellsHeld}
-use Rattle.cells.specs.inner.Index.{offsets, counted, Filled, Indexes}
-use Rattle.cells.proofs.BigEndian.{and-true, both, append-same}
-use Rattle.cells.proofs.CellForm.{cell-key, front-cell, Front, front-some}
-use Rattle.cells.proofs.Runs.{Valid, Holds, cell-some, cells-encode, cells-some}
+use Rattle.cells.specs.Cell.{Cell, key_as_number, key_number, key_at, cell_allowed, cell_bytes, front}
+use Rattle.cells.specs.Inner.Tests.{size_found, front_size, Sized}
+use Rattle.cells.specs.Store.{encode, cells_allowed, above, rising, cells, cells_held}
+use Rattle.cells.specs.Inner.Index.{offsets, counted, Filled, Indexes}
+use Rattle.cells.proofs.BigEndian.{and_true, both, append_same}
+use Rattle.cells.proofs.CellForm.{cell_key, front_cell, Front, front_some}
+use Rattle.cells.proofs.Runs.{Valid, Holds, cell_some, cells_encode, cells_some}
 
 -- ---- runs one behind the other
 
-pub encode-append : (xs ys : List Cell) → encode (xs ++ ys) ≡ encode xs ++ encode ys
+pub encode_append : (xs ys : List Cell) → encode (xs ++ ys) ≡ encode xs ++ encode ys
 unfolding encode
-encode-append [] ys = refl
-encode-append (x ∷ xs) ys = ap (λ (l : List ℕ). cellBytes x ++ l) (encode-append xs ys) ∙ sym (append_assoc (cellBytes x) (encode xs) (encode ys))
+encode_append [] ys = refl
+encode_append (x ∷ xs) ys = ap (λ (l : List ℕ). cell_bytes x ++ l) (encode_append xs ys) ∙ sym (append_assoc (cell_bytes x) (encode xs) (encode ys))
 
-pub allowed-append : (xs ys : List Cell) → cellsAllowed xs ≡ true → cellsAllowed ys ≡ true → cellsAllowed (xs ++ ys) ≡ true
-unfolding cellsAllowed
-allowed-append [] ys e f = f
-allowed-append (x ∷ xs) ys e f =
-    let t = and-true (cellAllowed x) (cellsAllowed xs) e in
-    both t.0 (allowed-append xs ys t.1 f)
+pub allowed_append : (xs ys : List Cell) → cells_allowed xs ≡ true → cells_allowed ys ≡ true → cells_allowed (xs ++ ys) ≡ true
+unfolding cells_allowed
+allowed_append [] ys e f = f
+allowed_append (x ∷ xs) ys e f =
+    let t = and_true (cell_allowed x) (cells_allowed xs) e in
+    both t.0 (allowed_append xs ys t.1 f)
 
-pub offsets-append : (xs ys : List Cell) (at : ℕ) → offsets at (xs ++ ys) ≡ offsets at xs ++ offsets (at + length (encode xs)) ys
+pub offsets_append : (xs ys : List Cell) (at : ℕ) → offsets at (xs ++ ys) ≡ offsets at xs ++ offsets (at + length (encode xs)) ys
 unfolding offsets encode
-offsets-append [] ys at = rw add-zero
-offsets-append (x ∷ xs) ys at =
-    let e : at + length (cellBytes x) + length (encode xs) ≡ at + length (cellBytes x ++ encode xs) = omega (arith, length-append (cellBytes x) (encode xs)) in
-    ap (λ (l : List ℕ). at ∷ l) (offsets-append xs ys (at + length (cellBytes x)) ∙ ap (λ (n : ℕ). offsets (at + length (cellBytes x)) xs ++ offsets n ys) e)
+offsets_append [] ys at = rw add-zero
+offsets_append (x ∷ xs) ys at =
+    let e : at + length (cell_bytes x) + length (encode xs) ≡ at + length (cell_bytes x ++ encode xs) = omega (arith, length-append (cell_bytes x) (encode xs)) in
+    ap (λ (l : List ℕ). at ∷ l) (offsets_append xs ys (at + length (cell_bytes x)) ∙ ap (λ (n : ℕ). offsets (at + length (cell_bytes x)) xs ++ offsets n ys) e)
 
-pub length-offsets : (xs : List Cell) (at : ℕ) → length (offsets at xs) ≡ length xs
+pub length_offsets : (xs : List Cell) (at : ℕ) → length (offsets at xs) ≡ length xs
 unfolding offsets
-length-offsets [] at = refl
-length-offsets (x ∷ xs) at = ap suc (length-offsets xs (at + length (cellBytes x)))
+length_offsets [] at = refl
+length_offsets (x ∷ xs) at = ap suc (length_offsets xs (at + length (cell_bytes x)))
 
 -- ---- rising keys
 
 abbrev pub Below : ℕ → List Cell → Type 0
 Below n [] = Unit {0}
-Below n (c ∷ cs) = (keyNumber c < n) × Below n cs
+Below n (c ∷ cs) = (key_number c < n) × Below n cs
 
-pub below-append : (n : ℕ) (xs ys : List Cell) → Below n xs → Below n ys → Below n (xs ++ ys)
-below-append n [] ys h k = k
-below-append n (x ∷ xs) ys h k = (h.0, below-append n xs ys h.1 k)
+pub below_append : (n : ℕ) (xs ys : List Cell) → Below n xs → Below n ys → Below n (xs ++ ys)
+below_append n [] ys h k = k
+below_append n (x ∷ xs) ys h k = (h.0, below_append n xs ys h.1 k)
 
 pub below_more : (m n : ℕ) (xs : List Cell) → m ≤ n → Below m xs → Below n xs
 below_more m n [] l h = tt
 below_more m n (x ∷ xs) l h = (omega (arith, h.0), below_more m n xs l h.1)
 
-above-snoc : (n : ℕ) (xs : List Cell) (c : Cell) → above n xs ≡ true → n < keyNumber c → above n (xs ++ (c ∷ [])) ≡ true
+above_snoc : (n : ℕ) (xs : List Cell) (c : Cell) → above n xs ≡ true → n < key_number c → above n (xs ++ (c ∷ [])) ≡ true
 unfolding above
-above-snoc n [] c e h = both (lt-ltb _ _ h) refl
-above-snoc n (x ∷ xs) c e h =
-    let t = and-true (ltb n (keyNumber x)) (above n xs) e in
-    both t.0 (above-snoc n xs c t.1 h)
+above_snoc n [] c e h = both (lt-ltb _ _ h) refl
+above_snoc n (x ∷ xs) c e h =
+    let t = and_true (ltb n (key_number x)) (above n xs) e in
+    both t.0 (above_snoc n xs c t.1 h)
 
-rising_snoc : (xs : List Cell) (c : Cell) → rising xs ≡ true → Below (keyNumber c) xs → rising (xs ++ (c ∷ [])) ≡ true
+rising_snoc : (xs : List Cell) (c : Cell) → rising xs ≡ true → Below (key_number c) xs → rising (xs ++ (c ∷ [])) ≡ true
 unfolding rising above
 rising_snoc [] c e h = refl
 rising_snoc (x ∷ xs) c e h =
-    let t = and-true (above (keyNumber x) xs) (rising xs) e in
-    both (above-snoc (keyNumber x) xs c t.0 h.0) (rising_snoc xs c t.1 h.1)
+    let t = and_true (above (key_number x) xs) (rising xs) e in
+    both (above_snoc (key_number x) xs c t.0 h.0) (rising_snoc xs c t.1 h.1)
 
-rising-next : (xs : List Cell) (d c : Cell) (cs : List Cell) → rising (xs ++ (d ∷ c ∷ cs)) ≡ true → keyNumber d < keyNumber c
+rising_next : (xs : List Cell) (d c : Cell) (cs : List Cell) → rising (xs ++ (d ∷ c ∷ cs)) ≡ true → key_number d < key_number c
 unfolding rising above
-rising-next [] d c cs e =
-    let t = and-true (above (keyNumber d) (c ∷ cs)) (rising (c ∷ cs)) e in
-    ltb-true _ _ (and-true (ltb (keyNumber d) (keyNumber c)) (above (keyNumber d) cs) t.0).0
-rising-next (x ∷ xs) d c cs e = rising-next xs d c cs (and-true (above (keyNumber x) (xs ++ (d ∷ c ∷ cs))) (rising (xs ++ (d ∷ c ∷ cs))) e).1
+rising_next [] d c cs e =
+    let t = and_true (above (key_number d) (c ∷ cs)) (rising (c ∷ cs)) e in
+    ltb-true _ _ (and_true (ltb (key_number d) (key_number c)) (above (key_number d) cs) t.0).0
+rising_next (x ∷ xs) d c cs e = rising_next xs d c cs (and_true (above (key_number x) (xs ++ (d ∷ c ∷ cs))) (rising (xs ++ (d ∷ c ∷ cs))) e).1
 
 -- ---- a run that begins like another
 
@@ -81,31 +81,31 @@ pub record Behind (xs cs : List Cell) (r : List ℕ) : Type 0 where
   pub rest : List Cell
   pub cells : cs ≡ xs ++ rest
   pub bytes : encode rest ≡ r
-  pub allowed : cellsAllowed rest ≡ true
+  pub allowed : cells_allowed rest ≡ true
 
-pub behind : (xs cs : List Cell) (r : List ℕ) → cellsAllowed xs ≡ true → cellsAllowed cs ≡ true → encode cs ≡ encode xs ++ r → Behind xs cs r
-unfolding encode cellsAllowed
+pub behind : (xs cs : List Cell) (r : List ℕ) → cells_allowed xs ≡ true → cells_allowed cs ≡ true → encode cs ≡ encode xs ++ r → Behind xs cs r
+unfolding encode cells_allowed
 behind [] cs r a b e = record { rest = cs; cells = refl; bytes = e; allowed = b }
-behind (x ∷ xs) [] r a b e = absurd (omega (arith, ap length e, length-append (cellBytes x ++ encode xs) r, length-append (cellBytes x) (encode xs), cell-some x))
+behind (x ∷ xs) [] r a b e = absurd (omega (arith, ap length e, length-append (cell_bytes x ++ encode xs) r, length-append (cell_bytes x) (encode xs), cell_some x))
 behind (x ∷ xs) (c ∷ cs) r a b e =
-    let p = and-true (cellAllowed x) (cellsAllowed xs) a in
-    let q = and-true (cellAllowed c) (cellsAllowed cs) b in
-    let f : cellBytes c ++ encode cs ≡ cellBytes x ++ (encode xs ++ r) = e ∙ append_assoc (cellBytes x) (encode xs) r in
-    let s : some c ≡ some x = sym (front-cell c (encode cs) q.0) ∙ ap front f ∙ front-cell x (encode xs ++ r) p.0 in
+    let p = and_true (cell_allowed x) (cells_allowed xs) a in
+    let q = and_true (cell_allowed c) (cells_allowed cs) b in
+    let f : cell_bytes c ++ encode cs ≡ cell_bytes x ++ (encode xs ++ r) = e ∙ append_assoc (cell_bytes x) (encode xs) r in
+    let s : some c ≡ some x = sym (front_cell c (encode cs) q.0) ∙ ap front f ∙ front_cell x (encode xs ++ r) p.0 in
     let w : c ≡ x = cc in
-    let g : cellBytes x ++ encode cs ≡ cellBytes x ++ (encode xs ++ r) = ap (λ (y : Cell). cellBytes y ++ encode cs) (sym w) ∙ f in
-    let h = behind xs cs r p.1 q.1 (append-same (cellBytes x) g) in
+    let g : cell_bytes x ++ encode cs ≡ cell_bytes x ++ (encode xs ++ r) = ap (λ (y : Cell). cell_bytes y ++ encode cs) (sym w) ∙ f in
+    let h = behind xs cs r p.1 q.1 (append_same (cell_bytes x) g) in
     record { rest = h.rest; cells = ap₂ (λ (y : Cell) (l : List Cell). y ∷ l) w h.cells; bytes = h.bytes; allowed = h.allowed }
 
 -- ---- the walk
 
-pub size-found : (s : List ℕ) (n : ℕ) (c : Cell) → n ≡ frontSize s → front s ≡ some c → n ≡ length (cellBytes c)
-unfolding frontSize sizeFound
-size-found s n c h e = h ∙ ap sizeFound e
+pub size_found_law : (s : List ℕ) (n : ℕ) (c : Cell) → n ≡ front_size s → front s ≡ some c → n ≡ length (cell_bytes c)
+unfolding front_size size_found
+size_found_law s n c h e = h ∙ ap size_found e
 
-pub size_none : (s : List ℕ) (n : ℕ) → n ≡ frontSize s → front s ≡ none → n ≡ 0
-unfolding frontSize sizeFound
-size_none s n h e = h ∙ ap sizeFound e
+pub size_none : (s : List ℕ) (n : ℕ) → n ≡ front_size s → front s ≡ none → n ≡ 0
+unfolding front_size size_found
+size_none s n h e = h ∙ ap size_found e
 
 -- The bytes up to `at` are those of the cells read, whose places are in the index; the next key is `least` at least.
 pub record Walked (bs places₀ : List ℕ) (at count least : ℕ) (starts : List ℕ) : Type 0 where
@@ -119,10 +119,10 @@ pub record Walked (bs places₀ : List ℕ) (at count least : ℕ) (starts : Lis
   pub size : length starts ≡ length places₀
   pub valid : Valid read
   pub below : Below least read
-  pub next : (c : Cell) (cs : List Cell) → rising (read ++ (c ∷ cs)) ≡ true → least ≤ keyNumber c
+  pub next : (c : Cell) (cs : List Cell) → rising (read ++ (c ∷ cs)) ≡ true → least ≤ key_number c
 
 pub walk_start : (bs starts : List ℕ) → Walked bs starts 0 0 0 starts
-unfolding encode offsets cellsAllowed rising
+unfolding encode offsets cells_allowed rising
 walk_start bs starts =
     record {
       read = [];
@@ -144,63 +144,63 @@ module _ (bs places₀ : List ℕ) (at count least : ℕ) (starts : List ℕ) (w
   unfolding counted Filled
   walk_end h =
       let e : bs ≡ encode w.read = w.bytes ∙ ap (λ (l : List ℕ). encode w.read ++ l) (drop_of_length-le bs h) ∙ append-nil (encode w.read) in
-      let f : cells bs ≡ some w.read = ap cells e ∙ cells-encode w.read w.valid in
+      let f : cells bs ≡ some w.read = ap cells e ∙ cells_encode w.read w.valid in
       rw f (record { told = ap Count w.tally; filled = w.index })
 
   -- one cell more
-  module _ (size key : ℕ) (c : Cell) (f : Front (drop at bs) c) (z : size ≡ length (cellBytes c)) (m : key ≡ keyNumber c) (l : least ≤ key) (inside : size ≤ length (drop at bs)) where
-    longer : encode (w.read ++ (c ∷ [])) ≡ encode w.read ++ cellBytes c
+  module _ (size key : ℕ) (c : Cell) (f : Front (drop at bs) c) (z : size ≡ length (cell_bytes c)) (m : key ≡ key_number c) (l : least ≤ key) (inside : size ≤ length (drop at bs)) where
+    longer : encode (w.read ++ (c ∷ [])) ≡ encode w.read ++ cell_bytes c
     unfolding encode
-    longer = encode-append w.read (c ∷ []) ∙ ap (λ (x : List ℕ). encode w.read ++ x) (append-nil (cellBytes c))
+    longer = encode_append w.read (c ∷ []) ∙ ap (λ (x : List ℕ). encode w.read ++ x) (append-nil (cell_bytes c))
 
-    left : drop (at + size) bs ≡ drop (length (cellBytes c)) (drop at bs)
-    left = ap (λ (n : ℕ). drop (at + n) bs) z ∙ sym (drop-drop (length (cellBytes c)) at bs)
+    left : drop (at + size) bs ≡ drop (length (cell_bytes c)) (drop at bs)
+    left = ap (λ (n : ℕ). drop (at + n) bs) z ∙ sym (drop-drop (length (cell_bytes c)) at bs)
 
     noted : set starts count at ≡ sets places₀ 0 (offsets 0 (w.read ++ (c ∷ [])))
     unfolding offsets
     noted =
-        let n : count ≡ 0 + length (offsets 0 w.read) = omega (arith, w.tally, length-offsets w.read 0) in
+        let n : count ≡ 0 + length (offsets 0 w.read) = omega (arith, w.tally, length_offsets w.read 0) in
         let a : at ≡ 0 + length (encode w.read) = omega (arith, w.place) in
         (λ i. set (w.index i) (n i) (a i))
-        ∙ sym (sets-append (offsets 0 w.read) places₀ 0 ((0 + length (encode w.read)) ∷ []))
-        ∙ ap (sets places₀ 0) (sym (offsets-append w.read (c ∷ []) 0))
+        ∙ sym (sets_append (offsets 0 w.read) places₀ 0 ((0 + length (encode w.read)) ∷ []))
+        ∙ ap (sets places₀ 0) (sym (offsets_append w.read (c ∷ []) 0))
 
     one_more : 1 ≤ size → Walked bs places₀ (at + size) (count + 1) (key + 1) (set starts count at)
-    unfolding cellsAllowed
+    unfolding cells_allowed
     one_more h =
         record {
           read = w.read ++ (c ∷ []);
-          bytes = w.bytes ∙ ap (λ (x : List ℕ). encode w.read ++ x) f.bytes ∙ sym (append_assoc (encode w.read) (cellBytes c) (drop (length (cellBytes c)) (drop at bs))) ∙ ap₂ (λ (x y : List ℕ). x ++ y) (sym longer) (sym left);
-          place = omega (arith, w.place, ap length longer, length-append (encode w.read) (cellBytes c));
+          bytes = w.bytes ∙ ap (λ (x : List ℕ). encode w.read ++ x) f.bytes ∙ sym (append_assoc (encode w.read) (cell_bytes c) (drop (length (cell_bytes c)) (drop at bs))) ∙ ap₂ (λ (x y : List ℕ). x ++ y) (sym longer) (sym left);
+          place = omega (arith, w.place, ap length longer, length-append (encode w.read) (cell_bytes c));
           inside = omega (arith, length-drop at bs, w.inside);
           tally = omega (arith, w.tally, length-append w.read (c ∷ []));
           few = omega (arith, w.few);
           index = noted;
           size = length-set starts count at ∙ w.size;
           valid = record {
-            allowed = allowed-append w.read (c ∷ []) w.valid.allowed (both f.allowed refl);
-            rising = rising_snoc w.read c w.valid.rising (below_more least (keyNumber c) w.read (omega arith) w.below);
+            allowed = allowed_append w.read (c ∷ []) w.valid.allowed (both f.allowed refl);
+            rising = rising_snoc w.read c w.valid.rising (below_more least (key_number c) w.read (omega arith) w.below);
           };
-          below = below-append (key + 1) w.read (c ∷ []) (below_more least (key + 1) w.read (omega arith) w.below) (omega arith, tt);
-          next = λ d ds e. omega (arith, rising-next w.read c d ds (ap rising (sym (append_assoc w.read (c ∷ []) (d ∷ ds))) ∙ e));
+          below = below_append (key + 1) w.read (c ∷ []) (below_more least (key + 1) w.read (omega arith) w.below) (omega arith, tt);
+          next = λ d ds e. omega (arith, rising_next w.read c d ds (ap rising (sym (append_assoc w.read (c ∷ []) (d ∷ ds))) ∙ e));
         }
 
   -- a refusal: no run of cells can go on like this
   module _ (more : at < length bs) where
-    none-held : ((c : Cell) (cs : List Cell) → front (drop at bs) ≡ some c → rising (w.read ++ (c ∷ cs)) ≡ true → drop at bs ≡ cellBytes c ++ encode cs → ⊥) → cells bs ≡ none
-    unfolding encode cellsAllowed
-    none-held never = go (cells bs) refl
+    none_held : ((c : Cell) (cs : List Cell) → front (drop at bs) ≡ some c → rising (w.read ++ (c ∷ cs)) ≡ true → drop at bs ≡ cell_bytes c ++ encode cs → ⊥) → cells bs ≡ none
+    unfolding encode cells_allowed
+    none_held never = go (cells bs) refl
       where
-        found : (cs : List Cell) → Holds bs cs → (rest : List Cell) → cs ≡ w.read ++ rest → encode rest ≡ drop at bs → cellsAllowed rest ≡ true → ⊥
+        found : (cs : List Cell) → Holds bs cs → (rest : List Cell) → cs ≡ w.read ++ rest → encode rest ≡ drop at bs → cells_allowed rest ≡ true → ⊥
         found cs h [] q r a = omega (arith, ap length r, length-drop at bs)
         found cs h (c ∷ rest) q r a =
-            let t = and-true (cellAllowed c) (cellsAllowed rest) a in
-            never c rest (ap front (sym r) ∙ front-cell c (encode rest) t.0) (ap rising (sym q) ∙ h.valid.rising) (sym r)
+            let t = and_true (cell_allowed c) (cells_allowed rest) a in
+            never c rest (ap front (sym r) ∙ front_cell c (encode rest) t.0) (ap rising (sym q) ∙ h.valid.rising) (sym r)
 
         go : (o : Option (List Cell)) → cells bs ≡ o → o ≡ none
         go none e = refl
         go (some cs) e =
-            let h = cells-some bs cs e in
+            let h = cells_some bs cs e in
             let b = behind w.read cs (drop at bs) w.valid.allowed h.valid.allowed (h.bytes ∙ w.bytes) in
             absurd (found cs h b.rest b.cells b.bytes b.allowed)
 
@@ -216,18 +216,18 @@ module _ (bs places₀ : List ℕ) (at count least : ℕ) (starts : List ℕ) (w
       s : Sized (drop at bs) size
       s = subst (λ (x : List ℕ). Sized x size) whole cut
 
-      pub walk-no-cell : size < 1 → Indexes places₀ (cells bs) starts BadStore
-      walk-no-cell h = refused (none-held (λ c cs e r b. no_size c e)) starts
+      pub walk_no_cell : size < 1 → Indexes places₀ (cells bs) starts BadStore
+      walk_no_cell h = refused (none_held (λ c cs e r b. no_size c e)) starts
         where
           no_size : (c : Cell) → front (drop at bs) ≡ some c → ⊥
-          no_size c e = omega (arith, size-found (drop at bs) size c s.size e, cell-some c)
+          no_size c e = omega (arith, size_found_law (drop at bs) size c s.size e, cell_some c)
 
-      module _ (key : ℕ) (k : key ≡ keyAsNumber (key_at (take (length bs - at) (drop at bs)) 1)) where
-        key_of : (c : Cell) (r : List ℕ) → drop at bs ≡ cellBytes c ++ r → key ≡ keyNumber c
-        key_of c r b = k ∙ ap (λ (l : List ℕ). keyAsNumber (key_at l 1)) (whole ∙ b) ∙ ap keyAsNumber (cell-key c r)
+      module _ (key : ℕ) (k : key ≡ key_as_number (key_at (take (length bs - at) (drop at bs)) 1)) where
+        key_of : (c : Cell) (r : List ℕ) → drop at bs ≡ cell_bytes c ++ r → key ≡ key_number c
+        key_of c r b = k ∙ ap (λ (l : List ℕ). key_as_number (key_at l 1)) (whole ∙ b) ∙ ap key_as_number (cell_key c r)
 
-        pub walk-low-key : key < least → Indexes places₀ (cells bs) starts BadStore
-        walk-low-key h = refused (none-held (λ c cs e r b. omega (arith, w.next c cs r, key_of c (encode cs) b))) starts
+        pub walk_low_key : key < least → Indexes places₀ (cells bs) starts BadStore
+        walk_low_key h = refused (none_held (λ c cs e r b. omega (arith, w.next c cs r, key_of c (encode cs) b))) starts
 
         pub walk_more : 1 ≤ size → least ≤ key → (places' : List ℕ) → places' ≡ set starts count at → Walked bs places₀ (at + size) (count + 1) (key + 1) places'
         walk_more h l places' p = go (front (drop at bs)) refl
@@ -235,41 +235,41 @@ module _ (bs places₀ : List ℕ) (at count least : ℕ) (starts : List ℕ) (w
             go : (o : Option Cell) → front (drop at bs) ≡ o → Walked bs places₀ (at + size) (count + 1) (key + 1) places'
             go none e = absurd (omega (arith, size_none (drop at bs) size s.size e))
             go (some c) e =
-                let f = front-some (drop at bs) c e in
+                let f = front_some (drop at bs) c e in
                 let m : Walked bs places₀ (at + size) (count + 1) (key + 1) (set starts count at) =
-                one_more size key c f (size-found (drop at bs) size c s.size e) (key_of c (drop (length (cellBytes c)) (drop at bs)) f.bytes) l s.inside h in
+                one_more size key c f (size_found_law (drop at bs) size c s.size e) (key_of c (drop (length (cell_bytes c)) (drop at bs)) f.bytes) l s.inside h in
                 subst (λ (x : List ℕ). Walked bs places₀ (at + size) (count + 1) (key + 1) x) (sym p) m
 
 -- ---- the store as a buffer and a length
 
 module _ (b : List ℕ) (n : ℕ) where
-  held_none : (starts places' : List ℕ) → cellsHeld b n ≡ none → Indexes starts (cellsHeld b n) places' BadStore
+  held_none : (starts places' : List ℕ) → cells_held b n ≡ none → Indexes starts (cells_held b n) places' BadStore
   unfolding counted Filled
   held_none starts places' e = rw e (record { told = refl; filled = tt })
 
-  pub held-past : length b < n → cellsHeld b n ≡ none
-  unfolding cellsHeld
-  held-past h = rw (lt-leb n (length b) h)
+  pub held_past : length b < n → cells_held b n ≡ none
+  unfolding cells_held
+  held_past h = rw (lt-leb n (length b) h)
 
-  pub held-over : 65536 < n → cellsHeld b n ≡ none
-  unfolding cellsHeld
-  held-over h = go (leb n (length b))
+  pub held_over : 65536 < n → cells_held b n ≡ none
+  unfolding cells_held
+  held_over h = go (leb n (length b))
     where
       go : (t : Bool) → cond (t && leb n 65536) (cells (take n b)) none ≡ none
       go true = rw (lt-leb n 65536 h)
       go false = refl
 
-  pub held-cells : n ≤ length b → n ≤ 65536 → cellsHeld b n ≡ cells (take n b)
-  unfolding cellsHeld
-  held-cells h k = rw (le-leb n (length b) h, le-leb n 65536 k)
+  pub held_cells : n ≤ length b → n ≤ 65536 → cells_held b n ≡ cells (take n b)
+  unfolding cells_held
+  held_cells h k = rw (le-leb n (length b) h, le-leb n 65536 k)
 
-  pub build-past : (starts : List ℕ) → length b < n → Indexes starts (cellsHeld b n) starts BadStore
-  build-past starts h = held_none starts starts (held-past h)
+  pub build_past : (starts : List ℕ) → length b < n → Indexes starts (cells_held b n) starts BadStore
+  build_past starts h = held_none starts starts (held_past h)
 
-  pub build-over : (starts : List ℕ) → 65536 < n → Indexes starts (cellsHeld b n) starts BadStore
-  build-over starts h = held_none starts starts (held-over h)
+  pub build_over : (starts : List ℕ) → 65536 < n → Indexes starts (cells_held b n) starts BadStore
+  build_over starts h = held_none starts starts (held_over h)
 
-  pub build-walk : (starts places' : List ℕ) (r : Indexed) → n ≤ length b → n ≤ 65536 → Indexes starts (cells (take (n - 0) b)) places' r → Indexes starts (cellsHeld b n) places' r
-  build-walk starts places' r h k w =
+  pub build_walk : (starts places' : List ℕ) (r : Indexed) → n ≤ length b → n ≤ 65536 → Indexes starts (cells (take (n - 0) b)) places' r → Indexes starts (cells_held b n) places' r
+  build_walk starts places' r h k w =
       let z : n - 0 ≡ n = omega arith in
-      subst (λ (o : Option (List Cell)). Indexes starts o places' r) (ap (λ (m : ℕ). cells (take m b)) z ∙ sym (held-cells h k)) w
+      subst (λ (o : Option (List Cell)). Indexes starts o places' r) (ap (λ (m : ℕ). cells (take m b)) z ∙ sym (held_cells h k)) w

@@ -13,52 +13,52 @@ use Rattle.meaning.specs.declared.end.Ended.TheVariants.{Finished, Halted}
 use Rattle.cells.specs.declared.Answered.{Answered}
 use Rattle.cells.specs.declared.Answered.TheVariants.{Missing, Integer, Decimal, StringAt, Highest}
 use Rattle.cells.specs.declared.Asked.{Asked}
-use Rattle.cells.specs.Cell.{Key, key_of, Cell, keyAsNumber, keyNumber, keyAllowed, cellBytes}
-use Rattle.cells.specs.Store.{cellsHeld}
+use Rattle.cells.specs.Cell.{Key, key_of, Cell, key_as_number, key_number, key_allowed, cell_bytes}
+use Rattle.cells.specs.Store.{cells_held}
 
 -- the key that the four numbers are
-abbrev pub keyAsked : Question → Key
-keyAsked q = key_of q.datasource q.parameter q.«record» q.entry
+abbrev pub key_asked : Question → Key
+key_asked q = key_of q.datasource q.parameter q.«record» q.entry
 
 -- What is asked, by its kind, with the numbers that are used for it.
 pub data Query : Type 0 where
   -- "Kind 1 asks for the cell of a key"
-  theCell : Key → Query
+  the_cell : Key → Query
   -- "Kind 2 asks for a parameter's highest record number in a datasource"
-  highestRecord : (datasource parameter : ℕ) → Query
+  highest_record : (datasource parameter : ℕ) → Query
   -- "kind 3 for the highest entry number in one record"
-  highestEntry : (datasource parameter recordNumber : ℕ) → Query
+  highest_entry : (datasource parameter record_number : ℕ) → Query
 
 -- "Unused numbers are 0."
 unfoldable pub unused : ℕ → Option Query → Option Query
 unused n o = cond (n == 0) o none
 
 -- what the five numbers ask, or none
-unfoldable pub queryOf : Question → Option Query
-queryOf q =
+unfoldable pub query_of : Question → Option Query
+query_of q =
     cond
     (q.kind == 1)
-    (some (theCell (keyAsked q)))
+    (some (the_cell (key_asked q)))
     (cond
     (q.kind == 2)
-    (unused q.«record» (unused q.entry (some (highestRecord q.datasource q.parameter))))
-    (cond (q.kind == 3) (unused q.entry (some (highestEntry q.datasource q.parameter q.«record»))) none))
+    (unused q.«record» (unused q.entry (some (highest_record q.datasource q.parameter))))
+    (cond (q.kind == 3) (unused q.entry (some (highest_entry q.datasource q.parameter q.«record»))) none))
 
 -- the numbers that are used lie within the limits of a key
-unfoldable pub queryAllowed : Option Query → Bool
-queryAllowed none = false
-queryAllowed (some (theCell k)) = keyAllowed k
-queryAllowed (some (highestRecord d p)) = keyAllowed (key_of d p 0 0)
-queryAllowed (some (highestEntry d p r)) = keyAllowed (key_of d p r 0)
+unfoldable pub query_allowed : Option Query → Bool
+query_allowed none = false
+query_allowed (some (the_cell k)) = key_allowed k
+query_allowed (some (highest_record d p)) = key_allowed (key_of d p 0 0)
+query_allowed (some (highest_entry d p r)) = key_allowed (key_of d p r 0)
 
 -- 15 "An edit's or question's key, kind, unused number or value breaks a limit above."
-unfoldable pub questionAllowed : Question → Bool
-questionAllowed q = queryAllowed (queryOf q)
+unfoldable pub question_allowed : Question → Bool
+question_allowed q = query_allowed (query_of q)
 
 -- the cell of a key
 unfoldable pub lookup : ℕ → List Cell → Option Cell
 lookup n [] = none
-lookup n (c ∷ cs) = cond (keyNumber c == n) (some c) (lookup n cs)
+lookup n (c ∷ cs) = cond (key_number c == n) (some c) (lookup n cs)
 
 -- the cell's "kind and value, or missing"
 unfoldable pub found : Option Cell → Answer
@@ -66,61 +66,61 @@ found none = missing
 found (some c) = cell c.value
 
 -- the highest of a number over the cells that are meant, "0 if there is none"
-unfoldable pub highestOf : (Cell → Bool) → (Cell → ℕ) → List Cell → ℕ
-highestOf meant n [] = 0
-highestOf meant n (c ∷ cs) = max (cond (meant c) (n c) 0) (highestOf meant n cs)
+unfoldable pub highest_of : (Cell → Bool) → (Cell → ℕ) → List Cell → ℕ
+highest_of meant n [] = 0
+highest_of meant n (c ∷ cs) = max (cond (meant c) (n c) 0) (highest_of meant n cs)
 
 -- cells of a parameter in a datasource, and those in one record
-unfoldable pub ofParameter : ℕ → ℕ → Cell → Bool
-ofParameter d p c = c.key.datasource == d && c.key.parameter == p
+unfoldable pub of_parameter : ℕ → ℕ → Cell → Bool
+of_parameter d p c = c.key.datasource == d && c.key.parameter == p
 
-unfoldable pub ofRecord : ℕ → ℕ → ℕ → Cell → Bool
-ofRecord d p r c = ofParameter d p c && c.key.recordNumber == r
+unfoldable pub of_record : ℕ → ℕ → ℕ → Cell → Bool
+of_record d p r c = of_parameter d p c && c.key.record_number == r
 
 -- "Kind 1 asks for the cell of a key .. Kind 2 asks for a parameter's highest record number in a datasource, kind 3 for
 -- the highest entry number in one record"
-unfoldable pub queryAnswer : Option Query → List Cell → Answer
-queryAnswer none cs = missing
-queryAnswer (some (theCell k)) cs = found (lookup (keyAsNumber k) cs)
-queryAnswer (some (highestRecord d p)) cs = highest (highestOf (ofParameter d p) (λ c. c.key.recordNumber) cs)
-queryAnswer (some (highestEntry d p r)) cs = highest (highestOf (ofRecord d p r) (λ c. c.key.entryNumber) cs)
+unfoldable pub query_answer : Option Query → List Cell → Answer
+query_answer none cs = missing
+query_answer (some (the_cell k)) cs = found (lookup (key_as_number k) cs)
+query_answer (some (highest_record d p)) cs = highest (highest_of (of_parameter d p) (λ c. c.key.record_number) cs)
+query_answer (some (highest_entry d p r)) cs = highest (highest_of (of_record d p r) (λ c. c.key.entry_number) cs)
 
 unfoldable pub answer : Question → List Cell → Answer
-answer q cs = queryAnswer (queryOf q) cs
+answer q cs = query_answer (query_of q) cs
 
 -- "every end of ask, put and remove give line 0"
-abbrev pub refusedWith : Refusal → Ended
-refusedWith e = Halted (Refused e) 0
+abbrev pub refused_with : Refusal → Ended
+refused_with e = Halted (Refused e) 0
 
 -- What ask hands back. "a refused ask answers missing"
 pub record Reply : Type 0 where
   pub end : Ended
   pub answer : Answer
 
-abbrev pub refusedAsk : Refusal → Reply
-refusedAsk e = record { end = refusedWith e; answer = missing }
+abbrev pub refused_ask : Refusal → Reply
+refused_ask e = record { end = refused_with e; answer = missing }
 
-abbrev pub answeredAsk : Answer → Reply
-answeredAsk a = record { end = Finished; answer = a }
+abbrev pub answered_ask : Answer → Reply
+answered_ask a = record { end = Finished; answer = a }
 
 -- "Ask, put and remove check 1, 15, 16, 17."
 unfoldable pub replied : Question → Option (List Cell) → Reply
-replied q none = refusedAsk BadStore
-replied q (some cs) = cond (questionAllowed q) (answeredAsk (answer q cs)) (refusedAsk BadRequest)
+replied q none = refused_ask BadStore
+replied q (some cs) = cond (question_allowed q) (answered_ask (answer q cs)) (refused_ask BadRequest)
 
-unfoldable pub askOf : List ℕ → ℕ → Question → Reply
-askOf b n q = replied q (cellsHeld b n)
+unfoldable pub ask_of : List ℕ → ℕ → Question → Reply
+ask_of b n q = replied q (cells_held b n)
 
 -- where the cell of a key begins in the store: behind the cells before it
-unfoldable pub cellStart : ℕ → List Cell → ℕ
-cellStart n [] = 0
-cellStart n (c ∷ cs) = cond (keyNumber c == n) 0 (length (cellBytes c) + cellStart n cs)
+unfoldable pub cell_start : ℕ → List Cell → ℕ
+cell_start n [] = 0
+cell_start n (c ∷ cs) = cond (key_number c == n) 0 (length (cell_bytes c) + cell_start n cs)
 
 -- "A cell is one byte of kind, a 7-byte key, a value"; a string is "a length 0–16, then 16 bytes": where the bytes of the
 -- string that is answered begin in the store
-unfoldable pub stringStart : Question → Option (List Cell) → ℕ
-stringStart q none = 0
-stringStart q (some cs) = cellStart (keyAsNumber (keyAsked q)) cs + (1 + 7 + 1)
+unfoldable pub string_start : Question → Option (List Cell) → ℕ
+string_start q none = 0
+string_start q (some cs) = cell_start (key_as_number (key_asked q)) cs + (1 + 7 + 1)
 
 -- an answer as it is handed back: a string as a part of the store, by its place and its length
 unfoldable pub handed : ℕ → Answer → Answered
@@ -132,7 +132,7 @@ handed i (highest n) = Highest n
 
 -- "Ask answers one question."
 unfoldable pub asked_of : List ℕ → ℕ → Question → Asked
-asked_of b n q = record { end = (askOf b n q).end; answer = handed (stringStart q (cellsHeld b n)) (askOf b n q).answer }
+asked_of b n q = record { end = (ask_of b n q).end; answer = handed (string_start q (cells_held b n)) (ask_of b n q).answer }
 
 -- what an answer of the code means: a string is a part of the store
 unfoldable pub meant : List ℕ → Answered → Answer

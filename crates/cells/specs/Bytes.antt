@@ -15,25 +15,25 @@ octet n = quad (n / 4294967296) ++ quad (n % 4294967296)
 unfoldable pub pair_at : List ℕ → ℕ → ℕ
 pair_at s i = slice_index s i * 256 + slice_index s (i + 1)
 
-unfoldable pub quadAt : List ℕ → ℕ → ℕ
-quadAt s i = pair_at s i * 65536 + pair_at s (i + 2)
+unfoldable pub quad_from : List ℕ → ℕ → ℕ
+quad_from s i = pair_at s i * 65536 + pair_at s (i + 2)
 
-unfoldable pub octetAt : List ℕ → ℕ → ℕ
-octetAt s i = quadAt s i * 4294967296 + quadAt s (i + 4)
+unfoldable pub octet_at : List ℕ → ℕ → ℕ
+octet_at s i = quad_from s i * 4294967296 + quad_from s (i + 4)
 
 -- two's complement in 32 or 64 bits, m being 2^32 or 2^64
-unfoldable pub inComplement : ℕ → ℤ → ℕ
-inComplement m (pos n) = n
-inComplement m (negsuc n) = m - suc n
+unfoldable pub in_complement : ℕ → ℤ → ℕ
+in_complement m (pos n) = n
+in_complement m (negsuc n) = m - suc n
 
-unfoldable pub fromComplement : ℕ → ℕ → ℤ
-fromComplement m n = cond (nat_lt (2 * n) m) (pos n) (negsuc (m - suc n))
+unfoldable pub from_complement : ℕ → ℕ → ℤ
+from_complement m n = cond (nat_lt (2 * n) m) (pos n) (negsuc (m - suc n))
 
-abbrev pub wordRange : ℕ
-wordRange = 4294967296
+abbrev pub word_range : ℕ
+word_range = 4294967296
 
-abbrev pub longRange : ℕ
-longRange = 18446744073709551616
+abbrev pub long_range : ℕ
+long_range = 18446744073709551616
 
 -- s begins with p; s is p
 unfoldable pub begins : List ℕ → List ℕ → Bool
@@ -41,5 +41,5 @@ begins [] s = true
 begins (x ∷ p) [] = false
 begins (x ∷ p) (y ∷ s) = x == y && begins p s
 
-unfoldable pub equalBytes : List ℕ → List ℕ → Bool
-equalBytes p s = begins p s && length p == length s
+unfoldable pub equal_bytes : List ℕ → List ℕ → Bool
+equal_bytes p s = begins p s && length p == length s

@@ -4,35 +4,35 @@ use Rattle.std.proofs.Math.Option.{Option, none, some}
 use Rattle.meaning.specs.Answer.{Value, integer, decimal, string}
 use Rattle.meaning.specs.Answer as A
 use Rattle.numbers.specs.declared.Quantity.TheVariants as Q
-use Rattle.numbers.specs.Range.{integerLimit, decimalLimit, within}
-use Rattle.cells.specs.Bytes.{pair, quad, octet, pair_at, quadAt, octetAt, inComplement, fromComplement, wordRange, longRange, begins, equalBytes}
+use Rattle.numbers.specs.Range.{integer_limit, decimal_limit, within}
+use Rattle.cells.specs.Bytes.{pair, quad, octet, pair_at, quad_from, octet_at, in_complement, from_complement, word_range, long_range, begins, equal_bytes}
 
 -- "Key: datasource 1–35 (1 byte), parameter 1–65,535, record 0–999, entry 0–999 (2 bytes each)."
 pub record Key : Type 0 where
   pub datasource : ℕ
   pub parameter : ℕ
-  pub recordNumber : ℕ
-  pub entryNumber : ℕ
+  pub record_number : ℕ
+  pub entry_number : ℕ
 
 -- a key by its four numbers
 abbrev pub key_of : ℕ → ℕ → ℕ → ℕ → Key
-key_of d p r e = record { datasource = d; parameter = p; recordNumber = r; entryNumber = e }
+key_of d p r e = record { datasource = d; parameter = p; record_number = r; entry_number = e }
 
 -- n lies within low–high
 unfoldable pub between : ℕ → ℕ → ℕ → Bool
 between low high n = nat_le low n && nat_le n high
 
 -- "datasource 1–35 (1 byte), parameter 1–65,535, record 0–999, entry 0–999 (2 bytes each)"
-unfoldable pub keyAllowed : Key → Bool
-keyAllowed k =
-    between 1 35 k.datasource && (between 1 65535 k.parameter && (nat_le k.recordNumber 999 && nat_le k.entryNumber 999))
+unfoldable pub key_allowed : Key → Bool
+key_allowed k =
+    between 1 35 k.datasource && (between 1 65535 k.parameter && (nat_le k.record_number 999 && nat_le k.entry_number 999))
 
-unfoldable pub keyBytes : Key → List ℕ
-keyBytes k = k.datasource ∷ (pair k.parameter ++ (pair k.recordNumber ++ pair k.entryNumber))
+unfoldable pub key_bytes : Key → List ℕ
+key_bytes k = k.datasource ∷ (pair k.parameter ++ (pair k.record_number ++ pair k.entry_number))
 
 -- the 7 bytes of a key as one big-endian number: the order of keys
-unfoldable pub keyAsNumber : Key → ℕ
-keyAsNumber k = ((k.datasource * 65536 + k.parameter) * 65536 + k.recordNumber) * 65536 + k.entryNumber
+unfoldable pub key_as_number : Key → ℕ
+key_as_number k = ((k.datasource * 65536 + k.parameter) * 65536 + k.record_number) * 65536 + k.entry_number
 
 -- every byte passes a test
 unfoldable pub each : (ℕ → Bool) → List ℕ → Bool
@@ -60,34 +60,34 @@ pub record Kind : Type 1 where
   pub read : List ℕ → Body
 
 -- "0x49 integer (4 bytes)"; "Values lie within ±2,000,000,000"
-abbrev pub integerRow : Kind
-integerRow =
+abbrev pub integer_row : Kind
+integer_row =
     record {
       Body = ℤ;
       value = integer;
       byte = 73;
       size = 4;
-      allowed = within integerLimit;
-      bytes = λ z. quad (inComplement wordRange z);
-      read = λ s. fromComplement wordRange (quadAt s 0);
+      allowed = within integer_limit;
+      bytes = λ z. quad (in_complement word_range z);
+      read = λ s. from_complement word_range (quad_from s 0);
     }
 
 -- "0x46 decimal (8 bytes, a count of millionths)"; "so within ±2×10^15 millionths"
-abbrev pub decimalRow : Kind
-decimalRow =
+abbrev pub decimal_row : Kind
+decimal_row =
     record {
       Body = ℤ;
       value = decimal;
       byte = 70;
       size = 8;
-      allowed = within decimalLimit;
-      bytes = λ z. octet (inComplement longRange z);
-      read = λ s. fromComplement longRange (octetAt s 0);
+      allowed = within decimal_limit;
+      bytes = λ z. octet (in_complement long_range z);
+      read = λ s. from_complement long_range (octet_at s 0);
     }
 
 -- "0x53 string (a length 0–16, then 16 bytes: that many of 0x20–0x7E, the rest zero)"
-abbrev pub stringRow : Kind
-stringRow =
+abbrev pub string_row : Kind
+string_row =
     record {
       Body = List ℕ;
       value = string;
@@ -100,7 +100,7 @@ stringRow =
 
 -- "Kinds: 0x49 integer .., 0x46 decimal .., 0x53 string"
 abbrev pub kinds : List Kind
-kinds = integerRow ∷ decimalRow ∷ stringRow ∷ []
+kinds = integer_row ∷ decimal_row ∷ string_row ∷ []
 
 -- the row with a byte of kind
 abbrev pub row_in : List Kind → ℕ → Option Kind
@@ -112,29 +112,29 @@ pub record Kinded : Type 1 where
   pub kind : Kind
   pub body : kind.Body
 
-abbrev pub kindAndBody : Value → Kinded
-kindAndBody (A.number (Q.Integer z)) = record { kind = integerRow; body = z }
-kindAndBody (A.number (Q.Decimal z)) = record { kind = decimalRow; body = z }
-kindAndBody (string t) = record { kind = stringRow; body = t }
+abbrev pub kind_and_body : Value → Kinded
+kind_and_body (A.number (Q.Integer z)) = record { kind = integer_row; body = z }
+kind_and_body (A.number (Q.Decimal z)) = record { kind = decimal_row; body = z }
+kind_and_body (string t) = record { kind = string_row; body = t }
 
 -- the columns of a value's row
-unfoldable pub kindByte : Value → ℕ
-kindByte v = (kindAndBody v).kind.byte
+unfoldable pub kind_byte : Value → ℕ
+kind_byte v = (kind_and_body v).kind.byte
 
-unfoldable pub valueAllowed : Value → Bool
-valueAllowed v = (kindAndBody v).kind.allowed (kindAndBody v).body
+unfoldable pub value_allowed : Value → Bool
+value_allowed v = (kind_and_body v).kind.allowed (kind_and_body v).body
 
-unfoldable pub valueBytes : Value → List ℕ
-valueBytes v = (kindAndBody v).kind.bytes (kindAndBody v).body
+unfoldable pub value_bytes : Value → List ℕ
+value_bytes v = (kind_and_body v).kind.bytes (kind_and_body v).body
 
-abbrev pub integerKind : ℕ
-integerKind = integerRow.byte
+abbrev pub integer_kind : ℕ
+integer_kind = integer_row.byte
 
-abbrev pub decimalKind : ℕ
-decimalKind = decimalRow.byte
+abbrev pub decimal_kind : ℕ
+decimal_kind = decimal_row.byte
 
-abbrev pub stringKind : ℕ
-stringKind = stringRow.byte
+abbrev pub string_kind : ℕ
+string_kind = string_row.byte
 
 -- ---- cells
 
@@ -143,39 +143,39 @@ pub record Cell : Type 0 where
   pub key : Key
   pub value : Value
 
-abbrev pub keyNumber : Cell → ℕ
-keyNumber c = keyAsNumber c.key
+abbrev pub key_number : Cell → ℕ
+key_number c = key_as_number c.key
 
-unfoldable pub cellAllowed : Cell → Bool
-cellAllowed c = keyAllowed c.key && valueAllowed c.value
+unfoldable pub cell_allowed : Cell → Bool
+cell_allowed c = key_allowed c.key && value_allowed c.value
 
-unfoldable pub cellBytes : Cell → List ℕ
-cellBytes c = kindByte c.value ∷ (keyBytes c.key ++ valueBytes c.value)
+unfoldable pub cell_bytes : Cell → List ℕ
+cell_bytes c = kind_byte c.value ∷ (key_bytes c.key ++ value_bytes c.value)
 
 -- The key at a place of the bytes, and the cell of a row: its key stands behind the byte of kind, its value behind the key.
 unfoldable pub key_at : List ℕ → ℕ → Key
 key_at s i = key_of (slice_index s i) (pair_at s (i + 1)) (pair_at s (i + 3)) (pair_at s (i + 5))
 
-unfoldable pub cellBy : Option Kind → List ℕ → Option Cell
-cellBy none s = none
-cellBy (some k) s = some (record { key = key_at s 1; value = k.value (k.read (drop 8 s)) })
+unfoldable pub cell_by : Option Kind → List ℕ → Option Cell
+cell_by none s = none
+cell_by (some k) s = some (record { key = key_at s 1; value = k.value (k.read (drop 8 s)) })
 
 -- the cell that s holds by its byte of kind
 unfoldable pub cell_of : List ℕ → Option Cell
-cell_of s = cellBy (row_in kinds (slice_index s 0)) s
+cell_of s = cell_by (row_in kinds (slice_index s 0)) s
 
 -- a cell within the limits whose bytes pass a test, or none
 unfoldable pub passing : (List ℕ → Bool) → Option Cell → Option Cell
 passing test none = none
-passing test (some c) = cond (cellAllowed c && test (cellBytes c)) (some c) none
+passing test (some c) = cond (cell_allowed c && test (cell_bytes c)) (some c) none
 
 -- the cell within the limits whose bytes s begins with, or none
 unfoldable pub front : List ℕ → Option Cell
 front s = passing (λ b. begins b s) (cell_of s)
 
 -- the cell within the limits, and the key, whose bytes are s, or none
-unfoldable pub wholeCell : List ℕ → Option Cell
-wholeCell s = passing (λ b. equalBytes b s) (cell_of s)
+unfoldable pub whole_cell : List ℕ → Option Cell
+whole_cell s = passing (λ b. equal_bytes b s) (cell_of s)
 
-unfoldable pub wholeKey : List ℕ → Option Key
-wholeKey s = cond (keyAllowed (key_at s 0) && equalBytes (keyBytes (key_at s 0)) s) (some (key_at s 0)) none
+unfoldable pub whole_key : List ℕ → Option Key
+whole_key s = cond (key_allowed (key_at s 0) && equal_bytes (key_bytes (key_at s 0)) s) (some (key_at s 0)) none

@@ -2,5 +2,5 @@ pub mod Bytes
 pub mod Cell
 pub mod Store
 pub mod Asking
-pub mod inner
+pub mod Inner
 pub mod Rows

@@ -1,7 +1,7 @@
 // Cells by their keys, over the index of a store.
 ghost use Rattle.std.specs.Prelude.{◌≡◌, ◌+◌, ◌/◌, ◌<◌, ◌≤◌, length, ◌==◌, slice_index};
-ghost use Rattle.cells.specs.Cell.{keyAsNumber, key_at};
-ghost use Rattle.cells.specs.inner.Index.{Position, LowerAt, SizeAt, belowOf, boundOf};
+ghost use Rattle.cells.specs.Cell.{key_as_number, key_at};
+ghost use Rattle.cells.specs.Inner.Index.{Position, LowerAt, SizeAt, below_of, bound_of};
 
 use crate::{bytes, form};
 
@@ -33,7 +33,7 @@ fn wide_place(place: u16) -> usize
 // The key of the cell at a place with the byte behind it, as one number: eight bytes are one load, seven are not. 0 where
 // the store has no room.
 pub fn key_and_byte(store: &[u8], at: usize) -> u64
-    ensures { at + 9 ≤ length store.now → result / 256 ≡ keyAsNumber (key_at store.now (at + 1)) }
+    ensures { at + 9 ≤ length store.now → result / 256 ≡ key_as_number (key_at store.now (at + 1)) }
 {
     let n = store.len();
     if n < 9 {
@@ -47,7 +47,7 @@ pub fn key_and_byte(store: &[u8], at: usize) -> u64
 
 // Whether the cell at a place has a key.
 pub fn has_key(store: &[u8], at: usize, key: u64) -> bool
-    ensures { at + 9 ≤ length store.now → result ≡ (keyAsNumber (key_at store.now (at + 1)) == key) }
+    ensures { at + 9 ≤ length store.now → result ≡ (key_as_number (key_at store.now (at + 1)) == key) }
 {
     let found = key_and_byte(store, at);
     if KEYS <= key {
@@ -62,14 +62,14 @@ pub fn has_key(store: &[u8], at: usize, key: u64) -> bool
 // 1 where a number is below another, else 0, for numbers below 2^63. It has no branch, which a search would mostly
 // mispredict.
 fn below(a: u64, b: u64) -> usize
-    ensures { (result ≤ 1) × (a < 9223372036854775808 → b < 9223372036854775808 → result ≡ belowOf a b) }
+    ensures { (result ≤ 1) × (a < 9223372036854775808 → b < 9223372036854775808 → result ≡ below_of a b) }
 {
     (std::num::wrapping_sub_u64(a, b) / HIGHEST_BIT) as usize
 }
 
 // What a key with the byte behind it is compared with.
 fn bound_of(key: u64) -> u64
-    ensures { result ≡ boundOf key }
+    ensures { result ≡ bound_of key }
 {
     if key < KEYS_ALLOWED {
         return key * 256;

@@ -1,9 +1,9 @@
 // The form of keys and cells: every limit of document 01.
 ghost use Rattle.std.specs.Prelude.{◌≡◌, ◌+◌, ◌<◌, ◌≤◌, length, slice_index};
 ghost use Rattle.numbers.specs.Range.{within};
-ghost use Rattle.cells.specs.Bytes.{fromComplement};
-ghost use Rattle.cells.specs.Cell.{key_of, between, each, keyAllowed, key_at};
-ghost use Rattle.cells.specs.inner.Tests.{size_of, stringFormed, valueFormed, Sized};
+ghost use Rattle.cells.specs.Bytes.{from_complement};
+ghost use Rattle.cells.specs.Cell.{key_of, between, each, key_allowed, key_at};
+ghost use Rattle.cells.specs.Inner.Tests.{size_of, string_formed, value_formed, Sized};
 
 use crate::bytes;
 
@@ -19,7 +19,7 @@ const DECIMAL_LIMIT: u64 = 2_000_000_000_000_000;
 
 // "datasource 1–35 .., parameter 1–65,535, record 0–999, entry 0–999"
 pub fn within_limits(datasource: u64, parameter: u64, record_number: u64, entry: u64) -> bool
-    ensures { result ≡ keyAllowed (key_of datasource parameter record_number entry) }
+    ensures { result ≡ key_allowed (key_of datasource parameter record_number entry) }
 {
     if datasource < 1 {
         return false;
@@ -42,7 +42,7 @@ pub fn within_limits(datasource: u64, parameter: u64, record_number: u64, entry:
 // Whether the key at a place is within the limits.
 pub fn key_allowed(s: &[u8], at: usize) -> bool
     requires { at + 7 ≤ length s.now }
-    ensures { result ≡ keyAllowed (key_at s.now at) }
+    ensures { result ≡ key_allowed (key_at s.now at) }
 {
     let d = bytes::wide(s[at]);
     let p = bytes::pair(s, at + 1);
@@ -54,7 +54,7 @@ pub fn key_allowed(s: &[u8], at: usize) -> bool
 // Whether a number in two's complement, `top` being the highest of its width, lies within ±limit.
 fn number_allowed(n: u64, top: u64, limit: u64) -> bool
     requires { n ≤ top }
-    ensures { result ≡ within limit (fromComplement (top + 1) n) }
+    ensures { result ≡ within limit (from_complement (top + 1) n) }
 {
     if n <= top / 2 {
         return n <= limit;
@@ -83,7 +83,7 @@ fn all_between(s: &[u8], low: u8, high: u8) -> bool
 // "a length 0–16, then 16 bytes: that many of 0x20–0x7E, the rest zero"
 fn string_allowed(s: &[u8]) -> bool
     requires { 25 ≤ length s.now }
-    ensures { result ≡ stringFormed s.now }
+    ensures { result ≡ string_formed s.now }
 {
     let n = bytes::size(s[8]);
     if 16 < n {
@@ -115,7 +115,7 @@ pub fn size_of(kind: u8) -> usize
 // Whether the value of a cell is within the limits of its kind.
 fn value_allowed(s: &[u8]) -> bool
     requires { (0 < size_of (slice_index s.now 0)) × (size_of (slice_index s.now 0) ≤ length s.now) }
-    ensures { result ≡ valueFormed s.now }
+    ensures { result ≡ value_formed s.now }
 {
     let kind = s[0];
     if kind == INTEGER {

@@ -1,7 +1,7 @@
 // The walk over a store: the form of every cell, and where each begins.
 ghost use Rattle.std.specs.Prelude.{◌≡◌, ◌+◌, ◌<◌, ◌≤◌, length, slice_set};
-ghost use Rattle.cells.specs.Store.{cells, cellsHeld};
-ghost use Rattle.cells.specs.inner.Index.{Indexes};
+ghost use Rattle.cells.specs.Store.{cells, cells_held};
+ghost use Rattle.cells.specs.Inner.Index.{Indexes};
 
 use crate::{bytes, form};
 
@@ -50,7 +50,7 @@ fn walk(run: &[u8], starts: &mut [u16]) -> Indexed
 
 // Checks the form of a store, a buffer and a length, and writes down where each cell begins.
 pub fn build(store: &[u8], len: usize, starts: &mut [u16]) -> Indexed
-    ensures { Indexes starts.old (cellsHeld store.now len) starts.new result }
+    ensures { Indexes starts.old (cells_held store.now len) starts.new result }
 {
     if store.len() < len {
         return Indexed::BadStore;

@@ -1,8 +1,8 @@
 // Questions: their limits, and their answers over the index of a store.
 ghost use Rattle.std.specs.Prelude.{◌≡◌, ◌+◌, ◌<◌, ◌≤◌, true};
-ghost use Rattle.cells.specs.Cell.{key_of, keyAsNumber, keyAllowed};
-ghost use Rattle.cells.specs.Asking.{questionAllowed};
-ghost use Rattle.cells.specs.inner.Index.{CellAnswer, Highest, Answers, reachOf, offset_of};
+ghost use Rattle.cells.specs.Cell.{key_of, key_as_number, key_allowed};
+ghost use Rattle.cells.specs.Asking.{question_allowed};
+ghost use Rattle.cells.specs.Inner.Index.{CellAnswer, Highest, Answers, reach_of, offset_of};
 
 use crate::{Answered, find, form, value};
 use meaning::question::Question;
@@ -15,7 +15,7 @@ fn wide(n: u32) -> u64
 
 // "Unused numbers are 0."
 pub fn allowed(question: Question) -> bool
-    ensures { result ≡ questionAllowed question }
+    ensures { result ≡ question_allowed question }
 {
     let kind = question.kind;
     let r = question.record;
@@ -45,8 +45,8 @@ pub fn allowed(question: Question) -> bool
 
 // A key within the limits as one number.
 fn number_of(datasource: u32, parameter: u32, record_number: u32, entry: u32) -> u64
-    requires { keyAllowed (key_of datasource parameter record_number entry) ≡ true }
-    ensures { (result ≡ keyAsNumber (key_of datasource parameter record_number entry)) × (result < 72057594037927936) }
+    requires { key_allowed (key_of datasource parameter record_number entry) ≡ true }
+    ensures { (result ≡ key_as_number (key_of datasource parameter record_number entry)) × (result < 72057594037927936) }
 {
     let d = wide(datasource) * 65536 + wide(parameter);
     (d * 65536 + wide(record_number)) * 65536 + wide(entry)
@@ -83,7 +83,7 @@ fn cell_answer(store: &[u8], starts: &[u16], count: usize, key: u64, hint: usize
 
 // The keys of a parameter reach so far for kind 2, those of a record for kind 3.
 fn reach_of(kind: u32) -> u64
-    ensures { result ≡ reachOf kind }
+    ensures { result ≡ reach_of kind }
 {
     if kind == 2 {
         return 4294967296;

@@ -1,6 +1,6 @@
 // What an edit is handed: the bytes of a cell, or of a key.
-ghost use Rattle.cells.specs.Cell.{wholeCell, wholeKey};
-ghost use Rattle.cells.specs.inner.Request.{CellAsked, KeyAsked};
+ghost use Rattle.cells.specs.Cell.{whole_cell, whole_key};
+ghost use Rattle.cells.specs.Inner.Request.{CellAsked, KeyAsked};
 
 use crate::{bytes, form};
 
@@ -13,7 +13,7 @@ pub enum Request {
 
 // Whether these bytes are one cell in form, and its key.
 pub fn cell_request(cell: &[u8]) -> Request
-    ensures { CellAsked cell.now (wholeCell cell.now) result }
+    ensures { CellAsked cell.now (whole_cell cell.now) result }
 {
     let size = form::cell_size(cell);
     if size < 1 {
@@ -27,7 +27,7 @@ pub fn cell_request(cell: &[u8]) -> Request
 
 // Whether these bytes are one key in form.
 pub fn key_request(key: &[u8]) -> Request
-    ensures { KeyAsked (wholeKey key.now) result }
+    ensures { KeyAsked (whole_key key.now) result }
 {
     if key.len() < 7 {
         return Request::Bad;

@@ -1,21 +1,21 @@
 // The parts of a cell at a place of the store, as answers.
 ghost use Rattle.std.specs.Prelude.{◌≡◌, ◌+◌, ◌<◌, ◌≤◌, length};
-ghost use Rattle.cells.specs.Bytes.{pair_at, fromComplement};
-ghost use Rattle.cells.specs.inner.Index.{ValueAt};
+ghost use Rattle.cells.specs.Bytes.{pair_at, from_complement};
+ghost use Rattle.cells.specs.Inner.Index.{ValueAt};
 
 use crate::{Answered, bytes, form};
 
 // The value of 32 bits in two's complement, without a branch.
 fn signed_quad(n: u64) -> i64
     requires { n < 4294967296 }
-    ensures { result ≡ fromComplement 4294967296 n }
+    ensures { result ≡ from_complement 4294967296 n }
 {
     ((n + 2147483648) % 4294967296) as i64 - 2147483648
 }
 
 // The value of 64 bits in two's complement.
 fn signed_octet(n: u64) -> i64
-    ensures { result ≡ fromComplement 18446744073709551616 n }
+    ensures { result ≡ from_complement 18446744073709551616 n }
 {
     if n <= 9223372036854775807 {
         return n as i64;

@@ -7,25 +7,25 @@ use native.Mathlib.Omega.{arith}
 use native.Mathlib.Nat.{le_antisymm}
 use lib.ListN.{length, take, drop, get_or, set, length-set, length-take}
 use lib.Seq.{sets, sets-eq, take_all, take_at, length-take-le}
-use Rattle.values.specs.inner.Registers.{Puts}
-use Rattle.values.specs.Machine.{setNumbered}
+use Rattle.values.specs.Inner.Registers.{Puts}
+use Rattle.values.specs.Machine.{set_numbered}
 use Rattle.meaning.specs.declared.refusal.Refusal.{Refusal}
 use Rattle.buffers.proofs.Laws.{copied_more}
 use Rattle.values.specs.declared.string.Text.{Text}
 use Rattle.values.specs.Letters.{letter}
-use Rattle.values.specs.inner.Texts.{zeros, rowFor, chosen, Strings, strings, cased}
-use Rattle.values.proofs.Texts.{text-is, length-cased}
-use Rattle.values.specs.inner.State.{texts, bank, lengthsIn}
+use Rattle.values.specs.Inner.Texts.{zeros, row_for, chosen, Strings, strings, cased}
+use Rattle.values.proofs.Texts.{text_is, length_cased}
+use Rattle.values.specs.Inner.State.{texts, bank, lengths_in}
 use Rattle.values.specs.declared.worth.Worth.{Worth}
-use Rattle.values.proofs.Keeping.{strings-kept}
+use Rattle.values.proofs.Keeping.{strings_kept}
 use Rattle.commands.specs.declared.settle.Assigned.TheVariants as Ve
 use Rattle.commands.specs.declared.settle.Phrase.{Phrase}
 use Rattle.commands.specs.declared.settle.Phrase.TheVariants.{String, NoString}
-use Rattle.commands.specs.Setting.{asVariable, stringNew}
+use Rattle.commands.specs.Setting.{as_variable, string_new}
 use Rattle.commands.specs.Settling.{settled}
-use Rattle.commands.specs.inner.Taking.{TakesText}
-use Rattle.commands.specs.inner.Assigning.{Rowed, PutsString, StoresString}
-use Rattle.values.proofs.Puts.{put-none, put_in, put-past}
+use Rattle.commands.specs.Inner.Taking.{TakesText}
+use Rattle.commands.specs.Inner.Assigning.{Rowed, PutsString, StoresString}
+use Rattle.values.proofs.Puts.{put_none, put_in, put_past}
 
 -- ---- a copy of at most 16 bytes
 
@@ -35,73 +35,73 @@ pub record Copied (s : List ℕ) (u : Bool) (row : List ℕ) (j : ℕ) : Type 0 
   pub most : j ≤ 16
   pub few : j ≤ length s
 
-getD-cased : (u : Bool) (s : List ℕ) (j : ℕ) → j < length s → get_or (cased u s) j 0 ≡ letter u (get_or s j 0)
+get_or_cased : (u : Bool) (s : List ℕ) (j : ℕ) → j < length s → get_or (cased u s) j 0 ≡ letter u (get_or s j 0)
 unfolding cased
-getD-cased true [] j h = absurd (omega arith)
-getD-cased true (b ∷ s) zero h = refl
-getD-cased true (b ∷ s) (suc j) h = getD-cased true s j (omega arith)
-getD-cased false s j h = refl
+get_or_cased true [] j h = absurd (omega arith)
+get_or_cased true (b ∷ s) zero h = refl
+get_or_cased true (b ∷ s) (suc j) h = get_or_cased true s j (omega arith)
+get_or_cased false s j h = refl
 
 module _ (s : List ℕ) (u : Bool) where
   pub copy_start : Copied s u zeros 0
   copy_start = record { row_is = refl; most = omega arith; few = omega arith }
 
   module _ (row : List ℕ) (j : ℕ) (h : Copied s u row j) where
-    pub copy-next : j < 16 → j < length s → (b : ℕ) → b ≡ letter u (get_or s j 0) → Copied s u (set row j b) (j + 1)
-    copy-next k l b e = record {
-      row_is = let z : 0 + j ≡ j = omega arith in rw (e, ← (getD-cased u s j l)) (rw z at (copied_more row zeros (cased u s) 0 j h.row_is 0 (omega (arith, length-cased u s))));
+    pub copy_next : j < 16 → j < length s → (b : ℕ) → b ≡ letter u (get_or s j 0) → Copied s u (set row j b) (j + 1)
+    copy_next k l b e = record {
+      row_is = let z : 0 + j ≡ j = omega arith in rw (e, ← (get_or_cased u s j l)) (rw z at (copied_more row zeros (cased u s) 0 j h.row_is 0 (omega (arith, length_cased u s))));
       most = omega arith;
       few = omega arith;
     }
 
-    pub copy-short : length s ≤ j → row ≡ sets zeros 0 (take 16 (cased u s))
-    copy-short l = h.row_is ∙ ap (sets zeros 0) (take_all j (cased u s) (omega (arith, length-cased u s)) ∙ sym (take_all 16 (cased u s) (omega (arith, length-cased u s, h.few, h.most))))
+    pub copy_short : length s ≤ j → row ≡ sets zeros 0 (take 16 (cased u s))
+    copy_short l = h.row_is ∙ ap (sets zeros 0) (take_all j (cased u s) (omega (arith, length_cased u s)) ∙ sym (take_all 16 (cased u s) (omega (arith, length_cased u s, h.few, h.most))))
 
-    pub copy-full : 16 ≤ j → row ≡ sets zeros 0 (take 16 (cased u s))
-    copy-full l = h.row_is ∙ ap (λ (i : ℕ). sets zeros 0 (take i (cased u s))) (le_antisymm h.most l)
+    pub copy_full : 16 ≤ j → row ≡ sets zeros 0 (take 16 (cased u s))
+    copy_full l = h.row_is ∙ ap (λ (i : ℕ). sets zeros 0 (take i (cased u s))) (le_antisymm h.most l)
 
-pub count-short : (s : List ℕ) → length s < 16 → length s ≡ length (take 16 s)
-count-short s h = ap length (sym (take_all 16 s (omega arith)))
+pub count_short : (s : List ℕ) → length s < 16 → length s ≡ length (take 16 s)
+count_short s h = ap length (sym (take_all 16 s (omega arith)))
 
-pub count-full : (s : List ℕ) → 16 ≤ length s → 16 ≡ length (take 16 s)
-count-full s h = sym (length-take-le 16 s h)
+pub count_full : (s : List ℕ) → 16 ≤ length s → 16 ≡ length (take 16 s)
+count_full s h = sym (length-take-le 16 s h)
 
-take-most : (n : ℕ) (l : List ℕ) → length (take n l) ≤ n
-take-most zero l = omega arith
-take-most (suc n) [] = omega arith
-take-most (suc n) (x ∷ l) = omega (arith, take-most n l)
+take_most : (n : ℕ) (l : List ℕ) → length (take n l) ≤ n
+take_most zero l = omega arith
+take_most (suc n) [] = omega arith
+take_most (suc n) (x ∷ l) = omega (arith, take_most n l)
 
 same_count : (u : Bool) (s : List ℕ) → length (take 16 s) ≡ length (take 16 (cased u s))
-same_count u s = length-take 16 s ∙ ap (min 16) (sym (length-cased u s)) ∙ sym (length-take 16 (cased u s))
+same_count u s = length-take 16 s ∙ ap (min 16) (sym (length_cased u s)) ∙ sym (length-take 16 (cased u s))
 
 -- the first bytes of a row, as many as were put there
 front : (l : List ℕ) (n : ℕ) → length l ≤ 16 → n ≡ length l → take n (sets zeros 0 l) ≡ l
 front l n h e = rw (e, sets-eq l zeros 0 (omega arith)) (take_at l _ (length l) refl)
 
 copy_is : (s : List ℕ) (u : Bool) (row : List ℕ) (n : ℕ) → row ≡ sets zeros 0 (take 16 (cased u s)) → n ≡ length (take 16 s) → take n row ≡ take 16 (cased u s)
-copy_is s u row n e k = ap (take n) e ∙ front (take 16 (cased u s)) n (take-most 16 (cased u s)) (k ∙ same_count u s)
+copy_is s u row n e k = ap (take n) e ∙ front (take 16 (cased u s)) n (take_most 16 (cased u s)) (k ∙ same_count u s)
 
 -- ---- SVn
 
-length-texts : (rows : List (List ℕ)) (k : ℕ) (ns : List ℕ) → length (texts rows k ns) ≡ length ns
+length_texts : (rows : List (List ℕ)) (k : ℕ) (ns : List ℕ) → length (texts rows k ns) ≡ length ns
 unfolding texts
-length-texts rows k [] = refl
-length-texts rows k (n ∷ ns) = ap suc (length-texts rows (suc k) ns)
+length_texts rows k [] = refl
+length_texts rows k (n ∷ ns) = ap suc (length_texts rows (suc k) ns)
 
 module _ (rows : List (List ℕ)) (words : List ℕ) (n : ℕ) (row : List ℕ) (count : ℕ) (h : Rowed rows) where
-  pub string-none : n < 1 → PutsString rows words n (take count row) rows words
-  string-none l = record { put = put-none _ _ n l; held = h; above = λ i k g. refl }
+  pub string_none : n < 1 → PutsString rows words n (take count row) rows words
+  string_none l = record { put = put_none _ _ n l; held = h; above = λ i k g. refl }
 
-  pub string-in : 1 ≤ n → n - 1 < 99 → (words' : List ℕ) → Puts words 0 99 n count words' → PutsString rows words n (take count row) (set rows (n - 1) row) words'
-  string-in k l words' d = record {
-    put = ap (texts (set rows (n - 1) row) 0) (d.own ∙ sym (put_in (lengthsIn words) count n count k refl)) ∙ strings-kept rows (lengthsIn words) (n - 1) row count l (omega (arith, h.rows-held)) ∙ put_in (texts rows 0 (lengthsIn words)) (take count row) n _ k refl;
-    held = record { rows-held = length-set rows (n - 1) row ∙ h.rows-held };
+  pub string_in_law : 1 ≤ n → n - 1 < 99 → (words' : List ℕ) → Puts words 0 99 n count words' → PutsString rows words n (take count row) (set rows (n - 1) row) words'
+  string_in_law k l words' d = record {
+    put = ap (texts (set rows (n - 1) row) 0) (d.own ∙ sym (put_in (lengths_in words) count n count k refl)) ∙ strings_kept rows (lengths_in words) (n - 1) row count l (omega (arith, h.rows_held)) ∙ put_in (texts rows 0 (lengths_in words)) (take count row) n _ k refl;
+    held = record { rows_held = length-set rows (n - 1) row ∙ h.rows_held };
     above = λ i j g. d.above i j (omega arith);
   }
 
-  pub string-past : 1 ≤ n → 99 ≤ n - 1 → PutsString rows words n (take count row) rows words
+  pub string_past : 1 ≤ n → 99 ≤ n - 1 → PutsString rows words n (take count row) rows words
   unfolding bank
-  string-past k l = record { put = put-past _ _ n k (omega (arith, length-texts rows 0 (take 99 (drop 0 words)), length-take 99 (drop 0 words))); held = h; above = λ i k g. refl }
+  string_past k l = record { put = put_past _ _ n k (omega (arith, length_texts rows 0 (take 99 (drop 0 words)), length-take 99 (drop 0 words))); held = h; above = λ i k g. refl }
 
 -- ---- a value in hand
 
@@ -109,15 +109,15 @@ module _ (line store : List ℕ) (rows : List (List ℕ)) (words : List ℕ) (n 
   abbrev Here : Strings
   Here = strings line store rows
 
-  pub string-refused : (e : Refusal) → phrase ≡ NoString e → StoresString line store rows words n w rows words (Ve.Refused e)
-  unfolding asVariable stringNew
-  string-refused e h = record { same = rw (← (d.same Here), h); held = k; above = λ i k g. refl }
+  pub string_refused : (e : Refusal) → phrase ≡ NoString e → StoresString line store rows words n w rows words (Ve.Refused e)
+  unfolding as_variable string_new
+  string_refused e h = record { same = rw (← (d.same Here), h); held = k; above = λ i k g. refl }
 
-  module _ (t : Text) (h : phrase ≡ String t) (row found : List ℕ) (r : row ≡ rowFor rows t.source) (f : found ≡ take t.count (drop t.at (chosen line store row t.source))) where
-    pub string-stored : (copy : List ℕ) (count : ℕ) → copy ≡ sets zeros 0 (take 16 (cased t.upper found)) → count ≡ length (take 16 found) → (rows' : List (List ℕ)) (words' : List ℕ) → PutsString rows words n (take count copy) rows' words' → StoresString line store rows words n w rows' words' Ve.Passed
-    unfolding asVariable stringNew
-    string-stored copy count e l rows' words' p = record {
-      same = rw (← (d.same Here), h) (ap settled (sym (p.put ∙ ap (λ (s : List ℕ). setNumbered (texts rows 0 (lengthsIn words)) n s) (copy_is found t.upper copy count e l ∙ ap (take 16) (text-is Here t row found r f)))));
+  module _ (t : Text) (h : phrase ≡ String t) (row found : List ℕ) (r : row ≡ row_for rows t.source) (f : found ≡ take t.count (drop t.at (chosen line store row t.source))) where
+    pub string_stored : (copy : List ℕ) (count : ℕ) → copy ≡ sets zeros 0 (take 16 (cased t.upper found)) → count ≡ length (take 16 found) → (rows' : List (List ℕ)) (words' : List ℕ) → PutsString rows words n (take count copy) rows' words' → StoresString line store rows words n w rows' words' Ve.Passed
+    unfolding as_variable string_new
+    string_stored copy count e l rows' words' p = record {
+      same = rw (← (d.same Here), h) (ap settled (sym (p.put ∙ ap (λ (s : List ℕ). set_numbered (texts rows 0 (lengths_in words)) n s) (copy_is found t.upper copy count e l ∙ ap (take 16) (text_is Here t row found r f)))));
       held = p.held;
       above = p.above;
     }

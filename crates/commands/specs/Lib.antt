@@ -1,5 +1,5 @@
 pub mod Settling
-pub mod inner
+pub mod Inner
 pub mod Setting
 pub mod Testing
 pub mod Looping

@@ -9,7 +9,7 @@ use Rattle.lines.specs.declared.command.Optional.{Optional}
 use Rattle.lines.specs.declared.command.Optional.TheVariants.{Given, Absent}
 use Rattle.values.specs.Machine.{Machine}
 use Rattle.commands.specs.declared.table.Table.{Table}
-use Rattle.commands.specs.Settling.{Settled, settled, refusedFor, concluded, integerMeaning}
+use Rattle.commands.specs.Settling.{Settled, settled, refused_for, concluded, integer_meaning}
 
 -- "LOOP is the innermost table's counter, 0 outside"; the open tables stand the innermost first
 unfoldable pub loop : List Table → ℕ
@@ -25,41 +25,41 @@ abbrev pub looping : List Table → Bool → Looping
 looping ts b = record { tables = ts; elsewhere = b }
 
 -- "the counter starts at 1"; "n is read once"; `start` and `next` are the line after $BT, by place and number
-abbrev pub newTable : ℕ → ℕ → ℕ → Table
-newTable n start next = record { counter = 1; last = n; start = start; line = next }
+abbrev pub new_table : ℕ → ℕ → ℕ → Table
+new_table n start next = record { counter = 1; last = n; start = start; line = next }
 
 -- "With n below 1 the run continues after the matching $ET". "At most 5 are open": check 4 has seen to it.
 unfoldable pub begun : List Table → ℕ → ℕ → ℤ → Looping
-begun ts start next n = cond (lt_z n (pos 1)) (looping ts true) (looping (newTable (nat_abs n) start next ∷ ts) false)
+begun ts start next n = cond (lt_z n (pos 1)) (looping ts true) (looping (new_table (nat_abs n) start next ∷ ts) false)
 
 -- "$BT n": "$BT, $ET and $NP take integers"
-unfoldable pub beginMeaning : Machine → List ℕ → ℕ → List Table → ℕ → ℕ → Argument → Meaning Looping
-beginMeaning m s line ts start next a = bind (integerMeaning m s line a) (λ n. done (begun ts start next n))
+unfoldable pub begin_meaning : Machine → List ℕ → ℕ → List Table → ℕ → ℕ → Argument → Meaning Looping
+begin_meaning m s line ts start next a = bind (integer_meaning m s line a) (λ n. done (begun ts start next n))
 
--- The innermost table. Check 4 has seen to it that one is open where a $ET stands (template/proofs/Opening:behind-end-table).
-abbrev pub noTable : Table
-noTable = record { counter = 0; last = 0; start = 0; line = 0 }
+-- The innermost table. Check 4 has seen to it that one is open where a $ET stands (template/proofs/Opening:behind_end_table).
+abbrev pub no_table : Table
+no_table = record { counter = 0; last = 0; start = 0; line = 0 }
 
 abbrev pub innermost : List Table → Table
-innermost ts = get_or ts 0 noTable
+innermost ts = get_or ts 0 no_table
 
 -- "exceeds n"; "a counter past 2,000,000,000 has exceeded it"
 unfoldable pub exceeds : ℕ → ℕ → Bool
 exceeds c last = ltb 2000000000 c || ltb last c
 
-abbrev pub countedTo : Table → ℕ → Table
-countedTo t c = record { counter = c; last = t.last; start = t.start; line = t.line }
+abbrev pub counted_to : Table → ℕ → Table
+counted_to t c = record { counter = c; last = t.last; start = t.start; line = t.line }
 
 -- "ends the table when the counter exceeds n, else goes to the line after $BT"
 unfoldable pub counting : List Table → ℕ → Looping
 counting ts c =
-    cond (exceeds c (innermost ts).last) (looping (drop 1 ts) false) (looping (countedTo (innermost ts) c ∷ drop 1 ts) true)
+    cond (exceeds c (innermost ts).last) (looping (drop 1 ts) false) (looping (counted_to (innermost ts) c ∷ drop 1 ts) true)
 
 -- "$ET adds k"; 13: "or $ET's k is below 1"
 unfoldable pub counted : List Table → ℤ → Settled Looping
-counted ts k = cond (lt_z k (pos 1)) (refusedFor OutOfRange) (settled (counting ts ((innermost ts).counter + nat_abs k)))
+counted ts k = cond (lt_z k (pos 1)) (refused_for OutOfRange) (settled (counting ts ((innermost ts).counter + nat_abs k)))
 
 -- "$ET [k]"; "(default 1)"
-unfoldable pub endMeaning : Machine → List ℕ → ℕ → List Table → Optional → Meaning Looping
-endMeaning m s line ts Absent = concluded line (counted ts (pos 1))
-endMeaning m s line ts (Given a) = bind (integerMeaning m s line a) (λ k. concluded line (counted ts k))
+unfoldable pub end_meaning : Machine → List ℕ → ℕ → List Table → Optional → Meaning Looping
+end_meaning m s line ts Absent = concluded line (counted ts (pos 1))
+end_meaning m s line ts (Given a) = bind (integer_meaning m s line a) (λ k. concluded line (counted ts k))

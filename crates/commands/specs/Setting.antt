@@ -1,70 +1,70 @@
 -- $SETE, $SETA, $SETS, $SETM, $SETD.
 use Rattle.std.specs.Prelude.{List, ℕ, zero, ℤ, pos, take}
 use Rattle.meaning.specs.Meaning.{Meaning}
-use Rattle.numbers.specs.Range.{integerLimit, decimalLimit}
+use Rattle.numbers.specs.Range.{integer_limit, decimal_limit}
 use Rattle.numbers.specs.Result.{Result, success}
-use Rattle.numbers.specs.Arithmetic.{sum_of, differenceOf, integerProduct, integerQuotient, decimalProduct, decimalQuotient}
+use Rattle.numbers.specs.Arithmetic.{sum_of, difference_of, integer_product, integer_quotient, decimal_product, decimal_quotient}
 use Rattle.arguments.specs.declared.argument.Argument.{Argument}
 use Rattle.lines.specs.declared.command.Operation.{Operation}
 use Rattle.lines.specs.declared.command.Operation.TheVariants.{Assign, Add, Subtract, Multiply, Divide}
 use Rattle.lines.specs.declared.command.Target.{Target}
 use Rattle.lines.specs.declared.command.Target.TheVariants.{IntegerTarget, DecimalTarget, StringTarget}
-use Rattle.values.specs.Machine.{Variables, Machine, numbered, setNumbered}
+use Rattle.values.specs.Machine.{Variables, Machine, numbered, set_numbered}
 use Rattle.values.specs.Worth.{Worth}
-use Rattle.commands.specs.Settling.{Settled, settled, and_then, fromOne, integerFrom, decimalFrom, stringFrom, result_of}
+use Rattle.commands.specs.Settling.{Settled, settled, and_then, from_one, integer_from, decimal_from, string_from, result_of}
 
 -- "set, add, subtract, multiply, divide"; "IV takes an integer and divides toward zero"
-unfoldable pub integerResult : Operation → ℤ → ℤ → Result
-integerResult Assign a b = success b
-integerResult Add a b = sum_of integerLimit a b
-integerResult Subtract a b = differenceOf integerLimit a b
-integerResult Multiply a b = integerProduct a b
-integerResult Divide a b = integerQuotient a b
+unfoldable pub integer_result : Operation → ℤ → ℤ → Result
+integer_result Assign a b = success b
+integer_result Add a b = sum_of integer_limit a b
+integer_result Subtract a b = difference_of integer_limit a b
+integer_result Multiply a b = integer_product a b
+integer_result Divide a b = integer_quotient a b
 
 -- "products and quotients are rounded to the nearest millionth, halves away from zero, then checked for range"
-unfoldable pub decimalResult : Operation → ℤ → ℤ → Result
-decimalResult Assign a b = success b
-decimalResult Add a b = sum_of decimalLimit a b
-decimalResult Subtract a b = differenceOf decimalLimit a b
-decimalResult Multiply a b = decimalProduct a b
-decimalResult Divide a b = decimalQuotient a b
+unfoldable pub decimal_result : Operation → ℤ → ℤ → Result
+decimal_result Assign a b = success b
+decimal_result Add a b = sum_of decimal_limit a b
+decimal_result Subtract a b = difference_of decimal_limit a b
+decimal_result Multiply a b = decimal_product a b
+decimal_result Divide a b = decimal_quotient a b
 
 -- a result as the n-th variable
-unfoldable pub asVariable : {A : Type 0} → List A → ℕ → Settled A → Settled (List A)
-asVariable vs n x = and_then x (λ z. settled (setNumbered vs n z))
+unfoldable pub as_variable : {A : Type 0} → List A → ℕ → Settled A → Settled (List A)
+as_variable vs n x = and_then x (λ z. settled (set_numbered vs n z))
 
 -- what is taken from a value, and what an operation makes of it
-unfoldable pub newFrom : (Worth → Settled ℤ) → (ℤ → Result) → Worth → Settled ℤ
-newFrom from operation w = and_then (from w) (λ b. result_of (operation b))
+unfoldable pub new_from : (Worth → Settled ℤ) → (ℤ → Result) → Worth → Settled ℤ
+new_from from operation w = and_then (from w) (λ b. result_of (operation b))
 
 -- what IVn and FVn become that are a now
-abbrev pub integerNew : Operation → ℤ → Worth → Settled ℤ
-integerNew o a = newFrom integerFrom (integerResult o a)
+abbrev pub integer_new : Operation → ℤ → Worth → Settled ℤ
+integer_new o a = new_from integer_from (integer_result o a)
 
-abbrev pub decimalNew : Operation → ℤ → Worth → Settled ℤ
-decimalNew o a = newFrom decimalFrom (decimalResult o a)
+abbrev pub decimal_new : Operation → ℤ → Worth → Settled ℤ
+decimal_new o a = new_from decimal_from (decimal_result o a)
 
--- "SV takes a string"; "SV1–SV99 hold up to 16 bytes each". No string of a run has more, so none is cut (control/proofs/Ranges:string-whole).
-unfoldable pub stringNew : Worth → Settled (List ℕ)
-stringNew w = and_then (stringFrom w) (λ s. settled (take 16 s))
+-- "SV takes a string"; "SV1–SV99 hold up to 16 bytes each". No string of a run has more, so none is cut (control/proofs/Ranges:string_whole).
+unfoldable pub string_new : Worth → Settled (List ℕ)
+string_new w = and_then (string_from w) (λ s. settled (take 16 s))
 
-abbrev pub withIntegers : Variables → List ℤ → Variables
-withIntegers v l = record { integers = l; decimals = v.decimals; strings = v.strings; records = v.records; entries = v.entries }
+abbrev pub with_integers : Variables → List ℤ → Variables
+with_integers v l = record { integers = l; decimals = v.decimals; strings = v.strings; records = v.records; entries = v.entries }
 
-abbrev pub withDecimals : Variables → List ℤ → Variables
-withDecimals v l = record { integers = v.integers; decimals = l; strings = v.strings; records = v.records; entries = v.entries }
+abbrev pub with_decimals : Variables → List ℤ → Variables
+with_decimals v l = record { integers = v.integers; decimals = l; strings = v.strings; records = v.records; entries = v.entries }
 
-abbrev pub withStrings : Variables → List (List ℕ) → Variables
-withStrings v l = record { integers = v.integers; decimals = v.decimals; strings = l; records = v.records; entries = v.entries }
+abbrev pub with_strings : Variables → List (List ℕ) → Variables
+with_strings v l = record { integers = v.integers; decimals = v.decimals; strings = l; records = v.records; entries = v.entries }
 
 -- a string's word is $SETE: "after another word than $SETE it is 3"
-unfoldable pub setOf : Variables → Operation → Target → Worth → Settled Variables
-setOf v o (IntegerTarget n) w =
-    and_then (asVariable v.integers n (integerNew o (numbered (pos 0) v.integers n) w)) (λ l. settled (withIntegers v l))
-setOf v o (DecimalTarget n) w =
-    and_then (asVariable v.decimals n (decimalNew o (numbered (pos 0) v.decimals n) w)) (λ l. settled (withDecimals v l))
-setOf v o (StringTarget n) w = and_then (asVariable v.strings n (stringNew w)) (λ l. settled (withStrings v l))
+unfoldable pub set_of : Variables → Operation → Target → Worth → Settled Variables
+set_of v o (IntegerTarget n) w =
+    and_then (as_variable v.integers n (integer_new o (numbered (pos 0) v.integers n) w)) (λ l. settled (with_integers v l))
+set_of v o (DecimalTarget n) w =
+    and_then (as_variable v.decimals n (decimal_new o (numbered (pos 0) v.decimals n) w)) (λ l. settled (with_decimals v l))
+set_of v o (StringTarget n) w = and_then (as_variable v.strings n (string_new w)) (λ l. settled (with_strings v l))
 
 -- the line s, whose number is `line`
-unfoldable pub setMeaning : Machine → List ℕ → ℕ → Operation → Target → Argument → Meaning Variables
-setMeaning m s line o t a = fromOne m s line a (setOf m.variables o t)
+unfoldable pub set_meaning : Machine → List ℕ → ℕ → Operation → Target → Argument → Meaning Variables
+set_meaning m s line o t a = from_one m s line a (set_of m.variables o t)

@@ -1,10 +1,10 @@
 // $SETE, $SETA, $SETS, $SETM, $SETD.
 ghost use Rattle.std.specs.Prelude.{◌≡◌, ◌≤◌};
-ghost use Rattle.numbers.specs.Result.{resultIn};
-ghost use Rattle.values.specs.inner.State.{held};
-ghost use Rattle.commands.specs.Setting.{integerResult, decimalResult, integerNew, decimalNew};
-ghost use Rattle.commands.specs.inner.Taking.{Takes};
-ghost use Rattle.commands.specs.inner.Assigning.{Rowed, StoresNumber, Assigns};
+ghost use Rattle.numbers.specs.Result.{result_in};
+ghost use Rattle.values.specs.Inner.State.{held};
+ghost use Rattle.commands.specs.Setting.{integer_result, decimal_result, integer_new, decimal_new};
+ghost use Rattle.commands.specs.Inner.Taking.{Takes};
+ghost use Rattle.commands.specs.Inner.Assigning.{Rowed, StoresNumber, Assigns};
 
 use crate::settle::{Assigned, Taken};
 use crate::{settle, string};
@@ -16,7 +16,7 @@ use values::worth::Worth;
 
 // "set, add, subtract, multiply, divide"
 fn integer_result(o: Operation, a: i64, b: i64) -> Number
-    ensures { resultIn result ≡ integerResult o a b }
+    ensures { result_in result ≡ integer_result o a b }
 {
     match o {
         Operation::Assign => Number::Computed(b),
@@ -28,7 +28,7 @@ fn integer_result(o: Operation, a: i64, b: i64) -> Number
 }
 
 fn decimal_result(o: Operation, a: i64, b: i64) -> Number
-    ensures { resultIn result ≡ decimalResult o a b }
+    ensures { result_in result ≡ decimal_result o a b }
 {
     match o {
         Operation::Assign => Number::Computed(b),
@@ -55,7 +55,7 @@ fn stored(taken: Taken, from: usize, n: usize, numbers: &mut Numbers) -> Assigne
 
 // What an integer variable becomes.
 fn integer_new(o: Operation, a: i64, worth: Worth) -> Taken
-    ensures { Takes (integerNew o a) worth result }
+    ensures { Takes (integer_new o a) worth result }
 {
     let taken = settle::integer_of(worth);
     match taken {
@@ -65,7 +65,7 @@ fn integer_new(o: Operation, a: i64, worth: Worth) -> Taken
 }
 
 fn decimal_new(o: Operation, a: i64, worth: Worth) -> Taken
-    ensures { Takes (decimalNew o a) worth result }
+    ensures { Takes (decimal_new o a) worth result }
 {
     let taken = settle::decimal_of(worth);
     match taken {

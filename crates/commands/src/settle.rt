@@ -1,8 +1,8 @@
 // What a command takes from the value of an argument and what it comes to, or why its line is refused.
 ghost use Rattle.std.specs.Prelude.{◌≡◌};
-ghost use Rattle.numbers.specs.Result.{resultIn};
-ghost use Rattle.commands.specs.Settling.{result_of, millionthsOf, integerFrom, decimalFrom};
-ghost use Rattle.commands.specs.inner.Taking.{taken_of, integerOr, Takes, TakesQuantity, TakesText};
+ghost use Rattle.numbers.specs.Result.{result_in};
+ghost use Rattle.commands.specs.Settling.{result_of, millionths_of, integer_from, decimal_from};
+ghost use Rattle.commands.specs.Inner.Taking.{taken_of, integer_or, Takes, TakesQuantity, TakesText};
 
 use lines::command::Optional;
 use meaning::refusal::Refusal;
@@ -47,7 +47,7 @@ pub enum Assigned {
 
 // 12 and 13
 pub fn result_of(number: Number) -> Taken
-    ensures { taken_of result ≡ result_of (resultIn number) }
+    ensures { taken_of result ≡ result_of (result_in number) }
 {
     match number {
         Number::Computed(z) => Taken::Value(z),
@@ -58,7 +58,7 @@ pub fn result_of(number: Number) -> Taken
 
 // A number in millionths.
 fn millionths_of(q: Quantity) -> Taken
-    ensures { taken_of result ≡ millionthsOf q }
+    ensures { taken_of result ≡ millionths_of q }
 {
     match q {
         Quantity::Integer(n) => result_of(numbers::integer::to_decimal(n)),
@@ -67,7 +67,7 @@ fn millionths_of(q: Quantity) -> Taken
 }
 
 fn integer_in(q: Quantity) -> Taken
-    ensures { Takes integerFrom (Worth.Number q) result }
+    ensures { Takes integer_from (Worth.Number q) result }
 {
     match q {
         Quantity::Integer(n) => Taken::Value(n),
@@ -77,7 +77,7 @@ fn integer_in(q: Quantity) -> Taken
 
 // 10 and 11: "IV takes an integer"
 pub fn integer_of(worth: Worth) -> Taken
-    ensures { Takes integerFrom worth result }
+    ensures { Takes integer_from worth result }
 {
     match worth {
         Worth::Missing => Taken::Refused(Refusal::MissingArgument),
@@ -89,7 +89,7 @@ pub fn integer_of(worth: Worth) -> Taken
 
 // `$ET [k]`, `$NP [n]`: the integer, or the one that stands for none
 pub fn integer_or(absent: i64, optional: Optional, worth: Worth) -> Taken
-    ensures { Takes (integerOr absent optional) worth result }
+    ensures { Takes (integer_or absent optional) worth result }
 {
     match optional {
         Optional::Absent => Taken::Value(absent),
@@ -99,7 +99,7 @@ pub fn integer_or(absent: i64, optional: Optional, worth: Worth) -> Taken
 
 // "FV takes a number"
 pub fn decimal_of(worth: Worth) -> Taken
-    ensures { Takes decimalFrom worth result }
+    ensures { Takes decimal_from worth result }
 {
     match worth {
         Worth::Missing => Taken::Refused(Refusal::MissingArgument),

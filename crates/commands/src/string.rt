@@ -1,8 +1,8 @@
 // A string as the row and the length of SVn.
 ghost use Rattle.std.specs.Prelude.{◌≡◌, length, take};
 ghost use Rattle.std.proofs.lemmas.List.Edits.{sets};
-ghost use Rattle.values.specs.inner.Texts.{zeros, cased};
-ghost use Rattle.commands.specs.inner.Assigning.{Rowed, PutsString, StoresString};
+ghost use Rattle.values.specs.Inner.Texts.{zeros, cased};
+ghost use Rattle.commands.specs.Inner.Assigning.{Rowed, PutsString, StoresString};
 
 use crate::settle;
 use crate::settle::{Assigned, Phrase};

@@ -1,10 +1,10 @@
 // $BT and $ET: an open table is four of the words that are lent.
 ghost use Rattle.std.specs.Prelude.{◌≡◌, ◌<◌, pos};
 ghost use Rattle.std.specs.Int.Signed.{lt_z};
-ghost use Rattle.values.specs.inner.State.{tablesIn};
+ghost use Rattle.values.specs.Inner.State.{tables_in};
 ghost use Rattle.commands.specs.Looping as L;
-ghost use Rattle.commands.specs.Looping.{noTable, countedTo};
-ghost use Rattle.commands.specs.inner.Open.{tableIn, openOf, AtMostOpen, Pushes, BeginsTable, EndsTable};
+ghost use Rattle.commands.specs.Looping.{no_table, counted_to};
+ghost use Rattle.commands.specs.Inner.Open.{table_in, open_of, AtMostOpen, Pushes, BeginsTable, EndsTable};
 
 use crate::settle::{Judged, Taken};
 use meaning::refusal::Refusal;
@@ -28,7 +28,7 @@ fn below_one(z: i64) -> bool
 }
 
 fn no_table() -> Table
-    ensures { result ≡ noTable }
+    ensures { result ≡ no_table }
 {
     Table {
         counter: 0,
@@ -41,7 +41,7 @@ fn no_table() -> Table
 // Table i, counted from 0.
 fn table_in(words: &Words, i: usize) -> Table
     requires { i < 5 }
-    ensures { result ≡ tableIn (tablesIn words.now) i }
+    ensures { result ≡ table_in (tables_in words.now) i }
 {
     let k = registers::TABLES + i * 4;
     let counter = words[k];
@@ -58,7 +58,7 @@ fn table_in(words: &Words, i: usize) -> Table
 
 // The innermost table; one without passes where none is open.
 pub fn innermost(words: &Words, depth: usize) -> Table
-    ensures { result ≡ L.innermost (openOf words.now depth) }
+    ensures { result ≡ L.innermost (open_of words.now depth) }
 {
     if depth < 1 {
         return no_table();
@@ -72,7 +72,7 @@ pub fn innermost(words: &Words, depth: usize) -> Table
 
 // LOOP
 pub fn turn_of(words: &Words, depth: usize) -> i64
-    ensures { result ≡ pos (L.loop (openOf words.now depth)) }
+    ensures { result ≡ pos (L.loop (open_of words.now depth)) }
 {
     let table = innermost(words, depth);
     worth::signed(table.counter)
@@ -91,7 +91,7 @@ fn pushed(words: &mut Words, depth: usize, table: Table)
 }
 
 fn again(table: Table, counter: u32) -> Table
-    ensures { result ≡ countedTo table counter }
+    ensures { result ≡ counted_to table counter }
 {
     Table {
         counter,

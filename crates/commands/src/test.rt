@@ -1,11 +1,11 @@
 // $IF, $IFNOT, $IFEQ to $IFGE, $IFEQSS, $IFEQSI.
 ghost use Rattle.std.specs.Prelude.{◌≡◌};
-ghost use Rattle.values.specs.inner.Texts.{strings as stringsOf};
-ghost use Rattle.values.specs.inner.Yielding.{meant};
+ghost use Rattle.values.specs.Inner.Texts.{strings as stringsOf};
+ghost use Rattle.values.specs.Inner.Yielding.{meant};
 ghost use Rattle.commands.specs.Testing as T;
-ghost use Rattle.commands.specs.inner.Kinds as K;
-ghost use Rattle.commands.specs.inner.Taking.{judgedOf};
-ghost use Rattle.commands.specs.inner.Judging.{Lacks, JudgesNumbers, JudgesZero};
+ghost use Rattle.commands.specs.Inner.Kinds as K;
+ghost use Rattle.commands.specs.Inner.Taking.{judged_of};
+ghost use Rattle.commands.specs.Inner.Judging.{Lacks, JudgesNumbers, JudgesZero};
 
 use crate::settle;
 use crate::settle::{Amount, Judged, Phrase};
@@ -34,7 +34,7 @@ pub enum Comparands {
 }
 
 fn comparands_of(c: Comparison) -> Comparands
-    ensures { result ≡ K.comparandsOf c }
+    ensures { result ≡ K.comparands_of c }
 {
     match c {
         Comparison::SameString => Comparands::Strings(false),
@@ -49,7 +49,7 @@ fn comparands_of(c: Comparison) -> Comparands
 }
 
 fn numbers_hold(c: Comparison, p: Quantity, q: Quantity) -> bool
-    ensures { result ≡ K.numbersHold c p q }
+    ensures { result ≡ K.numbers_hold c p q }
 {
     match c {
         Comparison::SameString => false,
@@ -64,7 +64,7 @@ fn numbers_hold(c: Comparison, p: Quantity, q: Quantity) -> bool
 }
 
 fn zero_test(zero: bool, q: Quantity) -> bool
-    ensures { result ≡ T.zeroTest zero q }
+    ensures { result ≡ T.zero_test zero q }
 {
     if zero {
         return order::is_zero(q);
@@ -96,7 +96,7 @@ fn strings_judged<'a>(
     v: Worth,
     w: Worth,
 ) -> Judged
-    ensures { judgedOf result ≡ T.ofStrings ignoring (meant (stringsOf line.now store.now strings.now) v) (meant (stringsOf line.now store.now strings.now) w) }
+    ensures { judged_of result ≡ T.of_strings ignoring (meant (stringsOf line.now store.now strings.now) v) (meant (stringsOf line.now store.now strings.now) w) }
 {
     let a = settle::text_of(v);
     match a {
@@ -122,7 +122,7 @@ pub fn compare<'a>(
     v: Worth,
     w: Worth,
 ) -> Judged
-    ensures { judgedOf result ≡ T.compared c (meant (stringsOf line.now store.now strings.now) v) (meant (stringsOf line.now store.now strings.now) w) }
+    ensures { judged_of result ≡ T.compared c (meant (stringsOf line.now store.now strings.now) v) (meant (stringsOf line.now store.now strings.now) w) }
 {
     if lacks(v) {
         return Judged::Refused(Refusal::MissingArgument);

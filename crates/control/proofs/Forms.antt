@@ -15,69 +15,69 @@ use Rattle.meaning.specs.Tree.{done, bind}
 use Rattle.meaning.specs.Meaning.{Meaning}
 use Rattle.meaning.proofs.Binding.{bind_assoc}
 use Rattle.values.specs.Worth.{Worth, missing}
-use Rattle.values.specs.Meanings.{argumentMeaning}
-use Rattle.values.specs.inner.Working.{worths, inputsMeaning}
-use Rattle.commands.specs.Settling.{Settled, settled, refusedFor, and_then, concluded, integerFrom, integerMeaning}
-use Rattle.commands.specs.inner.Taking.{integerOr}
-use Rattle.commands.specs.Setting.{setOf, setMeaning}
-use Rattle.commands.specs.Testing.{zeroJudged, compared, zeroMeaning, testMeaning}
-use Rattle.commands.specs.Looping.{begun, counted, beginMeaning, endMeaning}
-use Rattle.commands.specs.inner.Open.{beginFrom, endFrom}
-use Rattle.control.specs.State.{State, seen, withVariables}
-use Rattle.control.specs.Line.{branched, tableBegun, tableCounted, breakingFor, newPageMeaning, formMeaning}
-use Rattle.control.specs.inner.Forms.{optionalInput, inputsOf, settling, formWith}
+use Rattle.values.specs.Meanings.{argument_meaning}
+use Rattle.values.specs.Inner.Working.{worths, inputs_meaning}
+use Rattle.commands.specs.Settling.{Settled, settled, refused_for, and_then, concluded, integer_from, integer_meaning}
+use Rattle.commands.specs.Inner.Taking.{integer_or}
+use Rattle.commands.specs.Setting.{set_of, set_meaning}
+use Rattle.commands.specs.Testing.{zero_judged, compared, zero_meaning, test_meaning}
+use Rattle.commands.specs.Looping.{begun, counted, begin_meaning, end_meaning}
+use Rattle.commands.specs.Inner.Open.{begin_from, end_from}
+use Rattle.control.specs.State.{State, seen, with_variables}
+use Rattle.control.specs.Line.{branched, table_begun, table_counted, breaking_for, new_page_meaning, form_meaning}
+use Rattle.control.specs.Inner.Forms.{optional_input, inputs_of, settling, form_with}
 
 -- what is concluded from a value, and then from that
-concluded-then : {A B : Type 0} (l : ℕ) (x : Settled A) (f : A → Settled B) → bind (concluded l x) (λ z. concluded l (f z)) ≡ concluded l (and_then x f)
-concluded-then l (settled a) f = refl
-concluded-then l (refusedFor e) f = refl
+concluded_then : {A B : Type 0} (l : ℕ) (x : Settled A) (f : A → Settled B) → bind (concluded l x) (λ z. concluded l (f z)) ≡ concluded l (and_then x f)
+concluded_then l (settled a) f = refl
+concluded_then l (refused_for e) f = refl
 
 module _ (t : List ℕ) (start l : ℕ) (body : List ℕ) (s : State) where
   abbrev A : Argument → Meaning Worth
-  A x = argumentMeaning (seen s) body l x
+  A x = argument_meaning (seen s) body l x
 
   -- one argument
   one : {B : Type 0} (x : Argument) (f : Worth → Settled B) (g : B → State) → bind (bind (A x) (λ w. concluded l (f w))) (λ y. done (g y)) ≡ bind (bind (A x) (λ v. done (worths v missing))) (λ v. settling l (f v.first) g)
   one x f g =
       bind_assoc (A x) (λ w. concluded l (f w)) (λ y. done (g y)) ∙ sym (bind_assoc (A x) (λ v. done (worths v missing)) (λ v. settling l (f v.first) g))
 
-  integer-then : {B : Type 0} (x : Argument) (f : ℤ → Settled B) → bind (integerMeaning (seen s) body l x) (λ z. concluded l (f z)) ≡ bind (A x) (λ w. concluded l (and_then (integerFrom w) f))
-  unfolding integerMeaning
-  integer-then x f = bind_assoc (A x) (λ w. concluded l (integerFrom w)) (λ z. concluded l (f z)) ∙ ap (bind (A x)) (λ i w. concluded-then l (integerFrom w) f i)
+  integer_then : {B : Type 0} (x : Argument) (f : ℤ → Settled B) → bind (integer_meaning (seen s) body l x) (λ z. concluded l (f z)) ≡ bind (A x) (λ w. concluded l (and_then (integer_from w) f))
+  unfolding integer_meaning
+  integer_then x f = bind_assoc (A x) (λ w. concluded l (integer_from w)) (λ z. concluded l (f z)) ∙ ap (bind (A x)) (λ i w. concluded_then l (integer_from w) f i)
 
-  end-inputs : (k : Optional) → bind (endMeaning (seen s) body l s.tables k) (λ x. done (tableCounted s x)) ≡ bind (inputsMeaning (seen s) body l (optionalInput k)) (λ v. settling l (endFrom s.tables (integerOr (pos 1) k v.first)) (tableCounted s))
-  unfolding endMeaning integerOr optionalInput inputsMeaning
-  end-inputs Absent = refl
-  end-inputs (Given x) = ap (λ m. bind m (λ y. done (tableCounted s y))) (integer-then x (counted s.tables)) ∙ one x (λ w. endFrom s.tables (integerFrom w)) (tableCounted s)
+  end_inputs : (k : Optional) → bind (end_meaning (seen s) body l s.tables k) (λ x. done (table_counted s x)) ≡ bind (inputs_meaning (seen s) body l (optional_input k)) (λ v. settling l (end_from s.tables (integer_or (pos 1) k v.first)) (table_counted s))
+  unfolding end_meaning integer_or optional_input inputs_meaning
+  end_inputs Absent = refl
+  end_inputs (Given x) = ap (λ m. bind m (λ y. done (table_counted s y))) (integer_then x (counted s.tables)) ∙ one x (λ w. end_from s.tables (integer_from w)) (table_counted s)
 
-  page-inputs : (k : Optional) → newPageMeaning l body s k ≡ bind (inputsMeaning (seen s) body l (optionalInput k)) (λ v. bind (concluded l (integerOr (pos 62) k v.first)) (breakingFor l s))
-  unfolding newPageMeaning breakingFor integerOr optionalInput inputsMeaning integerMeaning
-  page-inputs Absent = rw (lt-ltb (61 - s.page.row) 62 (omega arith))
-  page-inputs (Given x) =
-      bind_assoc (A x) (λ w. concluded l (integerFrom w)) (breakingFor l s) ∙ sym (bind_assoc (A x) (λ v. done (worths v missing)) (λ v. bind (concluded l (integerFrom v.first)) (breakingFor l s)))
+  page_inputs : (k : Optional) → new_page_meaning l body s k ≡ bind (inputs_meaning (seen s) body l (optional_input k)) (λ v. bind (concluded l (integer_or (pos 62) k v.first)) (breaking_for l s))
+  unfolding new_page_meaning breaking_for integer_or optional_input inputs_meaning integer_meaning
+  page_inputs Absent = rw (lt-ltb (61 - s.page.row) 62 (omega arith))
+  page_inputs (Given x) =
+      bind_assoc (A x) (λ w. concluded l (integer_from w)) (breaking_for l s) ∙ sym (bind_assoc (A x) (λ v. done (worths v missing)) (λ v. bind (concluded l (integer_from v.first)) (breaking_for l s)))
 
-  pub form-inputs : (line : Line) → formMeaning t start l body s line ≡ bind (inputsMeaning (seen s) body l (inputsOf line)) (formWith t start l body s line)
-  unfolding formMeaning formWith inputsOf inputsMeaning setMeaning zeroMeaning testMeaning beginMeaning
-  form-inputs form.NoForm = refl
-  form-inputs form.Text = refl
-  form-inputs (form.Section a e) = refl
-  form-inputs (form.Set o x a) = one a (setOf s.variables o x) (withVariables s)
-  form-inputs (form.IfNot a) = one a (zeroJudged true) (branched t s)
-  form-inputs (form.If a) = one a (zeroJudged false) (branched t s)
-  form-inputs (form.Compare c a b) =
+  pub form_inputs : (line : Line) → form_meaning t start l body s line ≡ bind (inputs_meaning (seen s) body l (inputs_of line)) (form_with t start l body s line)
+  unfolding form_meaning form_with inputs_of inputs_meaning set_meaning zero_meaning test_meaning begin_meaning
+  form_inputs form.NoForm = refl
+  form_inputs form.Text = refl
+  form_inputs (form.Section a e) = refl
+  form_inputs (form.Set o x a) = one a (set_of s.variables o x) (with_variables s)
+  form_inputs (form.IfNot a) = one a (zero_judged true) (branched t s)
+  form_inputs (form.If a) = one a (zero_judged false) (branched t s)
+  form_inputs (form.Compare c a b) =
       bind_assoc (A a) (λ v. bind (A b) (λ w. concluded l (compared c v w))) (λ y. done (branched t s y))
       ∙ ap (bind (A a)) (λ i v. (bind_assoc (A b) (λ w. concluded l (compared c v w)) (λ y. done (branched t s y)) ∙ sym (bind_assoc (A b) (λ w. done (worths v w)) (λ v. settling l (compared c v.first v.second) (branched t s)))) i)
       ∙ sym (bind_assoc (A a) (λ v. bind (A b) (λ w. done (worths v w))) (λ v. settling l (compared c v.first v.second) (branched t s)))
-  form-inputs form.Else = refl
-  form-inputs form.EndIf = refl
-  form-inputs (form.BeginTable a) =
-      ap (λ m. bind m (λ y. done (tableBegun t s y))) (integer-then a (λ z. settled (begun s.tables s.position.at s.position.line z))) ∙ one a (λ w. beginFrom s.tables s.position.at s.position.line (integerFrom w)) (tableBegun t s)
-  form-inputs (form.EndTable k) = end-inputs k
-  form-inputs (form.Records f) = refl
-  form-inputs (form.Entries f) = refl
-  form-inputs (form.Datasource i) = refl
-  form-inputs form.NoFormFeed = refl
-  form-inputs (form.NewPage n) = page-inputs n
-  form-inputs (form.Heading n from) = refl
-  form-inputs (form.NoHeading n) = refl
-  form-inputs form.Remark = refl
+  form_inputs form.Else = refl
+  form_inputs form.EndIf = refl
+  form_inputs (form.BeginTable a) =
+      ap (λ m. bind m (λ y. done (table_begun t s y))) (integer_then a (λ z. settled (begun s.tables s.position.at s.position.line z))) ∙ one a (λ w. begin_from s.tables s.position.at s.position.line (integer_from w)) (table_begun t s)
+  form_inputs (form.EndTable k) = end_inputs k
+  form_inputs (form.Records f) = refl
+  form_inputs (form.Entries f) = refl
+  form_inputs (form.Datasource i) = refl
+  form_inputs form.NoFormFeed = refl
+  form_inputs (form.NewPage n) = page_inputs n
+  form_inputs (form.Heading n from) = refl
+  form_inputs (form.NoHeading n) = refl
+  form_inputs form.Remark = refl

@@ -22,58 +22,58 @@ use Rattle.lines.specs.declared.command.Optional.TheVariants.{Given, Absent}
 use Rattle.lines.specs.declared.command.Target.{Target}
 use Rattle.lines.specs.declared.command.Target.TheVariants.{IntegerTarget, DecimalTarget, StringTarget}
 use Rattle.values.specs.declared.fetch.Along.TheVariants.{Records, Entries}
-use Rattle.values.specs.Machine.{Machine, Variables, setNumbered}
-use Rattle.values.specs.Indexes.{indexNumber}
-use Rattle.values.specs.Fetching.{fetchMeaning}
+use Rattle.values.specs.Machine.{Machine, Variables, set_numbered}
+use Rattle.values.specs.Indexes.{index_number}
+use Rattle.values.specs.Fetching.{fetch_meaning}
 use Rattle.values.specs.Worth.{Worth}
-use Rattle.values.specs.Meanings.{argumentMeaning}
-use Rattle.values.proofs.Giving.{Gives, Anything, gives-bind, argument-gives, fetch-gives}
+use Rattle.values.specs.Meanings.{argument_meaning}
+use Rattle.values.proofs.Giving.{Gives, Anything, gives_bind, argument_gives, fetch_gives}
 use Rattle.commands.specs.declared.table.Table.{Table}
-use Rattle.commands.specs.Settling.{Settled, settled, refusedFor, and_then, concluded, integerFrom, integerMeaning}
-use Rattle.commands.specs.Setting.{asVariable, setOf, setMeaning}
-use Rattle.commands.specs.Testing.{zeroJudged, compared, zeroMeaning, testMeaning}
-use Rattle.control.specs.Fetching.{withRecords, withEntries, recordsMeaning, entriesMeaning}
-use Rattle.commands.specs.Looping.{loop, Looping, looping, newTable, begun, beginMeaning, innermost, exceeds, countedTo, counting, counted, endMeaning}
-use Rattle.control.specs.Selecting.{datasourceFrom, datasourceMeaning}
+use Rattle.commands.specs.Settling.{Settled, settled, refused_for, and_then, concluded, integer_from, integer_meaning}
+use Rattle.commands.specs.Setting.{as_variable, set_of, set_meaning}
+use Rattle.commands.specs.Testing.{zero_judged, compared, zero_meaning, test_meaning}
+use Rattle.control.specs.Fetching.{with_records, with_entries, records_meaning, entries_meaning}
+use Rattle.commands.specs.Looping.{loop, Looping, looping, new_table, begun, begin_meaning, innermost, exceeds, counted_to, counting, counted, end_meaning}
+use Rattle.control.specs.Selecting.{datasource_from, datasource_meaning}
 
 -- Φ a where x is settled with a
 abbrev pub Whenever : {A : Type 0} → Settled A → (A → Type 0) → Type 0
 Whenever (settled a) Φ = Φ a
-Whenever (refusedFor e) Φ = Unit {0}
+Whenever (refused_for e) Φ = Unit {0}
 
 module _ {A : Type 0} where
-  pub gives-concluded : (line : ℕ) (x : Settled A) (Φ : A → Type 0) → Whenever x Φ → Gives (concluded line x) Φ
-  gives-concluded line (settled a) Φ h = h
-  gives-concluded line (refusedFor e) Φ h = h
+  pub gives_concluded : (line : ℕ) (x : Settled A) (Φ : A → Type 0) → Whenever x Φ → Gives (concluded line x) Φ
+  gives_concluded line (settled a) Φ h = h
+  gives_concluded line (refused_for e) Φ h = h
 
-  pub whenever-then : {B : Type 0} (x : Settled A) (f : A → Settled B) (Φ : A → Type 0) (Ψ : B → Type 0) → Whenever x Φ → ((a : A) → Φ a → Whenever (f a) Ψ) → Whenever (and_then x f) Ψ
-  whenever-then (settled a) f Φ Ψ h g = g a h
-  whenever-then (refusedFor e) f Φ Ψ h g = tt
+  pub whenever_then : {B : Type 0} (x : Settled A) (f : A → Settled B) (Φ : A → Type 0) (Ψ : B → Type 0) → Whenever x Φ → ((a : A) → Φ a → Whenever (f a) Ψ) → Whenever (and_then x f) Ψ
+  whenever_then (settled a) f Φ Ψ h g = g a h
+  whenever_then (refused_for e) f Φ Ψ h g = tt
 
-  whenever-any : (x : Settled A) → Whenever x Anything
-  whenever-any (settled a) = tt
-  whenever-any (refusedFor e) = tt
+  whenever_any : (x : Settled A) → Whenever x Anything
+  whenever_any (settled a) = tt
+  whenever_any (refused_for e) = tt
 
 module _ (m : Machine) (s : List ℕ) (line : ℕ) where
   -- an argument, and what follows from its value
-  followed : {A : Type 0} (a : Argument) (f : Worth → Settled A) (Φ : A → Type 0) → ((w : Worth) → Whenever (f w) Φ) → Gives (bind (argumentMeaning m s line a) (λ w. concluded line (f w))) Φ
+  followed : {A : Type 0} (a : Argument) (f : Worth → Settled A) (Φ : A → Type 0) → ((w : Worth) → Whenever (f w) Φ) → Gives (bind (argument_meaning m s line a) (λ w. concluded line (f w))) Φ
   followed a f Φ g =
-      gives-bind (argumentMeaning m s line a) (λ w. concluded line (f w)) Anything Φ (argument-gives m s line a) (λ w h. gives-concluded line (f w) Φ (g w))
+      gives_bind (argument_meaning m s line a) (λ w. concluded line (f w)) Anything Φ (argument_gives m s line a) (λ w h. gives_concluded line (f w) Φ (g w))
 
-  pub integer-gives : (a : Argument) → Gives (integerMeaning m s line a) Anything
-  unfolding integerMeaning
-  integer-gives a = followed a integerFrom Anything (λ w. whenever-any (integerFrom w))
+  pub integer_gives : (a : Argument) → Gives (integer_meaning m s line a) Anything
+  unfolding integer_meaning
+  integer_gives a = followed a integer_from Anything (λ w. whenever_any (integer_from w))
 
   -- ---- tests
 
-  pub zero-gives : (wanted : Bool) (a : Argument) → Gives (zeroMeaning m s line wanted a) Anything
-  unfolding zeroMeaning
-  zero-gives wanted a = followed a (zeroJudged wanted) Anything (λ w. whenever-any (zeroJudged wanted w))
+  pub zero_gives : (wanted : Bool) (a : Argument) → Gives (zero_meaning m s line wanted a) Anything
+  unfolding zero_meaning
+  zero_gives wanted a = followed a (zero_judged wanted) Anything (λ w. whenever_any (zero_judged wanted w))
 
-  pub test-gives : (c : Comparison) (a b : Argument) → Gives (testMeaning m s line c a b) Anything
-  unfolding testMeaning
-  test-gives c a b =
-      gives-bind (argumentMeaning m s line a) (λ v. bind (argumentMeaning m s line b) (λ w. concluded line (compared c v w))) Anything Anything (argument-gives m s line a) (λ v h. followed b (compared c v) Anything (λ w. whenever-any (compared c v w)))
+  pub test_gives : (c : Comparison) (a b : Argument) → Gives (test_meaning m s line c a b) Anything
+  unfolding test_meaning
+  test_gives c a b =
+      gives_bind (argument_meaning m s line a) (λ v. bind (argument_meaning m s line b) (λ w. concluded line (compared c v w))) Anything Anything (argument_gives m s line a) (λ v h. followed b (compared c v) Anything (λ w. whenever_any (compared c v w)))
 
 -- ---- variables
 
@@ -85,68 +85,68 @@ pub record Shaped (v v' : Variables) : Type 0 where
   pub records : length v'.records ≡ length v.records
   pub entries : length v'.entries ≡ length v.entries
 
-pub numbered-length : {A : Type 0} (l : List A) (n : ℕ) (x : A) → length (setNumbered l n x) ≡ length l
-unfolding setNumbered
-numbered-length l zero x = refl
-numbered-length l (suc k) x = length-set l k x
+pub numbered_length : {A : Type 0} (l : List A) (n : ℕ) (x : A) → length (set_numbered l n x) ≡ length l
+unfolding set_numbered
+numbered_length l zero x = refl
+numbered_length l (suc k) x = length-set l k x
 
 -- a result as the n-th of l
-stored-length : {A : Type 0} (l : List A) (n : ℕ) (x : Settled A) → Whenever (asVariable l n x) (λ l'. length l' ≡ length l)
-unfolding asVariable
-stored-length l n (settled x) = numbered-length l n x
-stored-length l n (refusedFor e) = tt
+stored_length : {A : Type 0} (l : List A) (n : ℕ) (x : Settled A) → Whenever (as_variable l n x) (λ l'. length l' ≡ length l)
+unfolding as_variable
+stored_length l n (settled x) = numbered_length l n x
+stored_length l n (refused_for e) = tt
 
-set-shapes : (v : Variables) (o : Operation) (t : Target) (w : Worth) → Whenever (setOf v o t w) (Shaped v)
-unfolding setOf
-set-shapes v o (IntegerTarget n) w =
-    whenever-then (asVariable v.integers n _) _ (λ l. length l ≡ length v.integers) (Shaped v) (stored-length v.integers n _) (λ l h. record { integers = h; decimals = refl; strings = refl; records = refl; entries = refl })
-set-shapes v o (DecimalTarget n) w =
-    whenever-then (asVariable v.decimals n _) _ (λ l. length l ≡ length v.decimals) (Shaped v) (stored-length v.decimals n _) (λ l h. record { integers = refl; decimals = h; strings = refl; records = refl; entries = refl })
-set-shapes v o (StringTarget n) w =
-    whenever-then (asVariable v.strings n _) _ (λ l. length l ≡ length v.strings) (Shaped v) (stored-length v.strings n _) (λ l h. record { integers = refl; decimals = refl; strings = h; records = refl; entries = refl })
+set_shapes : (v : Variables) (o : Operation) (t : Target) (w : Worth) → Whenever (set_of v o t w) (Shaped v)
+unfolding set_of
+set_shapes v o (IntegerTarget n) w =
+    whenever_then (as_variable v.integers n _) _ (λ l. length l ≡ length v.integers) (Shaped v) (stored_length v.integers n _) (λ l h. record { integers = h; decimals = refl; strings = refl; records = refl; entries = refl })
+set_shapes v o (DecimalTarget n) w =
+    whenever_then (as_variable v.decimals n _) _ (λ l. length l ≡ length v.decimals) (Shaped v) (stored_length v.decimals n _) (λ l h. record { integers = refl; decimals = h; strings = refl; records = refl; entries = refl })
+set_shapes v o (StringTarget n) w =
+    whenever_then (as_variable v.strings n _) _ (λ l. length l ≡ length v.strings) (Shaped v) (stored_length v.strings n _) (λ l h. record { integers = refl; decimals = refl; strings = h; records = refl; entries = refl })
 
-pub set_gives : (m : Machine) (s : List ℕ) (line : ℕ) (o : Operation) (t : Target) (a : Argument) → Gives (setMeaning m s line o t a) (Shaped m.variables)
-unfolding setMeaning
-set_gives m s line o t a = followed m s line a (setOf m.variables o t) (Shaped m.variables) (λ w. set-shapes m.variables o t w)
+pub set_gives : (m : Machine) (s : List ℕ) (line : ℕ) (o : Operation) (t : Target) (a : Argument) → Gives (set_meaning m s line o t a) (Shaped m.variables)
+unfolding set_meaning
+set_gives m s line o t a = followed m s line a (set_of m.variables o t) (Shaped m.variables) (λ w. set_shapes m.variables o t w)
 
 -- ---- $REC and $TBL
 
 module _ (m : Machine) (line : ℕ) (f : Fetch) where
-  pub records-gives : Gives (recordsMeaning m line f) (Shaped m.variables)
-  unfolding recordsMeaning
-  records-gives =
-      gives-bind (fetchMeaning m line Records f.parameter f.«record» f.entry f.count) (λ l. done (withRecords m.variables (setNumbered m.variables.records f.number l))) Anything (Shaped m.variables) (fetch-gives m line Records f.parameter f.«record» f.entry f.count) (λ l h. record { integers = refl; decimals = refl; strings = refl; records = numbered-length m.variables.records f.number l; entries = refl })
+  pub records_gives : Gives (records_meaning m line f) (Shaped m.variables)
+  unfolding records_meaning
+  records_gives =
+      gives_bind (fetch_meaning m line Records f.parameter f.«record» f.entry f.count) (λ l. done (with_records m.variables (set_numbered m.variables.records f.number l))) Anything (Shaped m.variables) (fetch_gives m line Records f.parameter f.«record» f.entry f.count) (λ l h. record { integers = refl; decimals = refl; strings = refl; records = numbered_length m.variables.records f.number l; entries = refl })
 
-  pub entries-gives : Gives (entriesMeaning m line f) (Shaped m.variables)
-  unfolding entriesMeaning
-  entries-gives =
-      gives-bind (fetchMeaning m line Entries f.parameter f.«record» f.entry f.count) (λ l. done (withEntries m.variables (setNumbered m.variables.entries f.number l))) Anything (Shaped m.variables) (fetch-gives m line Entries f.parameter f.«record» f.entry f.count) (λ l h. record { integers = refl; decimals = refl; strings = refl; records = refl; entries = numbered-length m.variables.entries f.number l })
+  pub entries_gives : Gives (entries_meaning m line f) (Shaped m.variables)
+  unfolding entries_meaning
+  entries_gives =
+      gives_bind (fetch_meaning m line Entries f.parameter f.«record» f.entry f.count) (λ l. done (with_entries m.variables (set_numbered m.variables.entries f.number l))) Anything (Shaped m.variables) (fetch_gives m line Entries f.parameter f.«record» f.entry f.count) (λ l h. record { integers = refl; decimals = refl; strings = refl; records = refl; entries = numbered_length m.variables.entries f.number l })
 
 -- ---- tables
 
 -- what $BT leads to: it is skipped, or a table more is open
 pub data Begun (ts : List Table) (start next : ℕ) : Looping → Type 0 where
   skipped : Begun ts start next (looping ts true)
-  opened : (n : ℕ) → Begun ts start next (looping (newTable n start next ∷ ts) false)
+  opened : (n : ℕ) → Begun ts start next (looping (new_table n start next ∷ ts) false)
 
 -- what $ET leads to: the innermost table has ended, or it is counted on within its limits
 pub data Counting (ts : List Table) : Looping → Type 0 where
   ended : Counting ts (looping (drop 1 ts) false)
-  again : (c : ℕ) → c ≤ 2000000000 → c ≤ (innermost ts).last → Counting ts (looping (countedTo (innermost ts) c ∷ drop 1 ts) true)
+  again : (c : ℕ) → c ≤ 2000000000 → c ≤ (innermost ts).last → Counting ts (looping (counted_to (innermost ts) c ∷ drop 1 ts) true)
 
-begun-is : (ts : List Table) (start next : ℕ) (n : ℤ) → Begun ts start next (begun ts start next n)
+begun_is : (ts : List Table) (start next : ℕ) (n : ℤ) → Begun ts start next (begun ts start next n)
 unfolding begun
-begun-is ts start next n = by (lt_z n (pos 1))
+begun_is ts start next n = by (lt_z n (pos 1))
   where
-    by : (b : Bool) → Begun ts start next (cond b (looping ts true) (looping (newTable (nat_abs n) start next ∷ ts) false))
+    by : (b : Bool) → Begun ts start next (cond b (looping ts true) (looping (new_table (nat_abs n) start next ∷ ts) false))
     by true = skipped
     by false = opened (nat_abs n)
 
-counting-is : (ts : List Table) (c : ℕ) → Counting ts (counting ts c)
+counting_is : (ts : List Table) (c : ℕ) → Counting ts (counting ts c)
 unfolding counting exceeds
-counting-is ts c = by (ltb 2000000000 c) refl (ltb (innermost ts).last c) refl
+counting_is ts c = by (ltb 2000000000 c) refl (ltb (innermost ts).last c) refl
   where
-    by : (b : Bool) → ltb 2000000000 c ≡ b → (d : Bool) → ltb (innermost ts).last c ≡ d → Counting ts (cond (b || d) (looping (drop 1 ts) false) (looping (countedTo (innermost ts) c ∷ drop 1 ts) true))
+    by : (b : Bool) → ltb 2000000000 c ≡ b → (d : Bool) → ltb (innermost ts).last c ≡ d → Counting ts (cond (b || d) (looping (drop 1 ts) false) (looping (counted_to (innermost ts) c ∷ drop 1 ts) true))
     by true e d f = ended
     by false e true f = ended
     by false e false f = again c (ltb-false 2000000000 c e) (ltb-false (innermost ts).last c f)
@@ -155,52 +155,52 @@ counted_is : (ts : List Table) (k : ℤ) → Whenever (counted ts k) (Counting t
 unfolding counted
 counted_is ts k = by (lt_z k (pos 1))
   where
-    by : (b : Bool) → Whenever (cond b (refusedFor OutOfRange) (settled (counting ts ((innermost ts).counter + nat_abs k)))) (Counting ts)
+    by : (b : Bool) → Whenever (cond b (refused_for OutOfRange) (settled (counting ts ((innermost ts).counter + nat_abs k)))) (Counting ts)
     by true = tt
-    by false = counting-is ts ((innermost ts).counter + nat_abs k)
+    by false = counting_is ts ((innermost ts).counter + nat_abs k)
 
 module _ (m : Machine) (s : List ℕ) (line : ℕ) (ts : List Table) where
-  pub begin-gives : (start next : ℕ) (a : Argument) → Gives (beginMeaning m s line ts start next a) (Begun ts start next)
-  unfolding beginMeaning
-  begin-gives start next a =
-      gives-bind (integerMeaning m s line a) (λ n. done (begun ts start next n)) Anything (Begun ts start next) (integer-gives m s line a) (λ n h. begun-is ts start next n)
+  pub begin_gives : (start next : ℕ) (a : Argument) → Gives (begin_meaning m s line ts start next a) (Begun ts start next)
+  unfolding begin_meaning
+  begin_gives start next a =
+      gives_bind (integer_meaning m s line a) (λ n. done (begun ts start next n)) Anything (Begun ts start next) (integer_gives m s line a) (λ n h. begun_is ts start next n)
 
-  pub end-gives : (o : Optional) → Gives (endMeaning m s line ts o) (Counting ts)
-  unfolding endMeaning
-  end-gives Absent = gives-concluded line (counted ts (pos 1)) (Counting ts) (counted_is ts (pos 1))
-  end-gives (Given a) =
-      gives-bind (integerMeaning m s line a) (λ k. concluded line (counted ts k)) Anything (Counting ts) (integer-gives m s line a) (λ k h. gives-concluded line (counted ts k) (Counting ts) (counted_is ts k))
+  pub end_gives : (o : Optional) → Gives (end_meaning m s line ts o) (Counting ts)
+  unfolding end_meaning
+  end_gives Absent = gives_concluded line (counted ts (pos 1)) (Counting ts) (counted_is ts (pos 1))
+  end_gives (Given a) =
+      gives_bind (integer_meaning m s line a) (λ k. concluded line (counted ts k)) Anything (Counting ts) (integer_gives m s line a) (λ k h. gives_concluded line (counted ts k) (Counting ts) (counted_is ts k))
 
 -- Counters and limits of tables are integers within their range, where $BT takes one.
 pub record Bounded (t : Table) : Type 0 where
   pub counter : t.counter ≤ 2000000000
   pub last : t.last ≤ 2000000000
 
-drop-each : (ts : List Table) → Each Bounded ts → Each Bounded (drop 1 ts)
-drop-each [] h = tt
-drop-each (t ∷ ts) h = h.1
+drop_each : (ts : List Table) → Each Bounded ts → Each Bounded (drop 1 ts)
+drop_each [] h = tt
+drop_each (t ∷ ts) h = h.1
 
-innermost-last : (ts : List Table) → Each Bounded ts → (innermost ts).last ≤ 2000000000
-innermost-last [] h = omega arith
-innermost-last (t ∷ ts) h = h.0.last
+innermost_last : (ts : List Table) → Each Bounded ts → (innermost ts).last ≤ 2000000000
+innermost_last [] h = omega arith
+innermost_last (t ∷ ts) h = h.0.last
 
-pub begun-bounded : (ts : List Table) (start next : ℕ) (n : ℤ) → nat_abs n ≤ 2000000000 → Each Bounded ts → Each Bounded (begun ts start next n).tables
+pub begun_bounded : (ts : List Table) (start next : ℕ) (n : ℤ) → nat_abs n ≤ 2000000000 → Each Bounded ts → Each Bounded (begun ts start next n).tables
 unfolding begun
-begun-bounded ts start next n k h = by (lt_z n (pos 1))
+begun_bounded ts start next n k h = by (lt_z n (pos 1))
   where
-    by : (b : Bool) → Each Bounded (cond b (looping ts true) (looping (newTable (nat_abs n) start next ∷ ts) false)).tables
+    by : (b : Bool) → Each Bounded (cond b (looping ts true) (looping (new_table (nat_abs n) start next ∷ ts) false)).tables
     by true = h
     by false = (record { counter = omega arith; last = k }, h)
 
-pub counting-bounded : (ts : List Table) (l : Looping) → Counting ts l → Each Bounded ts → Each Bounded l.tables
-counting-bounded ts _ ended h = drop-each ts h
-counting-bounded ts _ (again c j k) h = (record { counter = j; last = innermost-last ts h }, drop-each ts h)
+pub counting_bounded : (ts : List Table) (l : Looping) → Counting ts l → Each Bounded ts → Each Bounded l.tables
+counting_bounded ts _ ended h = drop_each ts h
+counting_bounded ts _ (again c j k) h = (record { counter = j; last = innermost_last ts h }, drop_each ts h)
 
 -- LOOP is then an integer within its range.
-pub loop-bounded : (ts : List Table) → Each Bounded ts → loop ts ≤ 2000000000
+pub loop_bounded : (ts : List Table) → Each Bounded ts → loop ts ≤ 2000000000
 unfolding loop
-loop-bounded [] h = omega arith
-loop-bounded (t ∷ ts) h = h.0.counter
+loop_bounded [] h = omega arith
+loop_bounded (t ∷ ts) h = h.0.counter
 
 -- ---- $SETDS
 
@@ -209,16 +209,16 @@ pub record Selectable (n : ℕ) : Type 0 where
   pub low : 1 ≤ n
   pub high : n ≤ 35
 
-from-selectable : (z : ℤ) → Whenever (datasourceFrom z) Selectable
-unfolding datasourceFrom
-from-selectable (negsuc n) = tt
-from-selectable (pos n) = by (leb 1 n) refl (leb n 35) refl
+from_selectable : (z : ℤ) → Whenever (datasource_from z) Selectable
+unfolding datasource_from
+from_selectable (negsuc n) = tt
+from_selectable (pos n) = by (leb 1 n) refl (leb n 35) refl
   where
-    by : (b : Bool) → leb 1 n ≡ b → (d : Bool) → leb n 35 ≡ d → Whenever (cond (b && d) (settled n) (refusedFor BadIndex)) Selectable
+    by : (b : Bool) → leb 1 n ≡ b → (d : Bool) → leb n 35 ≡ d → Whenever (cond (b && d) (settled n) (refused_for BadIndex)) Selectable
     by true e true f = record { low = leb-true 1 n e; high = leb-true n 35 f }
     by true e false f = tt
     by false e d f = tt
 
-pub datasource-gives : (m : Machine) (line : ℕ) (i : Index) → Gives (datasourceMeaning m line i) Selectable
-unfolding datasourceMeaning
-datasource-gives m line i = gives-concluded line (datasourceFrom (indexNumber m.variables.integers m.counter i)) Selectable (from-selectable (indexNumber m.variables.integers m.counter i))
+pub datasource_gives : (m : Machine) (line : ℕ) (i : Index) → Gives (datasource_meaning m line i) Selectable
+unfolding datasource_meaning
+datasource_gives m line i = gives_concluded line (datasource_from (index_number m.variables.integers m.counter i)) Selectable (from_selectable (index_number m.variables.integers m.counter i))

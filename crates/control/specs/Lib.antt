@@ -3,4 +3,4 @@ pub mod Selecting
 pub mod State
 pub mod Line
 pub mod Rows
-pub mod inner
+pub mod Inner

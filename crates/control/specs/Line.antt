@@ -6,37 +6,37 @@ use Rattle.lines.specs.declared.command.Optional.{Optional}
 use Rattle.lines.specs.declared.command.Optional.TheVariants.{Given, Absent}
 use Rattle.lines.specs.declared.command.Line.{Line}
 use Rattle.lines.specs.declared.command.Line.TheVariants as form
-use Rattle.lines.specs.readers.Command.{parseLine}
+use Rattle.lines.specs.Readers.Command.{parse_line}
 use Rattle.template.specs.declared.seek.Sought.{Sought}
 use Rattle.template.specs.declared.seek.Sought.TheVariants.{Branch, TestEnd, TableEnd}
 use Rattle.template.specs.Seek.{skipped}
 use Rattle.meaning.specs.Tree.{done, bind}
 use Rattle.meaning.specs.Meaning.{Meaning}
-use Rattle.values.specs.Machine.{Variables, setNumbered}
-use Rattle.commands.specs.Settling.{integerMeaning}
-use Rattle.commands.specs.Setting.{setMeaning}
-use Rattle.commands.specs.Testing.{zeroMeaning, testMeaning}
-use Rattle.commands.specs.Looping.{Looping, innermost, beginMeaning, endMeaning}
-use Rattle.control.specs.Fetching.{recordsMeaning, entriesMeaning}
-use Rattle.control.specs.Selecting.{datasourceMeaning}
+use Rattle.values.specs.Machine.{Variables, set_numbered}
+use Rattle.commands.specs.Settling.{integer_meaning}
+use Rattle.commands.specs.Setting.{set_meaning}
+use Rattle.commands.specs.Testing.{zero_meaning, test_meaning}
+use Rattle.commands.specs.Looping.{Looping, innermost, begin_meaning, end_meaning}
+use Rattle.control.specs.Fetching.{records_meaning, entries_meaning}
+use Rattle.control.specs.Selecting.{datasource_meaning}
 use Rattle.pages.specs.declared.heading.Heading.{Heading}
-use Rattle.pages.specs.Heading.{noHeading}
-use Rattle.pages.specs.Page.{breakMeaning, lineStep}
-use Rattle.control.specs.State.{State, seen, withPosition, withVariables, withDatasource, withTables, withLayout, withPage, cleared}
+use Rattle.pages.specs.Heading.{no_heading}
+use Rattle.pages.specs.Page.{break_meaning, line_step}
+use Rattle.control.specs.State.{State, seen, with_position, with_variables, with_datasource, with_tables, with_layout, with_page, cleared}
 
 -- behind a line of n bytes
-abbrev pub pastLine : State → ℕ → State
-pastLine s n = withPosition s (s.position.at + n + 1) (s.position.line + 1)
+abbrev pub past_line : State → ℕ → State
+past_line s n = with_position s (s.position.at + n + 1) (s.position.line + 1)
 
 -- behind the line that matches
 abbrev pub jumped : List ℕ → State → Sought → State
-jumped t s q = withPosition s (s.position.at + (skipped (drop s.position.at t) q).bytes) (s.position.line + (skipped (drop s.position.at t) q).lines)
+jumped t s q = with_position s (s.position.at + (skipped (drop s.position.at t) q).bytes) (s.position.line + (skipped (drop s.position.at t) q).lines)
 
 -- ---- each is a line with its number l and its bytes, and s is the state behind it
 
 -- IV, FV, SV, R and T as the command leaves them
 abbrev pub setting : State → Meaning Variables → Meaning State
-setting s t = bind t (λ v. done (withVariables s v))
+setting s t = bind t (λ v. done (with_variables s v))
 
 -- "A failed one continues at the line after its matching `$ELSE`, or `$ENDIF` if there is none"
 unfoldable pub branched : List ℕ → State → Bool → State
@@ -47,63 +47,63 @@ abbrev pub testing : List ℕ → State → Meaning Bool → Meaning State
 testing t s m = bind m (λ holds. done (branched t s holds))
 
 -- "With n below 1 the run continues after the matching $ET"
-unfoldable pub tableBegun : List ℕ → State → Looping → State
-tableBegun t s x = cond x.elsewhere (jumped t s TableEnd) (withTables s x.tables)
+unfoldable pub table_begun : List ℕ → State → Looping → State
+table_begun t s x = cond x.elsewhere (jumped t s TableEnd) (with_tables s x.tables)
 
 -- "else goes to the line after $BT"
-unfoldable pub tableCounted : State → Looping → State
-tableCounted s x =
-    cond x.elsewhere (withPosition (withTables s x.tables) (innermost x.tables).start (innermost x.tables).line) (withTables s x.tables)
+unfoldable pub table_counted : State → Looping → State
+table_counted s x =
+    cond x.elsewhere (with_position (with_tables s x.tables) (innermost x.tables).start (innermost x.tables).line) (with_tables s x.tables)
 
 -- "$NP breaks always"
 unfoldable pub breaking : ℕ → State → Meaning State
-breaking l s = bind (breakMeaning l s.layout.formFeeds s.page) (λ p. done (withPage s p))
+breaking l s = bind (break_meaning l s.layout.form_feeds s.page) (λ p. done (with_page s p))
 
 -- "`$NP n` if 61 − LINENUM is below n"
-unfoldable pub breakingFor : ℕ → State → ℤ → Meaning State
-breakingFor l s n = cond (lt_z (pos (61 - s.page.row)) n) (breaking l s) (done s)
+unfoldable pub breaking_for : ℕ → State → ℤ → Meaning State
+breaking_for l s n = cond (lt_z (pos (61 - s.page.row)) n) (breaking l s) (done s)
 
-unfoldable pub newPageMeaning : ℕ → List ℕ → State → Optional → Meaning State
-newPageMeaning l body s Absent = breaking l s
-newPageMeaning l body s (Given a) = bind (integerMeaning (seen s) body l a) (breakingFor l s)
+unfoldable pub new_page_meaning : ℕ → List ℕ → State → Optional → Meaning State
+new_page_meaning l body s Absent = breaking l s
+new_page_meaning l body s (Given a) = bind (integer_meaning (seen s) body l a) (breaking_for l s)
 
 -- "`$PHn text`": worked out when it is printed, so the line is kept
 abbrev pub headed : State → ℕ → Heading → State
-headed s n h = withLayout s (setNumbered s.layout.headings n h) s.layout.formFeeds
+headed s n h = with_layout s (set_numbered s.layout.headings n h) s.layout.form_feeds
 
 -- ---- the line that starts at a place of the template
 
-unfoldable pub formMeaning : List ℕ → ℕ → ℕ → List ℕ → State → Line → Meaning State
-formMeaning t start l body s form.Text =
-    bind (lineStep (seen s) t l s.layout.formFeeds s.layout.headings body s.page) (λ p. done (withPage s p))
-formMeaning t start l body s (form.Section a e) = done (cleared s)
-formMeaning t start l body s (form.Set o v a) = setting s (setMeaning (seen s) body l o v a)
-formMeaning t start l body s (form.IfNot a) = testing t s (zeroMeaning (seen s) body l true a)
-formMeaning t start l body s (form.If a) = testing t s (zeroMeaning (seen s) body l false a)
-formMeaning t start l body s (form.Compare c a b) = testing t s (testMeaning (seen s) body l c a b)
+unfoldable pub form_meaning : List ℕ → ℕ → ℕ → List ℕ → State → Line → Meaning State
+form_meaning t start l body s form.Text =
+    bind (line_step (seen s) t l s.layout.form_feeds s.layout.headings body s.page) (λ p. done (with_page s p))
+form_meaning t start l body s (form.Section a e) = done (cleared s)
+form_meaning t start l body s (form.Set o v a) = setting s (set_meaning (seen s) body l o v a)
+form_meaning t start l body s (form.IfNot a) = testing t s (zero_meaning (seen s) body l true a)
+form_meaning t start l body s (form.If a) = testing t s (zero_meaning (seen s) body l false a)
+form_meaning t start l body s (form.Compare c a b) = testing t s (test_meaning (seen s) body l c a b)
 -- "an executed `$ELSE` continues after `$ENDIF`"
-formMeaning t start l body s form.Else = done (jumped t s TestEnd)
-formMeaning t start l body s form.EndIf = done s
-formMeaning t start l body s (form.BeginTable a) =
-    bind (beginMeaning (seen s) body l s.tables s.position.at s.position.line a) (λ x. done (tableBegun t s x))
-formMeaning t start l body s (form.EndTable k) = bind (endMeaning (seen s) body l s.tables k) (λ x. done (tableCounted s x))
-formMeaning t start l body s (form.Records f) = setting s (recordsMeaning (seen s) l f)
-formMeaning t start l body s (form.Entries f) = setting s (entriesMeaning (seen s) l f)
-formMeaning t start l body s (form.Datasource i) = bind (datasourceMeaning (seen s) l i) (λ d. done (withDatasource s d))
+form_meaning t start l body s form.Else = done (jumped t s TestEnd)
+form_meaning t start l body s form.EndIf = done s
+form_meaning t start l body s (form.BeginTable a) =
+    bind (begin_meaning (seen s) body l s.tables s.position.at s.position.line a) (λ x. done (table_begun t s x))
+form_meaning t start l body s (form.EndTable k) = bind (end_meaning (seen s) body l s.tables k) (λ x. done (table_counted s x))
+form_meaning t start l body s (form.Records f) = setting s (records_meaning (seen s) l f)
+form_meaning t start l body s (form.Entries f) = setting s (entries_meaning (seen s) l f)
+form_meaning t start l body s (form.Datasource i) = bind (datasource_meaning (seen s) l i) (λ d. done (with_datasource s d))
 -- "under $NOFF"
-formMeaning t start l body s form.NoFormFeed = done (withLayout s s.layout.headings false)
-formMeaning t start l body s (form.NewPage n) = newPageMeaning l body s n
-formMeaning t start l body s (form.Heading n from) =
+form_meaning t start l body s form.NoFormFeed = done (with_layout s s.layout.headings false)
+form_meaning t start l body s (form.NewPage n) = new_page_meaning l body s n
+form_meaning t start l body s (form.Heading n from) =
     done (headed s n (record { start = start; length = length body; from = from; number = l }))
 -- "no space after the word undefines it"
-formMeaning t start l body s (form.NoHeading n) = done (headed s n noHeading)
+form_meaning t start l body s (form.NoHeading n) = done (headed s n no_heading)
 -- "unread"
-formMeaning t start l body s form.Remark = done s
--- no line of an accepted template: template/proofs/Opening:opens-line
-formMeaning t start l body s form.NoForm = done s
+form_meaning t start l body s form.Remark = done s
+-- no line of an accepted template: template/proofs/Opening:opens_line
+form_meaning t start l body s form.NoForm = done s
 
--- the line that is due, by what it spells (grammar/proofs/Lines:reads-what-is-spelled); a jump goes behind the line that matches
--- (demands/proofs/Matching:run-goes-behind-match)
-unfoldable pub lineMeaning : List ℕ → State → Meaning State
-lineMeaning t s =
-    formMeaning t s.position.at s.position.line (line_at t s.position.at) (pastLine s (length (line_at t s.position.at))) (parseLine (line_at t s.position.at))
+-- the line that is due, by what it spells (grammar/proofs/Lines:reads_what_is_spelled); a jump goes behind the line that matches
+-- (demands/proofs/Matching:run_goes_behind_match)
+unfoldable pub line_meaning : List ℕ → State → Meaning State
+line_meaning t s =
+    form_meaning t s.position.at s.position.line (line_at t s.position.at) (past_line s (length (line_at t s.position.at))) (parse_line (line_at t s.position.at))

@@ -4,14 +4,14 @@ use Rattle.meaning.specs.Meaning.{Meaning}
 use Rattle.meaning.specs.declared.refusal.Refusal.TheVariants.{BadIndex}
 use Rattle.arguments.specs.declared.index.Index.{Index}
 use Rattle.values.specs.Machine.{Machine}
-use Rattle.values.specs.Indexes.{indexNumber}
-use Rattle.commands.specs.Settling.{Settled, settled, refusedFor, concluded}
+use Rattle.values.specs.Indexes.{index_number}
+use Rattle.commands.specs.Settling.{Settled, settled, refused_for, concluded}
 
 -- 8: "a $SETDS number outside 1–35"
-unfoldable pub datasourceFrom : ℤ → Settled ℕ
-datasourceFrom (pos n) = cond (leb 1 n && leb n 35) (settled n) (refusedFor BadIndex)
-datasourceFrom (negsuc n) = refusedFor BadIndex
+unfoldable pub datasource_from : ℤ → Settled ℕ
+datasource_from (pos n) = cond (leb 1 n && leb n 35) (settled n) (refused_for BadIndex)
+datasource_from (negsuc n) = refused_for BadIndex
 
 -- "`$SETDS n`": the datasource that is selected then
-unfoldable pub datasourceMeaning : Machine → ℕ → Index → Meaning ℕ
-datasourceMeaning m line i = concluded line (datasourceFrom (indexNumber m.variables.integers m.counter i))
+unfoldable pub datasource_meaning : Machine → ℕ → Index → Meaning ℕ
+datasource_meaning m line i = concluded line (datasource_from (index_number m.variables.integers m.counter i))

@@ -5,7 +5,7 @@ use Rattle.commands.specs.declared.table.Table.{Table}
 use Rattle.commands.specs.Looping.{loop}
 use Rattle.pages.specs.declared.page.Page.{Page}
 use Rattle.pages.specs.declared.heading.Heading.{Heading}
-use Rattle.pages.specs.Heading.{noHeading}
+use Rattle.pages.specs.Heading.{no_heading}
 
 -- the line due, by its place in the template and its number
 pub record Position : Type 0 where
@@ -17,7 +17,7 @@ pub record Layout : Type 0 where
   -- $PH1 to $PH9
   pub headings : List Heading
   -- whether a break writes a form feed: not under $NOFF
-  pub formFeeds : Bool
+  pub form_feeds : Bool
 
 pub record State : Type 0 where
   pub position : Position
@@ -44,29 +44,29 @@ seen s =
 
 -- ---- a state with one part of it anew
 
-abbrev pub withPosition : State → ℕ → ℕ → State
-withPosition s at line = record { position = record { at = at; line = line }; variables = s.variables; datasource = s.datasource; tables = s.tables; layout = s.layout; page = s.page }
+abbrev pub with_position : State → ℕ → ℕ → State
+with_position s at line = record { position = record { at = at; line = line }; variables = s.variables; datasource = s.datasource; tables = s.tables; layout = s.layout; page = s.page }
 
-abbrev pub withVariables : State → Variables → State
-withVariables s v = record { position = s.position; variables = v; datasource = s.datasource; tables = s.tables; layout = s.layout; page = s.page }
+abbrev pub with_variables : State → Variables → State
+with_variables s v = record { position = s.position; variables = v; datasource = s.datasource; tables = s.tables; layout = s.layout; page = s.page }
 
-abbrev pub withDatasource : State → ℕ → State
-withDatasource s d = record { position = s.position; variables = s.variables; datasource = d; tables = s.tables; layout = s.layout; page = s.page }
+abbrev pub with_datasource : State → ℕ → State
+with_datasource s d = record { position = s.position; variables = s.variables; datasource = d; tables = s.tables; layout = s.layout; page = s.page }
 
-abbrev pub withTables : State → List Table → State
-withTables s ts = record { position = s.position; variables = s.variables; datasource = s.datasource; tables = ts; layout = s.layout; page = s.page }
+abbrev pub with_tables : State → List Table → State
+with_tables s ts = record { position = s.position; variables = s.variables; datasource = s.datasource; tables = ts; layout = s.layout; page = s.page }
 
-abbrev pub withLayout : State → List Heading → Bool → State
-withLayout s hs f = record { position = s.position; variables = s.variables; datasource = s.datasource; tables = s.tables; layout = record { headings = hs; formFeeds = f }; page = s.page }
+abbrev pub with_layout : State → List Heading → Bool → State
+with_layout s hs f = record { position = s.position; variables = s.variables; datasource = s.datasource; tables = s.tables; layout = record { headings = hs; form_feeds = f }; page = s.page }
 
-abbrev pub withPage : State → Page → State
-withPage s p = record { position = s.position; variables = s.variables; datasource = s.datasource; tables = s.tables; layout = s.layout; page = p }
+abbrev pub with_page : State → Page → State
+with_page s p = record { position = s.position; variables = s.variables; datasource = s.datasource; tables = s.tables; layout = s.layout; page = p }
 
 -- ---- what a section starts with
 
 -- "IV and FV to 0, SV to empty", R and T cleared
-abbrev pub noVariables : Variables
-noVariables =
+abbrev pub no_variables : Variables
+no_variables =
     record {
       integers = replicate 99 (pos 0);
       decimals = replicate 99 (pos 0);
@@ -77,8 +77,8 @@ noVariables =
 
 -- no headings, not under $NOFF
 abbrev pub no_layout : Layout
-no_layout = record { headings = replicate 9 noHeading; formFeeds = true }
+no_layout = record { headings = replicate 9 no_heading; form_feeds = true }
 
 -- "Each executed $SEC sets IV and FV to 0, SV to empty, clears R, T and headings, ends $NOFF. Page and datasource go on."
 abbrev pub cleared : State → State
-cleared s = record { position = s.position; variables = noVariables; datasource = s.datasource; tables = s.tables; layout = no_layout; page = s.page }
+cleared s = record { position = s.position; variables = no_variables; datasource = s.datasource; tables = s.tables; layout = no_layout; page = s.page }

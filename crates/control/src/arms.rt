@@ -4,14 +4,14 @@ ghost use Rattle.std.specs.Int.Signed.{lt_z};
 ghost use Rattle.template.specs.declared.seek.Sought.TheVariants.{TestEnd};
 ghost use Rattle.meaning.specs.declared.end.Ended.TheVariants.{Finished, Halted};
 ghost use Rattle.meaning.specs.declared.end.Halt.TheVariants.{Refused};
-ghost use Rattle.commands.specs.inner.Taking.{judgedOf, verdictOf};
-ghost use Rattle.values.specs.inner.State.{tablesIn};
-ghost use Rattle.pages.specs.Heading.{noHeading};
-ghost use Rattle.pages.specs.inner.Packed.{Small};
-ghost use Rattle.pages.specs.inner.Paging.{TurnReady};
-ghost use Rattle.control.specs.inner.Remembering.{Remembers};
-ghost use Rattle.control.specs.inner.Going.{endedIn, datasourceIn, pageIn, jumpedIn};
-ghost use Rattle.control.specs.inner.Arms.{Jumpable, Settles, keptIn, branchedIn, begunIn, overIn, datasourceAt, Refills, Clears, Heads, BreaksLine, PagesLine};
+ghost use Rattle.commands.specs.Inner.Taking.{judged_of, verdict_of};
+ghost use Rattle.values.specs.Inner.State.{tables_in};
+ghost use Rattle.pages.specs.Heading.{no_heading};
+ghost use Rattle.pages.specs.Inner.Packed.{Small};
+ghost use Rattle.pages.specs.Inner.Paging.{TurnReady};
+ghost use Rattle.control.specs.Inner.Remembering.{Remembers};
+ghost use Rattle.control.specs.Inner.Going.{ended_in, datasource_in, page_in, jumped_in};
+ghost use Rattle.control.specs.Inner.Arms.{Jumpable, Settles, kept_in, branched_in, begun_in, over_in, datasource_at, Refills, Clears, Heads, BreaksLine, PagesLine};
 
 use crate::flow;
 use crate::state::{Flow, Lined};
@@ -28,7 +28,7 @@ use values::{registers, scene, worth};
 
 // A line that does no more than go on.
 pub fn went(flow: Flow, printed: usize, asked: usize) -> Lined
-    ensures { result ≡ endedIn Finished flow printed asked }
+    ensures { result ≡ ended_in Finished flow printed asked }
 {
     Lined {
         end: Ended::Finished,
@@ -40,7 +40,7 @@ pub fn went(flow: Flow, printed: usize, asked: usize) -> Lined
 
 // A line that ended so, on the flow behind it.
 pub fn onward(end: Ended, flow: Flow, printed: usize, asked: usize) -> Lined
-    ensures { result ≡ endedIn end flow printed asked }
+    ensures { result ≡ ended_in end flow printed asked }
 {
     Lined {
         end,
@@ -52,7 +52,7 @@ pub fn onward(end: Ended, flow: Flow, printed: usize, asked: usize) -> Lined
 
 // A line that is refused.
 fn refused(refusal: Refusal, number: u32, flow: Flow, printed: usize, asked: usize) -> Lined
-    ensures { result ≡ endedIn (Halted (Refused refusal) number) flow printed asked }
+    ensures { result ≡ ended_in (Halted (Refused refusal) number) flow printed asked }
 {
     Lined {
         end: Ended::Halted(Halt::Refused(refusal), number),
@@ -64,7 +64,7 @@ fn refused(refusal: Refusal, number: u32, flow: Flow, printed: usize, asked: usi
 
 // A variable is set, or not.
 pub fn settled(verdict: Assigned, number: u32, flow: Flow, printed: usize, asked: usize) -> Lined
-    ensures { Settles number flow printed asked (keptIn flow) (verdictOf verdict) result }
+    ensures { Settles number flow printed asked (kept_in flow) (verdict_of verdict) result }
 {
     match verdict {
         Assigned::Refused(e) => refused(e, number, flow, printed, asked),
@@ -83,7 +83,7 @@ pub fn branched(
     asked: usize,
 ) -> Lined
     requires { Jumpable template.now words.old flow }
-    ensures { (Settles number flow printed asked (branchedIn template.now flow) (judgedOf judged) result) × (Remembers template.now words.old words.new) }
+    ensures { (Settles number flow printed asked (branched_in template.now flow) (judged_of judged) result) × (Remembers template.now words.old words.new) }
 {
     match judged {
         Judged::Refused(e) => {
@@ -108,7 +108,7 @@ pub fn else_line(
     asked: usize,
 ) -> Lined
     requires { Jumpable template.now words.old flow }
-    ensures { (result ≡ endedIn Finished (jumpedIn template.now flow TestEnd) printed asked) × (Remembers template.now words.old words.new) }
+    ensures { (result ≡ ended_in Finished (jumped_in template.now flow TestEnd) printed asked) × (Remembers template.now words.old words.new) }
 {
     let next = flow::jumped(template, words, flow, Sought::TestEnd);
     went(next, printed, asked)
@@ -125,7 +125,7 @@ pub fn begun(
     asked: usize,
 ) -> Lined
     requires { (Jumpable template.now words.old flow) × (flow.depth ≤ 4) }
-    ensures { (Settles number flow printed asked (begunIn template.now flow) (judgedOf judged) result) × (Remembers template.now words.old words.new) }
+    ensures { (Settles number flow printed asked (begun_in template.now flow) (judged_of judged) result) × (Remembers template.now words.old words.new) }
 {
     match judged {
         Judged::Refused(e) => {
@@ -151,7 +151,7 @@ pub fn ended(
     printed: usize,
     asked: usize,
 ) -> Lined
-    ensures { Settles number flow printed asked (overIn (tablesIn words.now) flow) (judgedOf judged) result }
+    ensures { Settles number flow printed asked (over_in (tables_in words.now) flow) (judged_of judged) result }
 {
     match judged {
         Judged::Refused(e) => {
@@ -170,7 +170,7 @@ pub fn ended(
 
 // $SETDS: 8 "a $SETDS number outside 1–35"
 pub fn selected(place: u32, number: u32, flow: Flow, printed: usize, asked: usize) -> Lined
-    ensures { Settles number flow printed asked (datasourceIn flow) (datasourceAt place) result }
+    ensures { Settles number flow printed asked (datasource_in flow) (datasource_at place) result }
 {
     if place < 1 {
         return refused(Refusal::BadIndex, number, flow, printed, asked);
@@ -206,7 +206,7 @@ pub fn fetched(
 
 // A text line on its page. Its end is told apart and not copied, which is slower.
 pub fn paged(paged: Paged, flow: Flow) -> Lined
-    ensures { result ≡ endedIn paged.end (pageIn flow paged.page) paged.counts.printed paged.counts.asked }
+    ensures { result ≡ ended_in paged.end (page_in flow paged.page) paged.counts.printed paged.counts.asked }
 {
     let end = paged.end;
     let page = paged.page;
@@ -270,7 +270,7 @@ pub fn no_heading_line(
     printed: usize,
     asked: usize,
 ) -> Lined
-    ensures { Heads words.old n noHeading flow printed asked words.new result }
+    ensures { Heads words.old n no_heading flow printed asked words.new result }
 {
     registers::put_word(words, registers::HEADINGS, 9, n, 0);
     went(flow, printed, asked)

@@ -1,9 +1,9 @@
 // Where a run goes on, and what its lines are executed in.
 ghost use Rattle.std.specs.Prelude.{◌≡◌, ◌+◌, ◌≤◌};
-ghost use Rattle.values.specs.inner.State.{tablesIn};
-ghost use Rattle.control.specs.inner.Arms.{Jumpable};
-ghost use Rattle.control.specs.inner.Remembering.{jumpMark, jumpWord, skipIn, Holdable, Remembers};
-ghost use Rattle.control.specs.inner.Going.{scene_of, placed_at, datasourceIn, depthIn, feedsIn, pageIn, jumpedIn, againIn};
+ghost use Rattle.values.specs.Inner.State.{tables_in};
+ghost use Rattle.control.specs.Inner.Arms.{Jumpable};
+ghost use Rattle.control.specs.Inner.Remembering.{jump_mark, jump_word, skip_in, Holdable, Remembers};
+ghost use Rattle.control.specs.Inner.Going.{scene_of, placed_at, datasource_in, depth_in, feeds_in, page_in, jumped_in, again_in};
 
 use crate::state::Flow;
 use commands::table;
@@ -16,7 +16,7 @@ use values::scene::Scene;
 
 // What a line is executed in.
 pub fn scene_of(words: &Words, flow: Flow, number: u32) -> Scene
-    ensures { result ≡ scene_of (tablesIn words.now) flow number }
+    ensures { result ≡ scene_of (tables_in words.now) flow number }
 {
     let page = flow.page;
     Scene {
@@ -37,28 +37,28 @@ fn placed(mut flow: Flow, at: usize, line: u32) -> Flow
 }
 
 pub fn with_datasource(mut flow: Flow, datasource: u32) -> Flow
-    ensures { result ≡ datasourceIn flow datasource }
+    ensures { result ≡ datasource_in flow datasource }
 {
     flow.datasource = datasource;
     flow
 }
 
 pub fn with_depth(mut flow: Flow, depth: usize) -> Flow
-    ensures { result ≡ depthIn flow depth }
+    ensures { result ≡ depth_in flow depth }
 {
     flow.depth = depth;
     flow
 }
 
 pub fn with_feeds(mut flow: Flow, feeds: bool) -> Flow
-    ensures { result ≡ feedsIn flow feeds }
+    ensures { result ≡ feeds_in flow feeds }
 {
     flow.feeds = feeds;
     flow
 }
 
 pub fn with_page(mut flow: Flow, page: Page) -> Flow
-    ensures { result ≡ pageIn flow page }
+    ensures { result ≡ page_in flow page }
 {
     flow.page = page;
     flow
@@ -82,7 +82,7 @@ const PARTS: u64 = 17_179_869_184;
 // A place and what is sought from there, as one number that is not 0.
 fn jump_mark(at: usize, sought: Sought) -> u64
     requires { at ≤ 65536 }
-    ensures { result ≡ jumpMark at sought }
+    ensures { result ≡ jump_mark at sought }
 {
     let place = at as u64 * 4;
     match sought {
@@ -95,14 +95,14 @@ fn jump_mark(at: usize, sought: Sought) -> u64
 // What a word remembers of a jump.
 fn jump_word(mark: u64, skip: Skip) -> u64
     requires { Holdable mark skip }
-    ensures { result ≡ jumpWord mark skip }
+    ensures { result ≡ jump_word mark skip }
 {
     (mark * PART + skip.bytes as u64) * PART + skip.lines as u64
 }
 
 // How much such a word passes over.
 fn skip_in(word: u64) -> Skip
-    ensures { result ≡ skipIn word }
+    ensures { result ≡ skip_in word }
 {
     Skip {
         bytes: (word / PART % PART) as usize,
@@ -124,7 +124,7 @@ fn skipping(flow: Flow, skip: Skip) -> Flow
 // of them: another mark is another jump.
 pub fn jumped(template: &[u8], words: &mut Words, flow: Flow, sought: Sought) -> Flow
     requires { Jumpable template.now words.old flow }
-    ensures { (result ≡ jumpedIn template.now flow sought) × (Remembers template.now words.old words.new) }
+    ensures { (result ≡ jumped_in template.now flow sought) × (Remembers template.now words.old words.new) }
 {
     let at = flow.at;
     if template.len() < at {
@@ -143,7 +143,7 @@ pub fn jumped(template: &[u8], words: &mut Words, flow: Flow, sought: Sought) ->
 
 // The line behind the $BT of the innermost table.
 pub fn again(words: &Words, flow: Flow) -> Flow
-    ensures { result ≡ againIn (tablesIn words.now) flow }
+    ensures { result ≡ again_in (tables_in words.now) flow }
 {
     let table = table::innermost(words, flow.depth);
     placed(flow, table.start, table.line)

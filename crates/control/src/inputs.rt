@@ -1,12 +1,12 @@
 // The arguments of a line that are worked out before its command.
 ghost use Rattle.std.specs.Prelude.{◌≡◌};
-ghost use Rattle.control.specs.inner.Forms.{optionalInput, inputsOf};
+ghost use Rattle.control.specs.Inner.Forms.{optional_input, inputs_of};
 
 use lines::command::{Line, Optional};
 use values::working::Inputs;
 
 fn optional_input(optional: Optional) -> Inputs
-    ensures { result ≡ optionalInput optional }
+    ensures { result ≡ optional_input optional }
 {
     match optional {
         Optional::Absent => Inputs::None,
@@ -15,7 +15,7 @@ fn optional_input(optional: Optional) -> Inputs
 }
 
 pub fn inputs_of(form: Line) -> Inputs
-    ensures { result ≡ inputsOf form }
+    ensures { result ≡ inputs_of form }
 {
     match form {
         Line::NoForm => Inputs::None,

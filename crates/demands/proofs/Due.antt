@@ -3,15 +3,15 @@ use mathlib.Core.Path.{◌≡◌, ap}
 use mathlib.Core.List.{List}
 use Prim.Native.Nat.{ℕ}
 use Rattle.lines.specs.declared.command.Line.{Line}
-use Rattle.lines.specs.readers.Command.{parseLine}
+use Rattle.lines.specs.Readers.Command.{parse_line}
 use Rattle.meaning.specs.Meaning.{Meaning}
 use Rattle.control.specs.State.{State}
-use Rattle.control.specs.Line.{formMeaning, lineMeaning}
-use Rattle.demands.specs.Due.{bytesDue, onNext}
+use Rattle.control.specs.Line.{form_meaning, line_meaning}
+use Rattle.demands.specs.Due.{bytes_due, on_next}
 
-abbrev pub byForm : List ℕ → State → Line → Meaning State
-byForm t s f = formMeaning t s.position.at s.position.line (bytesDue t s) (onNext t s) f
+abbrev pub by_form : List ℕ → State → Line → Meaning State
+by_form t s f = form_meaning t s.position.at s.position.line (bytes_due t s) (on_next t s) f
 
-pub line-means : (t : List ℕ) (s : State) (f : Line) → parseLine (bytesDue t s) ≡ f → lineMeaning t s ≡ byForm t s f
-unfolding lineMeaning
-line-means t s f e = ap (byForm t s) e
+pub line_means : (t : List ℕ) (s : State) (f : Line) → parse_line (bytes_due t s) ≡ f → line_meaning t s ≡ by_form t s f
+unfolding line_meaning
+line_means t s f e = ap (by_form t s) e

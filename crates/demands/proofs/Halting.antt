@@ -11,36 +11,36 @@ use Rattle.meaning.specs.Meaning.{Meaning}
 use Rattle.meaning.specs.declared.question.Question.{Question}
 use Rattle.meaning.specs.declared.refusal.Refusal.{Refusal}
 use Rattle.meaning.proofs.Binding.{behind, and_then, onward, run_bind}
-use Rattle.meaning.proofs.Keeping.{keeps-run}
-use Rattle.values.proofs.Giving.{Gives, gives-keeps}
+use Rattle.meaning.proofs.Keeping.{keeps_run}
+use Rattle.values.proofs.Giving.{Gives, gives_keeps}
 
 module _ (source : Question → Answer) where
   -- the places and the room that a run leaves
-  abbrev pub placesBehind : {A : Type 0} → ℕ → ℕ → Meaning A → ℕ
-  placesBehind p r m = p - length (run source p r m).asked
+  abbrev pub places_behind : {A : Type 0} → ℕ → ℕ → Meaning A → ℕ
+  places_behind p r m = p - length (run source p r m).asked
 
-  abbrev pub roomBehind : {A : Type 0} → ℕ → ℕ → Meaning A → ℕ
-  roomBehind p r m = r - length (text_of (run source p r m))
+  abbrev pub room_behind : {A : Type 0} → ℕ → ℕ → Meaning A → ℕ
+  room_behind p r m = r - length (text_of (run source p r m))
 
   -- in the first tree, or in the second
   pub data HaltedIn {A B : Type 0} (m : Meaning A) (f : A → Meaning B) (p r : ℕ) (c : Cause Refusal) (l : ℕ) : Type 0 where
     first : (run source p r m).end ≡ halted c l → (run source p r (bind m f)).events ≡ (run source p r m).events → HaltedIn m f p r c l
-    second : (a : A) → (run source p r m).end ≡ finished a → (run source (placesBehind p r m) (roomBehind p r m) (f a)).end ≡ halted c l
-        → (run source p r (bind m f)).events ≡ (run source p r m).events ++ (run source (placesBehind p r m) (roomBehind p r m) (f a)).events → HaltedIn m f p r c l
+    second : (a : A) → (run source p r m).end ≡ finished a → (run source (places_behind p r m) (room_behind p r m) (f a)).end ≡ halted c l
+        → (run source p r (bind m f)).events ≡ (run source p r m).events ++ (run source (places_behind p r m) (room_behind p r m) (f a)).events → HaltedIn m f p r c l
 
   module _ {A B : Type 0} (m : Meaning A) (f : A → Meaning B) (p r : ℕ) where
     -- the run of both, by the end of the first
-    by_first : (e : End Refusal ℕ A) → (run source p r m).end ≡ e → run source p r (bind m f) ≡ and_then e (run source p r m).asked (run source p r m).events (onward source f (placesBehind p r m) (roomBehind p r m))
-    by_first e h = run_bind source f p r m ∙ ap (λ (x : End Refusal ℕ A). and_then x (run source p r m).asked (run source p r m).events (onward source f (placesBehind p r m) (roomBehind p r m))) h
+    by_first : (e : End Refusal ℕ A) → (run source p r m).end ≡ e → run source p r (bind m f) ≡ and_then e (run source p r m).asked (run source p r m).events (onward source f (places_behind p r m) (room_behind p r m))
+    by_first e h = run_bind source f p r m ∙ ap (λ (x : End Refusal ℕ A). and_then x (run source p r m).asked (run source p r m).events (onward source f (places_behind p r m) (room_behind p r m))) h
 
-    pub finished-then : (a : A) → (run source p r m).end ≡ finished a → run source p r (bind m f) ≡ behind (run source p r m).asked (run source p r m).events (run source (placesBehind p r m) (roomBehind p r m) (f a))
-    finished-then a h = by_first (finished a) h
+    pub finished_then : (a : A) → (run source p r m).end ≡ finished a → run source p r (bind m f) ≡ behind (run source p r m).asked (run source p r m).events (run source (places_behind p r m) (room_behind p r m) (f a))
+    finished_then a h = by_first (finished a) h
 
-    pub halted-first : (c : Cause Refusal) (l : ℕ) → (run source p r m).end ≡ halted c l → (run source p r (bind m f)).end ≡ halted c l
-    halted-first c l h = ap (λ (x : Run Question Refusal ℕ B). x.end) (by_first (halted c l) h)
+    pub halted_first : (c : Cause Refusal) (l : ℕ) → (run source p r m).end ≡ halted c l → (run source p r (bind m f)).end ≡ halted c l
+    halted_first c l h = ap (λ (x : Run Question Refusal ℕ B). x.end) (by_first (halted c l) h)
 
-    pub halted-in : (c : Cause Refusal) (l : ℕ) → (run source p r (bind m f)).end ≡ halted c l → HaltedIn m f p r c l
-    halted-in c l h = go (run source p r m).end refl
+    pub halted_in : (c : Cause Refusal) (l : ℕ) → (run source p r (bind m f)).end ≡ halted c l → HaltedIn m f p r c l
+    halted_in c l h = go (run source p r m).end refl
       where
         -- the same end, of a run that yields another type
         restated : End Refusal ℕ B → End Refusal ℕ A
@@ -49,7 +49,7 @@ module _ (source : Question → Answer) where
 
         go : (e : End Refusal ℕ A) → (run source p r m).end ≡ e → HaltedIn m f p r c l
         go (finished a) e =
-            second a e (sym (ap (λ (x : Run Question Refusal ℕ B). x.end) (finished-then a e)) ∙ h) (ap (λ (x : Run Question Refusal ℕ B). x.events) (finished-then a e))
+            second a e (sym (ap (λ (x : Run Question Refusal ℕ B). x.end) (finished_then a e)) ∙ h) (ap (λ (x : Run Question Refusal ℕ B). x.events) (finished_then a e))
         go (halted c' l') e =
             first (e ∙ ap restated (sym (ap (λ (x : Run Question Refusal ℕ B). x.end) (by_first (halted c' l') e)) ∙ h)) (ap (λ (x : Run Question Refusal ℕ B). x.events) (by_first (halted c' l') e))
 
@@ -60,7 +60,7 @@ silent = record { next = λ s v. s; allowed = λ s v. ⊥ }
 
 -- A tree that only asks prints nothing.
 pub gives_nothing : {A : Type 0} (source : Question → Answer) (p r : ℕ) (m : Meaning A) (Φ : A → Type 0) → Gives m Φ → (run source p r m).events ≡ []
-gives_nothing source p r m Φ g = go (run source p r m).events (keeps-run silent source p r m tt (λ a s. Φ a × (s ≡ tt)) (gives-keeps silent m tt Φ g))
+gives_nothing source p r m Φ g = go (run source p r m).events (keeps_run silent source p r m tt (λ a s. Φ a × (s ≡ tt)) (gives_keeps silent m tt Φ g))
   where
     go : (vs : List Event) → AllAllowed silent tt vs → vs ≡ []
     go [] h = refl
@@ -71,11 +71,11 @@ NoBreak (line b) = Unit {0}
 NoBreak (break b) = ⊥
 
 -- lines may be printed, and no break
-abbrev pub linesOnly : Rule (Unit {0})
-linesOnly = record { next = λ s v. s; allowed = λ s v. NoBreak v }
+abbrev pub lines_only : Rule (Unit {0})
+lines_only = record { next = λ s v. s; allowed = λ s v. NoBreak v }
 
-pub no-breaks : (vs : List Event) → AllAllowed linesOnly tt vs → breaks vs ≡ 0
+pub no_breaks : (vs : List Event) → AllAllowed lines_only tt vs → breaks vs ≡ 0
 unfolding breaks
-no-breaks [] h = refl
-no-breaks (line b ∷ vs) h = no-breaks vs h.1
-no-breaks (break b ∷ vs) h = absurd h.0
+no_breaks [] h = refl
+no_breaks (line b ∷ vs) h = no_breaks vs h.1
+no_breaks (break b ∷ vs) h = absurd h.0

@@ -9,15 +9,15 @@ use lib.ListN.{length}
 use lib.Seq.{sets}
 use Rattle.template.specs.declared.Checked.{Checked}
 use Rattle.template.specs.declared.Checked.TheVariants.{Accepted, Refused}
-use Rattle.template.specs.Order.{templateChecked}
-use Rattle.cells.specs.Store.{cellsHeld, holdsCells}
+use Rattle.template.specs.Order.{template_checked}
+use Rattle.cells.specs.Store.{cells_held, holds_cells}
 use Rattle.meaning.specs.Event.{Event, joined}
 use Rattle.meaning.specs.declared.question.Question.{Question}
 use Rattle.meaning.specs.declared.refusal.Refusal.TheVariants.{BadStore}
 use Rattle.values.specs.Source.{answers}
 use Rattle.history.specs.LentStore.{LentStore}
 use Rattle.report.specs.declared.Report.{Report}
-use Rattle.report.specs.Report.{start_of, Outcome, refusedReport, checkedOutcome, reportOf}
+use Rattle.report.specs.Report.{start_of, Outcome, refused_report, checked_outcome, report_of}
 use Rattle.demands.specs.Calls.{ReportCall}
 use Rattle.demands.specs.Sheet.{TouchesNothing}
 use Rattle.demands.proofs.Numbers.{late}
@@ -31,22 +31,22 @@ pub record Nothing (o : Outcome) : Type 0 where
 abbrev Early : Outcome → Type 0
 Early o = 1 ≤ o.number → o.number ≤ 6 → Nothing o
 
-pub early-is-nothing : (t name b : List ℕ) (n places room : ℕ) → Early (reportOf t name b n places room)
-unfolding reportOf checkedOutcome
-early-is-nothing t name b n places room = by (holdsCells (cellsHeld b n))
+pub early_is_nothing : (t name b : List ℕ) (n places room : ℕ) → Early (report_of t name b n places room)
+unfolding report_of checked_outcome
+early_is_nothing t name b n places room = by (holds_cells (cells_held b n))
   where
-    checked : (k : Checked) → Early (checkedOutcome t (answers b n) places room k)
+    checked : (k : Checked) → Early (checked_outcome t (answers b n) places room k)
     checked (Accepted r) least most = absurd (omega (arith, most, late (answers b n) places room 50000 t r.until (start_of r) least))
     checked (Refused e l) least most = record { pages = refl; events = refl; questions = refl }
 
-    by : (f : Bool) → Early (cond f (checkedOutcome t (answers b n) places room (templateChecked t name)) (refusedReport BadStore 0))
-    by true least most = checked (templateChecked t name) least most
+    by : (f : Bool) → Early (cond f (checked_outcome t (answers b n) places room (template_checked t name)) (refused_report BadStore 0))
+    by true least most = checked (template_checked t name) least most
     by false least most = record { pages = refl; events = refl; questions = refl }
 
 -- of every call
-pub refused-touches-nothing : (t name : List ℕ) (m : LentStore) (x : ReportCall t name m) → 1 ≤ x.returned.number → x.returned.number ≤ 6 → TouchesNothing t name m x
+pub refused_touches_nothing : (t name : List ℕ) (m : LentStore) (x : ReportCall t name m) → 1 ≤ x.returned.number → x.returned.number ≤ 6 → TouchesNothing t name m x
 unfolding joined
-refused-touches-nothing t name m x least most = record {
+refused_touches_nothing t name m x least most = record {
   pages = ap (λ (r : Report). r.pages) x.contract.result ∙ none.pages;
   bytes = ap (λ (r : Report). r.bytes) x.contract.result ∙ ap (λ (vs : List Event). length (joined vs)) none.events;
   questions = ap (λ (r : Report). r.questions) x.contract.result ∙ ap (λ (qs : List Question). length qs) none.questions;
@@ -55,10 +55,10 @@ refused-touches-nothing t name m x least most = record {
 }
   where
     o : Outcome
-    o = reportOf t name m.buffer m.length (length x.reads) (length x.text)
+    o = report_of t name m.buffer m.length (length x.reads) (length x.text)
 
     number_is : x.returned.number ≡ o.number
     number_is = ap (λ (r : Report). r.number) x.contract.result
 
     none : Nothing o
-    none = early-is-nothing t name m.buffer m.length (length x.reads) (length x.text) (subst (λ (n : ℕ). 1 ≤ n) number_is least) (subst (λ (n : ℕ). n ≤ 6) number_is most)
+    none = early_is_nothing t name m.buffer m.length (length x.reads) (length x.text) (subst (λ (n : ℕ). 1 ≤ n) number_is least) (subst (λ (n : ℕ). n ≤ 6) number_is most)

@@ -7,99 +7,99 @@ use lib.ListN.{length, take, drop, length-map, length-drop}
 use lib.Seq.{take_all}
 use Rattle.scan.specs.declared.run.Class.TheVariants.{InLine}
 use Rattle.scan.specs.Line.{line_of, line_at}
-use Rattle.scan.proofs.RunLaws.{take-span}
+use Rattle.scan.proofs.RunLaws.{take_span}
 use Rattle.nesting.specs.declared.Shape.TheVariants.{Table}
 use Rattle.arguments.specs.declared.argument.Argument.{Argument}
 use Rattle.lines.specs.declared.command.Line.{Line}
 use Rattle.lines.specs.declared.command.Line.TheVariants.{BeginTable}
-use Rattle.lines.specs.readers.Command.{parseLine}
-use Rattle.template.specs.Shape.{shapeIn, shape_of}
-use Rattle.template.proofs.Opening.{checks-short, opens-line}
+use Rattle.lines.specs.Readers.Command.{parse_line}
+use Rattle.template.specs.Shape.{shape_in, shape_of}
+use Rattle.template.proofs.Opening.{checks_short, opens_line}
 use Rattle.values.specs.declared.scene.Scene.{Scene}
 use Rattle.values.specs.declared.fetch.Along.TheVariants.{Records, Entries}
-use Rattle.values.specs.inner.State.{tablesIn, headingsIn, Held}
-use Rattle.commands.specs.inner.Open.{opened}
-use Rattle.commands.proofs.Tabling.{opened-length}
-use Rattle.pages.specs.inner.Packed.{headingIn}
-use Rattle.lines.proofs.Accepted.{parsed-sound}
-use Rattle.lines.specs.inner.Known.{form_of}
-use Rattle.lines.proofs.KnownLaws.{form-known}
+use Rattle.values.specs.Inner.State.{tables_in, headings_in, Held}
+use Rattle.commands.specs.Inner.Open.{opened}
+use Rattle.commands.proofs.Tabling.{opened_length}
+use Rattle.pages.specs.Inner.Packed.{heading_in}
+use Rattle.lines.proofs.Accepted.{parsed_sound}
+use Rattle.lines.specs.Inner.Known.{form_of}
+use Rattle.lines.proofs.KnownLaws.{form_known}
 use Rattle.control.specs.declared.state.Flow.{Flow}
 use Rattle.control.specs.declared.state.Lined.{Lined}
-use Rattle.control.specs.Line.{formMeaning, lineMeaning}
-use Rattle.control.specs.inner.Sound.{Nested}
-use Rattle.control.specs.inner.Going.{endedIn, scene_of, placed_at}
-use Rattle.control.specs.inner.Executing.{source_of, stateAt, machineIn, Executes, LineReady, FormReady}
+use Rattle.control.specs.Line.{form_meaning, line_meaning}
+use Rattle.control.specs.Inner.Sound.{Nested}
+use Rattle.control.specs.Inner.Going.{ended_in, scene_of, placed_at}
+use Rattle.control.specs.Inner.Executing.{source_of, state_at, machine_in, Executes, LineReady, FormReady}
 use Rattle.lines.specs.declared.command.Optional.{Optional}
 use Rattle.lines.specs.declared.command.Optional.TheVariants.{Given, Absent}
 use Rattle.lines.specs.declared.command.Line.TheVariants as form
-use Rattle.lines.specs.inner.Sound as parsed
-use Rattle.meaning.specs.inner.Place.{at, Does}
+use Rattle.lines.specs.Inner.Sound as parsed
+use Rattle.meaning.specs.Inner.Place.{at, Does}
 use Rattle.meaning.specs.Number.{end_of}
 use Rattle.meaning.specs.declared.end.Halt.{Halt}
 use Rattle.meaning.specs.declared.end.Ended.TheVariants.{Finished, Halted}
-use Rattle.values.specs.inner.Texts.{Strings, strings, Sized}
-use Rattle.values.specs.inner.Word.{questions}
+use Rattle.values.specs.Inner.Texts.{Strings, strings, Sized}
+use Rattle.values.specs.Inner.Word.{questions}
 use Rattle.values.specs.declared.working.Inputs.{Inputs}
 use Rattle.values.specs.declared.working.Operands.{Operands}
-use Rattle.values.specs.inner.Yielding.{meant}
-use Rattle.values.specs.inner.Working.{worths, inputsMeaning, firstParameter, secondParameter, Workable, WorksOut}
+use Rattle.values.specs.Inner.Yielding.{meant}
+use Rattle.values.specs.Inner.Working.{worths, inputs_meaning, first_parameter, second_parameter, Workable, WorksOut}
 use Rattle.control.specs.State.{State, seen}
-use Rattle.control.specs.inner.Forms.{optionalInput, inputsOf, formWith}
-use Rattle.control.proofs.Forms.{form-inputs}
-use Rattle.control.proofs.Commanding.{inputs-then, inputs-over}
-use Rattle.executed_line.specs.inner.Performing.{Performs}
-use Rattle.executed_line.proofs.Places.{nested-few, nested-line, nested-room}
+use Rattle.control.specs.Inner.Forms.{optional_input, inputs_of, form_with}
+use Rattle.control.proofs.Forms.{form_inputs}
+use Rattle.control.proofs.Commanding.{inputs_then, inputs_over}
+use Rattle.executed_line.specs.Inner.Performing.{Performs}
+use Rattle.executed_line.proofs.Places.{nested_few, nested_line, nested_room}
 
 module _ {b index t : List ℕ} {h : Held} {f : Flow} {T : List ℕ} {u a : ℕ} (k : LineReady b index t h f T u a) {body : List ℕ} (e : body ≡ line_of (take (length t - f.at) (drop f.at t))) where
-  here : Nested t f.at f.line (opened (tablesIn h.words) f.depth)
+  here : Nested t f.at f.line (opened (tables_in h.words) f.depth)
   here = k.sound.nested k.inside
 
   body_is : body ≡ line_at t f.at
   body_is = e ∙ ap line_of (take_all (length t - f.at) (drop f.at t) (omega (arith, length-drop f.at t)))
 
-  body-short : length body ≤ 132
-  body-short = omega (arith, ap length body_is, (opens-line k.sound.checks here.opens k.inside).short)
+  body_short : length body ≤ 132
+  body_short = omega (arith, ap length body_is, (opens_line k.sound.checks here.opens k.inside).short)
 
-  pub past-ready : (f.at + length body ≤ 65536) × (f.line ≤ 65536)
-  past-ready = (omega (arith, body-short, k.inside, checks-short k.sound.checks), omega (arith, nested-line k.sound.checks here k.inside, k.inside, checks-short k.sound.checks))
+  pub past_ready : (f.at + length body ≤ 65536) × (f.line ≤ 65536)
+  past_ready = (omega (arith, body_short, k.inside, checks_short k.sound.checks), omega (arith, nested_line k.sound.checks here k.inside, k.inside, checks_short k.sound.checks))
 
   -- the line was accepted, so it has a form
-  pub form-parsed : {line : Line} → line ≡ form_of body → line ≡ parseLine body
-  form-parsed l = l ∙ rw body_is (form-known (line_at t f.at) (opens-line k.sound.checks here.opens k.inside).parsed)
+  pub form_parsed : {line : Line} → line ≡ form_of body → line ≡ parse_line body
+  form_parsed l = l ∙ rw body_is (form_known (line_at t f.at) (opens_line k.sound.checks here.opens k.inside).parsed)
 
-  module _ {scene : Scene} {next : Flow} {line : Line} (s : scene ≡ scene_of (tablesIn h.words) f f.line) (n : next ≡ placed_at f (f.at + length body + 1) (f.line + 1)) (l : line ≡ parseLine body) where
+  module _ {scene : Scene} {next : Flow} {line : Line} (s : scene ≡ scene_of (tables_in h.words) f f.line) (n : next ≡ placed_at f (f.at + length body + 1) (f.line + 1)) (l : line ≡ parse_line body) where
     few : f.depth ≤ 5
-    few = omega (arith, nested-few k.sound.checks here k.inside, opened-length (tablesIn h.words) f.depth)
+    few = omega (arith, nested_few k.sound.checks here k.inside, opened_length (tables_in h.words) f.depth)
 
-    table-shape : (x : Argument) → line ≡ BeginTable x → shape_of (line_at t f.at) ≡ Table
-    unfolding shape_of shapeIn
-    table-shape x q = ap shapeIn (sym (l ∙ ap parseLine body_is) ∙ q)
+    table_shape : (x : Argument) → line ≡ BeginTable x → shape_of (line_at t f.at) ≡ Table
+    unfolding shape_of shape_in
+    table_shape x q = ap shape_in (sym (l ∙ ap parse_line body_is) ∙ q)
 
     room : (x : Argument) → line ≡ BeginTable x → f.depth ≤ 4
-    room x q = omega (arith, nested-room k.sound.checks here k.inside (table-shape x q), opened-length (tablesIn h.words) f.depth)
+    room x q = omega (arith, nested_room k.sound.checks here k.inside (table_shape x q), opened_length (tables_in h.words) f.depth)
 
-    pub form-ready : (a' : ℕ) → a' ≤ a + 2 → FormReady body b index t h scene f.at next line T u a'
-    form-ready a' few' = rw (n, s) (record {
+    pub form_ready : (a' : ℕ) → a' ≤ a + 2 → FormReady body b index t h scene f.at next line T u a'
+    form_ready a' few' = rw (n, s) (record {
       kept = k.kept;
       stored = k.stored;
       scened = refl;
-      parsed = parsed-sound body line (sym l);
-      within = rw body_is (take-span InLine (drop f.at t));
-      short = body-short;
-      template = checks-short k.sound.checks;
-      placed = omega (arith, k.inside, checks-short k.sound.checks);
-      numbered = (omega (arith, here.number), omega (arith, nested-line k.sound.checks here k.inside, k.inside, checks-short k.sound.checks));
-      few = omega (arith, nested-line k.sound.checks here k.inside, k.inside, checks-short k.sound.checks);
+      parsed = parsed_sound body line (sym l);
+      within = rw body_is (take_span InLine (drop f.at t));
+      short = body_short;
+      template = checks_short k.sound.checks;
+      placed = omega (arith, k.inside, checks_short k.sound.checks);
+      numbered = (omega (arith, here.number), omega (arith, nested_line k.sound.checks here k.inside, k.inside, checks_short k.sound.checks));
+      few = omega (arith, nested_line k.sound.checks here k.inside, k.inside, checks_short k.sound.checks);
       datasource = k.sound.datasource;
       tables = few;
-      room-for-table = room;
+      room_for_table = room;
       page = k.sound.number;
       row = k.sound.last_row;
       decimals = k.sound.variables.decimals;
       rows = k.rows;
-      table-words = k.table-words;
-      headings = sym (length-map (headingsIn h.words) headingIn) ∙ k.sound.headings;
+      table_words = k.table_words;
+      headings = sym (length-map (headings_in h.words) heading_in) ∙ k.sound.headings;
       heads = k.sound.heads;
       remembered = k.remembered;
       room = k.room;
@@ -107,13 +107,13 @@ module _ {b index t : List ℕ} {h : Held} {f : Flow} {T : List ℕ} {u a : ℕ}
     })
 
     -- what the arguments require
-    small : (x : Optional) → parsed.SmallOptional x → (firstParameter (optionalInput x) ≤ 65535) × (secondParameter (optionalInput x) ≤ 65535)
-    unfolding optionalInput firstParameter secondParameter
+    small : (x : Optional) → parsed.SmallOptional x → (first_parameter (optional_input x) ≤ 65535) × (second_parameter (optional_input x) ≤ 65535)
+    unfolding optional_input first_parameter second_parameter
     small (Given y) e = (e, omega arith)
     small Absent e = (omega arith, omega arith)
 
-    both : (x : Line) → parsed.Sound body x → (firstParameter (inputsOf x) ≤ 65535) × (secondParameter (inputsOf x) ≤ 65535)
-    unfolding inputsOf firstParameter secondParameter
+    both : (x : Line) → parsed.Sound body x → (first_parameter (inputs_of x) ≤ 65535) × (second_parameter (inputs_of x) ≤ 65535)
+    unfolding inputs_of first_parameter second_parameter
     both form.NoForm e = (omega arith, omega arith)
     both form.Text e = (omega arith, omega arith)
     both (form.Section x y) e = (omega arith, omega arith)
@@ -134,35 +134,35 @@ module _ {b index t : List ℕ} {h : Held} {f : Flow} {T : List ℕ} {u a : ℕ}
     both (form.NoHeading m) e = (omega arith, omega arith)
     both form.Remark e = (omega arith, omega arith)
 
-    pub inputs-ready : (i : Inputs) → i ≡ inputsOf line → Workable scene.datasource i a × Sized body b
-    inputs-ready i q =
-        let w = both line (parsed-sound body line (sym l)) in
-        rw q (record { datasource = omega (arith, ap (λ (y : Scene). y.datasource) s, k.sound.datasource); first = w.0; second = w.1; places = omega (arith, k.places) }, record { short-line = omega (arith, body-short); short-store = k.stored })
+    pub inputs_ready : (i : Inputs) → i ≡ inputs_of line → Workable scene.datasource i a × Sized body b
+    inputs_ready i q =
+        let w = both line (parsed_sound body line (sym l)) in
+        rw q (record { datasource = omega (arith, ap (λ (y : Scene). y.datasource) s, k.sound.datasource); first = w.0; second = w.1; places = omega (arith, k.places) }, record { short_line = omega (arith, body_short); short_store = k.stored })
 
-    line-executes : (log : List ℕ) (p : ℕ) (h' : Held) (T' log' : List ℕ) (r : Lined) → Executes 332 (formMeaning t f.at scene.number body (stateAt b h next) line) b h next T u log a p h' T' log' r → Executes 332 (lineMeaning t (stateAt b h f)) b h f T u log a p h' T' log' r
-    unfolding lineMeaning
-    line-executes log p h' T' log' r d =
+    line_executes : (log : List ℕ) (p : ℕ) (h' : Held) (T' log' : List ℕ) (r : Lined) → Executes 332 (form_meaning t f.at scene.number body (state_at b h next) line) b h next T u log a p h' T' log' r → Executes 332 (line_meaning t (state_at b h f)) b h f T u log a p h' T' log' r
+    unfolding line_meaning
+    line_executes log p h' T' log' r d =
         let x = rw (n, s, l) at d in
         rw (← body_is) (record { does = x.does; few = x.few; rows = x.rows })
 
     -- the arguments, then the line by their values
-    module _ (log : List ℕ) (p : ℕ) (i : Inputs) (same : i ≡ inputsOf line) (log₁ : List ℕ) (v : Operands) (w : WorksOut body b index h scene i log a p log₁ v) where
+    module _ (log : List ℕ) (p : ℕ) (i : Inputs) (same : i ≡ inputs_of line) (log₁ : List ℕ) (v : Operands) (w : WorksOut body b index h scene i log a p log₁ v) where
       abbrev now : State
-      now = stateAt b h next
+      now = state_at b h next
 
       abbrev S : Strings
       S = strings body b h.rows
 
-      seen_same : machineIn b h scene ≡ seen now
+      seen_same : machine_in b h scene ≡ seen now
       seen_same = rw (n, s)
 
-      did : Does (source_of b) (inputsMeaning (seen now) body scene.number (inputsOf line)) (at T u (questions log) a p next.page.number) (at T u (questions log₁) v.asked p next.page.number) (end_of (worths (meant S v.first) (meant S v.second)) v.end)
+      did : Does (source_of b) (inputs_meaning (seen now) body scene.number (inputs_of line)) (at T u (questions log) a p next.page.number) (at T u (questions log₁) v.asked p next.page.number) (end_of (worths (meant S v.first) (meant S v.second)) v.end)
       did = rw (← same, ← seen_same) (w.does (length b) k.kept.cells k.kept.ready T u next.page.number)
 
-      pub line-over : (c : Halt) (m : ℕ) (r : Lined) → v.end ≡ Halted c m → r ≡ endedIn v.end next u v.asked → Executes 332 (lineMeaning t (stateAt b h f)) b h f T u log a p h T log₁ r
-      line-over c m r q j =
-          line-executes log p h T log₁ r (rw (form-inputs t f.at scene.number body now line, j) (inputs-over (inputsMeaning (seen now) body scene.number (inputsOf line)) (formWith t f.at scene.number body now line) (worths (meant S v.first) (meant S v.second)) log₁ v.asked v.end c m q did w.few))
+      pub line_over : (c : Halt) (m : ℕ) (r : Lined) → v.end ≡ Halted c m → r ≡ ended_in v.end next u v.asked → Executes 332 (line_meaning t (state_at b h f)) b h f T u log a p h T log₁ r
+      line_over c m r q j =
+          line_executes log p h T log₁ r (rw (form_inputs t f.at scene.number body now line, j) (inputs_over (inputs_meaning (seen now) body scene.number (inputs_of line)) (form_with t f.at scene.number body now line) (worths (meant S v.first) (meant S v.second)) log₁ v.asked v.end c m q did w.few))
 
-      pub line-follows : (h' : Held) (T' log' : List ℕ) (r : Lined) → v.end ≡ Finished → Performs body b t h scene f.at next line v.first v.second T u log₁ v.asked p h' T' log' r → Executes 332 (lineMeaning t (stateAt b h f)) b h f T u log a p h' T' log' r
-      line-follows h' T' log' r q d =
-          line-executes log p h' T' log' r (rw (form-inputs t f.at scene.number body now line) (inputs-then (inputsMeaning (seen now) body scene.number (inputsOf line)) (formWith t f.at scene.number body now line) (worths (meant S v.first) (meant S v.second)) log₁ v.asked (rw q at did) w.few d.executes))
+      pub line_follows : (h' : Held) (T' log' : List ℕ) (r : Lined) → v.end ≡ Finished → Performs body b t h scene f.at next line v.first v.second T u log₁ v.asked p h' T' log' r → Executes 332 (line_meaning t (state_at b h f)) b h f T u log a p h' T' log' r
+      line_follows h' T' log' r q d =
+          line_executes log p h' T' log' r (rw (form_inputs t f.at scene.number body now line) (inputs_then (inputs_meaning (seen now) body scene.number (inputs_of line)) (form_with t f.at scene.number body now line) (worths (meant S v.first) (meant S v.second)) log₁ v.asked (rw q at did) w.few d.executes))

@@ -1,7 +1,7 @@
 // A line by its form and the values of its arguments.
-ghost use Rattle.values.specs.inner.State.{held};
-ghost use Rattle.control.specs.inner.Executing.{FormReady};
-ghost use Rattle.executed_line.specs.inner.Performing.{Performs};
+ghost use Rattle.values.specs.Inner.State.{held};
+ghost use Rattle.control.specs.Inner.Executing.{FormReady};
+ghost use Rattle.executed_line.specs.Inner.Performing.{Performs};
 
 use commands::{set, settle, table, test};
 use control::state::{Flow, Lined};

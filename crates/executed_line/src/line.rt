@@ -1,8 +1,8 @@
 // One template line.
-ghost use Rattle.values.specs.inner.State.{held};
-ghost use Rattle.control.specs.Line.{lineMeaning};
-ghost use Rattle.control.specs.inner.Executing.{stateAt, LineReady, Executes};
-ghost use Rattle.control.specs.inner.Remembering.{Remembered};
+ghost use Rattle.values.specs.Inner.State.{held};
+ghost use Rattle.control.specs.Line.{line_meaning};
+ghost use Rattle.control.specs.Inner.Executing.{state_at, LineReady, Executes};
+ghost use Rattle.control.specs.Inner.Remembering.{Remembered};
 
 use crate::execute;
 use crate::execute::Prepared;
@@ -28,7 +28,7 @@ pub fn line<'a>(
     flow: Flow,
 ) -> Lined
     requires { LineReady store.now index.now template.now (held numbers.old strings.old words.old) flow text.old counts.printed counts.asked }
-    ensures { (Executes 332 (lineMeaning template.now (stateAt store.now (held numbers.old strings.old words.old) flow)) store.now (held numbers.old strings.old words.old) flow text.old counts.printed log.old counts.asked counts.places (held numbers.new strings.new words.new) text.new log.new result) × (Remembered template.now words.new) }
+    ensures { (Executes 332 (line_meaning template.now (state_at store.now (held numbers.old strings.old words.old) flow)) store.now (held numbers.old strings.old words.old) flow text.old counts.printed log.old counts.asked counts.places (held numbers.new strings.new words.new) text.new log.new result) × (Remembered template.now words.new) }
 {
     let at = flow.at;
     let body = scan::bytes::line_of(&template[at..]);

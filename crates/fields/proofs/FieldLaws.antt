@@ -11,184 +11,184 @@ use lib.Dec.{leb, eqb}
 use lib.ListN.{length, take, set, replicate, length-append, length-replicate, length-take}
 use lib.Seq.{sets, length-sets, take_all, length-take-le}
 use Rattle.meaning.specs.Answer.{Value, number, string}
-use Rattle.buffers.specs.Buffer.{hasRoom, stored}
-use Rattle.buffers.proofs.Laws.{sets-append, stored-in}
+use Rattle.buffers.specs.Buffer.{has_room, stored}
+use Rattle.buffers.proofs.Laws.{sets_append, stored_in}
 use Rattle.numbers.specs.declared.Quantity.{Quantity}
 use Rattle.numbers.specs.declared.Rounded.TheVariants.{Units, OutOfRange}
-use Rattle.numbers.specs.Places.{roundedTo}
+use Rattle.numbers.specs.Places.{rounded_to}
 use Rattle.fields.specs.declared.Places.{Places}
-use Rattle.fields.specs.Digits.{digits, digitCount}
-use Rattle.fields.specs.Field.{space, asterisk, hyphen, point, questionMark, places_of, negative, minus, fraction, unsigned, rightIn, leftIn, widthAllowed, roundedField, shown, field_of}
-use Rattle.fields.specs.inner.Putting.{fieldFits, bufferWith, Put}
+use Rattle.fields.specs.Digits.{digits, digit_count}
+use Rattle.fields.specs.Field.{space, asterisk, hyphen, point, question_mark, places_of, negative, minus, fraction, unsigned, right_in, left_in, width_allowed, rounded_field, shown, field_of}
+use Rattle.fields.specs.Inner.Putting.{field_fits, buffer_with, Put}
 use Rattle.fields.proofs.DigitLaws.{length_digits}
 
 -- ---- the sign and the fraction
 
-pub minus-none : (below : Bool) (u : ℕ) → below ≡ false → minus below u ≡ []
+pub minus_none : (below : Bool) (u : ℕ) → below ≡ false → minus below u ≡ []
 unfolding minus
-minus-none below u e = rw e
+minus_none below u e = rw e
 
-pub minus-zero : (below : Bool) (u : ℕ) → u ≡ 0 → minus below u ≡ []
+pub minus_zero : (below : Bool) (u : ℕ) → u ≡ 0 → minus below u ≡ []
 unfolding minus
-minus-zero true u e = rw (eq-eqb u 0 e)
-minus-zero false u e = refl
+minus_zero true u e = rw (eq-eqb u 0 e)
+minus_zero false u e = refl
 
 pub minus_one : (below : Bool) (u : ℕ) → below ≡ true → (u ≡ 0 → ⊥) → minus below u ≡ hyphen ∷ []
 unfolding minus
 minus_one below u e n = rw (e, ne_eqb u 0 n)
 
 -- the sign is that many minus signs
-pub minus-fill : (below : Bool) (u : ℕ) → minus below u ≡ replicate (length (minus below u)) hyphen
+pub minus_fill : (below : Bool) (u : ℕ) → minus below u ≡ replicate (length (minus below u)) hyphen
 unfolding minus
-minus-fill below u = go (below && not (eqb u 0))
+minus_fill below u = go (below && not (eqb u 0))
   where
     go : (t : Bool) → cond t (hyphen ∷ []) [] ≡ replicate (length (cond t (hyphen ∷ []) [])) hyphen
     go true = refl
     go false = refl
 
-pub sign-short : (below : Bool) (u : ℕ) → length (minus below u) ≤ 1
+pub sign_short : (below : Bool) (u : ℕ) → length (minus below u) ≤ 1
 unfolding minus
-sign-short below u = go (below && not (eqb u 0))
+sign_short below u = go (below && not (eqb u 0))
   where
     go : (t : Bool) → length (cond t (hyphen ∷ []) []) ≤ 1
     go true = omega arith
     go false = omega arith
 
-pub fraction-none : (d u : ℕ) → d ≡ 0 → fraction d u ≡ []
+pub fraction_none : (d u : ℕ) → d ≡ 0 → fraction d u ≡ []
 unfolding fraction
-fraction-none d u e = rw e
+fraction_none d u e = rw e
 
-pub fraction-some : (d u : ℕ) → (d ≡ 0 → ⊥) → fraction d u ≡ point ∷ digits d u
+pub fraction_some : (d u : ℕ) → (d ≡ 0 → ⊥) → fraction d u ≡ point ∷ digits d u
 unfolding fraction
-fraction-some zero u n = absurd (n refl)
-fraction-some (suc d) u n = refl
+fraction_some zero u n = absurd (n refl)
+fraction_some (suc d) u n = refl
 
-pub length-fraction : (d u : ℕ) → (d ≡ 0 → ⊥) → length (fraction d u) ≡ d + 1
-length-fraction d u n = ap length (fraction-some d u n) ∙ omega (arith, length_digits d u)
+pub length_fraction : (d u : ℕ) → (d ≡ 0 → ⊥) → length (fraction d u) ≡ d + 1
+length_fraction d u n = ap length (fraction_some d u n) ∙ omega (arith, length_digits d u)
 
-pub fraction-short : (d u : ℕ) → d ≤ 6 → length (fraction d u) ≤ 7
-fraction-short zero u h = omega (arith, ap length (fraction-none zero u refl))
-fraction-short (suc d) u h = omega (arith, length-fraction (suc d) u (λ e. omega arith))
+pub fraction_short : (d u : ℕ) → d ≤ 6 → length (fraction d u) ≤ 7
+fraction_short zero u h = omega (arith, ap length (fraction_none zero u refl))
+fraction_short (suc d) u h = omega (arith, length_fraction (suc d) u (λ e. omega arith))
 
 -- the length of a fraction is the same for all numbers
-pub fraction-same : (d u v : ℕ) → length (fraction d u) ≡ length (fraction d v)
-fraction-same zero u v = ap length (fraction-none zero u refl ∙ sym (fraction-none zero v refl))
-fraction-same (suc d) u v = length-fraction (suc d) u (λ e. omega arith) ∙ sym (length-fraction (suc d) v (λ e. omega arith))
+pub fraction_same : (d u v : ℕ) → length (fraction d u) ≡ length (fraction d v)
+fraction_same zero u v = ap length (fraction_none zero u refl ∙ sym (fraction_none zero v refl))
+fraction_same (suc d) u v = length_fraction (suc d) u (λ e. omega arith) ∙ sym (length_fraction (suc d) v (λ e. omega arith))
 
 -- ---- pieces, one behind the other
 
-pub fraction-put : (b b' : List ℕ) (at d u : ℕ) → (d ≡ 0 → ⊥) → b' ≡ sets (set b at point) (at + 1) (digits d u) → b' ≡ sets b at (fraction d u)
-fraction-put b b' at d u n e = e ∙ ap (λ (i : ℕ). sets (set b at point) i (digits d u)) (add-one at) ∙ ap (sets b at) (sym (fraction-some d u n))
+pub fraction_put : (b b' : List ℕ) (at d u : ℕ) → (d ≡ 0 → ⊥) → b' ≡ sets (set b at point) (at + 1) (digits d u) → b' ≡ sets b at (fraction d u)
+fraction_put b b' at d u n e = e ∙ ap (λ (i : ℕ). sets (set b at point) i (digits d u)) (add-one at) ∙ ap (sets b at) (sym (fraction_some d u n))
 
-pub text-put : (b b₁ b₂ b₃ : List ℕ) (at sign count whole d u : ℕ) → at + sign ≤ length b → b₁ ≡ stored b at (replicate sign hyphen) → b₂ ≡ sets b₁ (at + sign) (digits count whole) → b₃ ≡ sets b₂ (at + sign + count) (fraction d u) → b₃ ≡ sets b at (replicate sign hyphen ++ (digits count whole ++ fraction d u))
-text-put b b₁ b₂ b₃ at sign count whole d u h e₁ e₂ e₃ =
+pub text_put : (b b₁ b₂ b₃ : List ℕ) (at sign count whole d u : ℕ) → at + sign ≤ length b → b₁ ≡ stored b at (replicate sign hyphen) → b₂ ≡ sets b₁ (at + sign) (digits count whole) → b₃ ≡ sets b₂ (at + sign + count) (fraction d u) → b₃ ≡ sets b at (replicate sign hyphen ++ (digits count whole ++ fraction d u))
+text_put b b₁ b₂ b₃ at sign count whole d u h e₁ e₂ e₃ =
     let l : length (replicate sign hyphen) ≡ sign = length-replicate sign hyphen in
     let k : length (digits count whole) ≡ count = length_digits count whole in
-    let s : b₁ ≡ sets b at (replicate sign hyphen) = e₁ ∙ stored-in b at (replicate sign hyphen) (omega arith) in
-    rw (e₃, e₂, s, sets-append (replicate sign hyphen) b at (digits count whole ++ fraction d u), l, sets-append (digits count whole) (sets b at (replicate sign hyphen)) (at + sign) (fraction d u), k)
+    let s : b₁ ≡ sets b at (replicate sign hyphen) = e₁ ∙ stored_in b at (replicate sign hyphen) (omega arith) in
+    rw (e₃, e₂, s, sets_append (replicate sign hyphen) b at (digits count whole ++ fraction d u), l, sets_append (digits count whole) (sets b at (replicate sign hyphen)) (at + sign) (fraction d u), k)
 
 -- ---- a number in its field: sign, count and tail are the lengths of its three pieces
 
-module _ (below : Bool) (d u sign count whole tail : ℕ) (es : sign ≡ length (minus below u)) (ec : count ≡ digitCount whole) (ew : whole ≡ u / 10 ^ d) (et : tail ≡ length (fraction d 0)) where
-  pub whole-text : unsigned d u ≡ digits count whole ++ fraction d u
+module _ (below : Bool) (d u sign count whole tail : ℕ) (es : sign ≡ length (minus below u)) (ec : count ≡ digit_count whole) (ew : whole ≡ u / 10 ^ d) (et : tail ≡ length (fraction d 0)) where
+  pub whole_text : unsigned d u ≡ digits count whole ++ fraction d u
   unfolding unsigned
-  whole-text = rw (ec, ew)
+  whole_text = rw (ec, ew)
 
-  pub length-text : length (minus below u ++ unsigned d u) ≡ sign + count + tail
-  length-text =
-      rw whole-text
-      (length-append (minus below u) (digits count whole ++ fraction d u) ∙ omega (arith, length-append (digits count whole) (fraction d u), length_digits count whole, fraction-same d u 0))
+  pub length_text : length (minus below u ++ unsigned d u) ≡ sign + count + tail
+  length_text =
+      rw whole_text
+      (length-append (minus below u) (digits count whole ++ fraction d u) ∙ omega (arith, length-append (digits count whole) (fraction d u), length_digits count whole, fraction_same d u 0))
 
-  pub starred : (b b' : List ℕ) (at w : ℕ) → at + w ≤ length b → w < sign + count + tail → b' ≡ stored b at (replicate w asterisk) → b' ≡ sets b at (rightIn w (minus below u ++ unsigned d u))
-  unfolding rightIn
+  pub starred : (b b' : List ℕ) (at w : ℕ) → at + w ≤ length b → w < sign + count + tail → b' ≡ stored b at (replicate w asterisk) → b' ≡ sets b at (right_in w (minus below u ++ unsigned d u))
+  unfolding right_in
   starred b b' at w f h e =
-      let s : stored b at (replicate w asterisk) ≡ sets b at (replicate w asterisk) = stored-in b at (replicate w asterisk) (omega (arith, length-replicate w asterisk)) in
-      rw (lt-leb (length (minus below u ++ unsigned d u)) w (omega (arith, length-text))) (e ∙ s)
+      let s : stored b at (replicate w asterisk) ≡ sets b at (replicate w asterisk) = stored_in b at (replicate w asterisk) (omega (arith, length-replicate w asterisk)) in
+      rw (lt-leb (length (minus below u ++ unsigned d u)) w (omega (arith, length_text))) (e ∙ s)
 
-  pub spaced : (b b₁ b₂ : List ℕ) (at w : ℕ) → at + w ≤ length b → sign + count + tail ≤ w → b₁ ≡ stored b at (replicate (w - (sign + count + tail)) space) → b₂ ≡ sets b₁ (at + (w - (sign + count + tail))) (replicate sign hyphen ++ (digits count whole ++ fraction d u)) → b₂ ≡ sets b at (rightIn w (minus below u ++ unsigned d u))
-  unfolding rightIn
+  pub spaced : (b b₁ b₂ : List ℕ) (at w : ℕ) → at + w ≤ length b → sign + count + tail ≤ w → b₁ ≡ stored b at (replicate (w - (sign + count + tail)) space) → b₂ ≡ sets b₁ (at + (w - (sign + count + tail))) (replicate sign hyphen ++ (digits count whole ++ fraction d u)) → b₂ ≡ sets b at (right_in w (minus below u ++ unsigned d u))
+  unfolding right_in
   spaced b b₁ b₂ at w f h e₁ e₂ =
       let k = w - (sign + count + tail) in
       let l : length (replicate k space) ≡ k = length-replicate k space in
-      let s : b₁ ≡ sets b at (replicate k space) = e₁ ∙ stored-in b at (replicate k space) (omega arith) in
-      let m : replicate sign hyphen ≡ minus below u = ap (λ (n : ℕ). replicate n hyphen) es ∙ sym (minus-fill below u) in
-      rw (le-leb (length (minus below u ++ unsigned d u)) w (omega (arith, length-text)), length-text, sets-append (replicate k space) b at (minus below u ++ unsigned d u), l, whole-text, e₂, s, m)
+      let s : b₁ ≡ sets b at (replicate k space) = e₁ ∙ stored_in b at (replicate k space) (omega arith) in
+      let m : replicate sign hyphen ≡ minus below u = ap (λ (n : ℕ). replicate n hyphen) es ∙ sym (minus_fill below u) in
+      rw (le-leb (length (minus below u ++ unsigned d u)) w (omega (arith, length_text)), length_text, sets_append (replicate k space) b at (minus below u ++ unsigned d u), l, whole_text, e₂, s, m)
 
 -- ---- a string in its field
 
 module _ (b s : List ℕ) (at w : ℕ) (f : at + w ≤ length b) where
-  pub filled : (b₁ b₂ : List ℕ) → length s < w → b₁ ≡ stored b at s → b₂ ≡ stored b₁ (at + length s) (replicate (w - length s) space) → b₂ ≡ sets b at (leftIn w s)
-  unfolding leftIn
+  pub filled : (b₁ b₂ : List ℕ) → length s < w → b₁ ≡ stored b at s → b₂ ≡ stored b₁ (at + length s) (replicate (w - length s) space) → b₂ ≡ sets b at (left_in w s)
+  unfolding left_in
   filled b₁ b₂ h e₁ e₂ =
-      let p : b₁ ≡ sets b at s = e₁ ∙ stored-in b at s (omega arith) in
+      let p : b₁ ≡ sets b at s = e₁ ∙ stored_in b at s (omega arith) in
       let n : length b₁ ≡ length b = ap length p ∙ length-sets b at s in
-      let q : b₂ ≡ sets b₁ (at + length s) (replicate (w - length s) space) = e₂ ∙ stored-in b₁ (at + length s) (replicate (w - length s) space) (omega (arith, length-replicate (w - length s) space)) in
+      let q : b₂ ≡ sets b₁ (at + length s) (replicate (w - length s) space) = e₂ ∙ stored_in b₁ (at + length s) (replicate (w - length s) space) (omega (arith, length-replicate (w - length s) space)) in
       let t : take w s ≡ s = take_all w s (omega arith) in
-      rw (q, p, t) (sym (sets-append s b at (replicate (w - length s) space)))
+      rw (q, p, t) (sym (sets_append s b at (replicate (w - length s) space)))
 
-  pub cut_off : (b₁ : List ℕ) → w ≤ length s → b₁ ≡ stored b at (take w s) → b₁ ≡ sets b at (leftIn w s)
-  unfolding leftIn
+  pub cut_off : (b₁ : List ℕ) → w ≤ length s → b₁ ≡ stored b at (take w s) → b₁ ≡ sets b at (left_in w s)
+  unfolding left_in
   cut_off b₁ h e =
       let z : w - length s ≡ 0 = omega arith in
       let l : length (take w s) ≡ w = length-take-le w s h in
-      rw (z, append-nil (take w s)) (e ∙ stored-in b at (take w s) (omega arith))
+      rw (z, append-nil (take w s)) (e ∙ stored_in b at (take w s) (omega arith))
 
 -- ---- lengths: a field has w bytes
 
-pub length-right : (w : ℕ) (t : List ℕ) → length (rightIn w t) ≡ w
-unfolding rightIn
-length-right w t = go (leb (length t) w) refl
+pub length_right : (w : ℕ) (t : List ℕ) → length (right_in w t) ≡ w
+unfolding right_in
+length_right w t = go (leb (length t) w) refl
   where
     go : (r : Bool) → leb (length t) w ≡ r → length (cond r (replicate (w - length t) space ++ t) (replicate w asterisk)) ≡ w
     go true e = length-append (replicate (w - length t) space) t ∙ omega (arith, length-replicate (w - length t) space, leb-true (length t) w e)
     go false e = length-replicate w asterisk
 
-pub length-left : (w : ℕ) (s : List ℕ) → length (leftIn w s) ≡ w
-unfolding leftIn
-length-left w s = length-append (take w s) (replicate (w - length s) space) ∙ omega (arith, length-take w s, length-replicate (w - length s) space)
+pub length_left : (w : ℕ) (s : List ℕ) → length (left_in w s) ≡ w
+unfolding left_in
+length_left w s = length-append (take w s) (replicate (w - length s) space) ∙ omega (arith, length-take w s, length-replicate (w - length s) space)
 
 -- ---- the answers
 
 -- "w 1–32"
-pub narrow : (w : ℕ) → w < 1 → widthAllowed w ≡ false
-unfolding widthAllowed
+pub narrow : (w : ℕ) → w < 1 → width_allowed w ≡ false
+unfolding width_allowed
 narrow w h = rw (lt-leb 1 w h)
 
-pub at_least_one : (w : ℕ) → 1 ≤ w → widthAllowed w ≡ leb w 32
-unfolding widthAllowed
+pub at_least_one : (w : ℕ) → 1 ≤ w → width_allowed w ≡ leb w 32
+unfolding width_allowed
 at_least_one w h = rw (le-leb 1 w h)
 
-pub put-none : (b : List ℕ) (n : ℕ) (f : Option (List ℕ)) → f ≡ none → Put b n f b false
-unfolding fieldFits bufferWith
-put-none b n f e = record { told = rw e; buffer = rw e }
+pub put_none : (b : List ℕ) (n : ℕ) (f : Option (List ℕ)) → f ≡ none → Put b n f b false
+unfolding field_fits buffer_with
+put_none b n f e = record { told = rw e; buffer = rw e }
 
 module _ (b : List ℕ) (n w : ℕ) (f : Option (List ℕ)) (s : List ℕ) (e : f ≡ some s) (l : length s ≡ w) where
-  pub put-short : hasRoom b n w ≡ false → Put b n f b false
-  unfolding fieldFits bufferWith stored
-  put-short r = record { told = rw (e, l, r); buffer = rw (e, l, r) }
+  pub put_short : has_room b n w ≡ false → Put b n f b false
+  unfolding field_fits buffer_with stored
+  put_short r = record { told = rw (e, l, r); buffer = rw (e, l, r) }
 
-  pub put-there : (b' : List ℕ) → hasRoom b n w ≡ true → b' ≡ sets b n s → Put b n f b' true
-  unfolding fieldFits bufferWith stored
-  put-there b' r h = record { told = rw (e, l, r); buffer = rw (e, l, r) h }
+  pub put_there : (b' : List ℕ) → has_room b n w ≡ true → b' ≡ sets b n s → Put b n f b' true
+  unfolding field_fits buffer_with stored
+  put_there b' r h = record { told = rw (e, l, r); buffer = rw (e, l, r) h }
 
-pub field-none : (w : ℕ) (p : Places) (v : Option Value) → widthAllowed w ≡ false → field_of w p v ≡ none
+pub field_none : (w : ℕ) (p : Places) (v : Option Value) → width_allowed w ≡ false → field_of w p v ≡ none
 unfolding field_of
-field-none w p v e = rw e
+field_none w p v e = rw e
 
-module _ (w d : ℕ) (p : Places) (q : Quantity) (e : widthAllowed w ≡ true) (h : d ≡ places_of p q) where
-  pub number-out : roundedTo q d ≡ OutOfRange → field_of w p (some (number q)) ≡ none
-  unfolding field_of shown roundedField
-  number-out r = rw (e, ← h, r)
+module _ (w d : ℕ) (p : Places) (q : Quantity) (e : width_allowed w ≡ true) (h : d ≡ places_of p q) where
+  pub number_out : rounded_to q d ≡ OutOfRange → field_of w p (some (number q)) ≡ none
+  unfolding field_of shown rounded_field
+  number_out r = rw (e, ← h, r)
 
-  pub number_in : (u : ℕ) (below : Bool) → roundedTo q d ≡ Units u → below ≡ negative q → field_of w p (some (number q)) ≡ some (rightIn w (minus below u ++ unsigned d u))
-  unfolding field_of shown roundedField
+  pub number_in : (u : ℕ) (below : Bool) → rounded_to q d ≡ Units u → below ≡ negative q → field_of w p (some (number q)) ≡ some (right_in w (minus below u ++ unsigned d u))
+  unfolding field_of shown rounded_field
   number_in u below r b = rw (e, ← h, r, b)
 
-pub string-in : (w : ℕ) (p : Places) (s : List ℕ) → widthAllowed w ≡ true → field_of w p (some (string s)) ≡ some (leftIn w s)
+pub string_in_law : (w : ℕ) (p : Places) (s : List ℕ) → width_allowed w ≡ true → field_of w p (some (string s)) ≡ some (left_in w s)
 unfolding field_of shown
-string-in w p s e = rw e
+string_in_law w p s e = rw e
 
 -- a missing value is the string `???`
-pub missing-string : (w : ℕ) (p : Places) → field_of w p none ≡ field_of w p (some (string (questionMark ∷ questionMark ∷ questionMark ∷ [])))
+pub missing_string : (w : ℕ) (p : Places) → field_of w p none ≡ field_of w p (some (string (question_mark ∷ question_mark ∷ question_mark ∷ [])))
 unfolding field_of shown
-missing-string w p = refl
+missing_string w p = refl

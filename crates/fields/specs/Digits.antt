@@ -7,10 +7,10 @@ digits zero n = []
 digits (suc k) n = digits k (n / 10) ++ ((48 + n % 10) ∷ [])
 
 -- how many digits n has, one at least, counted in at most `most` steps
-unfoldable pub countWithin : ℕ → ℕ → ℕ
-countWithin zero n = 1
-countWithin (suc most) n = elim (ltb n 10) [ true ↦ 1 | false ↦ suc (countWithin most (n / 10)) ]
+unfoldable pub count_within : ℕ → ℕ → ℕ
+count_within zero n = 1
+count_within (suc most) n = elim (ltb n 10) [ true ↦ 1 | false ↦ suc (count_within most (n / 10)) ]
 
 -- n steps are enough, since n / 10 is below n
-unfoldable pub digitCount : ℕ → ℕ
-digitCount n = countWithin n n
+unfoldable pub digit_count : ℕ → ℕ
+digit_count n = count_within n n

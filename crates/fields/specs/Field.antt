@@ -7,10 +7,10 @@ use Rattle.numbers.specs.declared.Quantity.{Quantity}
 use Rattle.numbers.specs.declared.Quantity.TheVariants.{Integer, Decimal}
 use Rattle.numbers.specs.declared.Rounded.{Rounded}
 use Rattle.numbers.specs.declared.Rounded.TheVariants.{Units, OutOfRange}
-use Rattle.numbers.specs.Places.{roundedTo}
+use Rattle.numbers.specs.Places.{rounded_to}
 use Rattle.fields.specs.declared.Places.{Places}
 use Rattle.fields.specs.declared.Places.TheVariants.{Unsaid, Said}
-use Rattle.fields.specs.Digits.{digits, digitCount}
+use Rattle.fields.specs.Digits.{digits, digit_count}
 
 abbrev pub space : ℕ
 space = 32
@@ -24,8 +24,8 @@ hyphen = 45
 abbrev pub point : ℕ
 point = 46
 
-abbrev pub questionMark : ℕ
-questionMark = 63
+abbrev pub question_mark : ℕ
+question_mark = 63
 
 -- "without .d, 0 places for an integer, 6 for a decimal"
 unfoldable pub places_of : Places → Quantity → ℕ
@@ -48,31 +48,31 @@ fraction (suc d) u = point ∷ digits (suc d) u
 
 -- u units of the last of d places: "One digit at least precedes the point"
 unfoldable pub unsigned : ℕ → ℕ → List ℕ
-unsigned d u = digits (digitCount (u / 10 ^ d)) (u / 10 ^ d) ++ fraction d u
+unsigned d u = digits (digit_count (u / 10 ^ d)) (u / 10 ^ d) ++ fraction d u
 
 -- "numbers are right-aligned"; "A number too long becomes w asterisks"
-unfoldable pub rightIn : ℕ → List ℕ → List ℕ
-rightIn w t = cond (leb (length t) w) (replicate (w - length t) space ++ t) (replicate w asterisk)
+unfoldable pub right_in : ℕ → List ℕ → List ℕ
+right_in w t = cond (leb (length t) w) (replicate (w - length t) space ++ t) (replicate w asterisk)
 
 -- "Strings are left-aligned, filled with spaces or cut to w"
-unfoldable pub leftIn : ℕ → List ℕ → List ℕ
-leftIn w s = take w s ++ replicate (w - length s) space
+unfoldable pub left_in : ℕ → List ℕ → List ℕ
+left_in w s = take w s ++ replicate (w - length s) space
 
 -- "w 1–32"
-unfoldable pub widthAllowed : ℕ → Bool
-widthAllowed w = leb 1 w && leb w 32
+unfoldable pub width_allowed : ℕ → Bool
+width_allowed w = leb 1 w && leb w 32
 
 -- a number that was rounded to d places; none where the number or d is out of its range
-unfoldable pub roundedField : ℕ → ℕ → Bool → Rounded → Option (List ℕ)
-roundedField w d below (Units u) = some (rightIn w (minus below u ++ unsigned d u))
-roundedField w d below OutOfRange = none
+unfoldable pub rounded_field : ℕ → ℕ → Bool → Rounded → Option (List ℕ)
+rounded_field w d below (Units u) = some (right_in w (minus below u ++ unsigned d u))
+rounded_field w d below OutOfRange = none
 
 -- A value, or none where it is missing. "Missing prints as `???`, like a string"; "d doesn't touch" strings
 unfoldable pub shown : ℕ → Places → Option Value → Option (List ℕ)
-shown w p (some (number q)) = roundedField w (places_of p q) (negative q) (roundedTo q (places_of p q))
-shown w p (some (string s)) = some (leftIn w s)
-shown w p none = some (leftIn w (questionMark ∷ questionMark ∷ questionMark ∷ []))
+shown w p (some (number q)) = rounded_field w (places_of p q) (negative q) (rounded_to q (places_of p q))
+shown w p (some (string s)) = some (left_in w s)
+shown w p none = some (left_in w (question_mark ∷ question_mark ∷ question_mark ∷ []))
 
 -- the w bytes of the field, or none where w, d or a number is out of its limits
 unfoldable pub field_of : ℕ → Places → Option Value → Option (List ℕ)
-field_of w p v = cond (widthAllowed w) (shown w p v) none
+field_of w p v = cond (width_allowed w) (shown w p v) none

@@ -1,4 +1,4 @@
 pub mod Digits
 pub mod Field
-pub mod inner
+pub mod Inner
 pub mod Rows

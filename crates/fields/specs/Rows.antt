@@ -5,10 +5,10 @@ use Rattle.std.proofs.Math.Option.{Option, none, some}
 use Rattle.meaning.specs.Answer.{integer, decimal, string}
 use Rattle.numbers.specs.Range.{within}
 use Rattle.numbers.specs.Rounding.{rounded}
-use Rattle.numbers.specs.Places.{roundedTo}
+use Rattle.numbers.specs.Places.{rounded_to}
 use Rattle.fields.specs.declared.Places.TheVariants.{Unsaid, Said}
-use Rattle.fields.specs.Digits.{digits, countWithin, digitCount}
-use Rattle.fields.specs.Field.{space, asterisk, hyphen, point, questionMark, places_of, negative, minus, fraction, unsigned, rightIn, leftIn, widthAllowed, roundedField, shown, field_of}
+use Rattle.fields.specs.Digits.{digits, count_within, digit_count}
+use Rattle.fields.specs.Field.{space, asterisk, hyphen, point, question_mark, places_of, negative, minus, fraction, unsigned, right_in, left_in, width_allowed, rounded_field, shown, field_of}
 
 -- what the definition gives, and what is expected
 pub record Row : Type 0 where
@@ -31,12 +31,12 @@ rows =
     ∷ field_of 8 Unsaid (some (decimal (pos 1))) gives some (48 ∷ point ∷ 48 ∷ 48 ∷ 48 ∷ 48 ∷ 48 ∷ 49 ∷ [])
     -- strings are cut or filled, whatever d, and so is `???`
     ∷ field_of 2 (Said 3) (some (string (67 ∷ 115 ∷ 45 ∷ []))) gives some (67 ∷ 115 ∷ [])
-    ∷ field_of 4 Unsaid none gives some (questionMark ∷ questionMark ∷ questionMark ∷ space ∷ [])
+    ∷ field_of 4 Unsaid none gives some (question_mark ∷ question_mark ∷ question_mark ∷ space ∷ [])
     -- a width and places out of their limits
     ∷ field_of 33 Unsaid none gives none
     ∷ field_of 9 (Said 7) (some (integer (pos 1))) gives none
     ∷ []
 
-pub rows-hold : map (λ (r : Row). r.computed) rows ≡ map (λ (r : Row). r.expected) rows
-unfolding rows field_of shown roundedField widthAllowed leftIn rightIn unsigned fraction minus negative places_of digits countWithin digitCount roundedTo rounded within
-rows-hold = refl
+pub rows_hold : map (λ (r : Row). r.computed) rows ≡ map (λ (r : Row). r.expected) rows
+unfolding rows field_of shown rounded_field width_allowed left_in right_in unsigned fraction minus negative places_of digits count_within digit_count rounded_to rounded within
+rows_hold = refl

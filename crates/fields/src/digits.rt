@@ -1,11 +1,11 @@
 // Decimal digits of a magnitude, counted and written.
 ghost use Rattle.std.specs.Prelude.{◌≡◌, ◌+◌, ◌≤◌, length};
 ghost use Rattle.std.proofs.lemmas.List.Edits.{sets};
-ghost use Rattle.fields.specs.Digits.{digitCount, digits};
+ghost use Rattle.fields.specs.Digits.{digit_count, digits};
 
 // How many digits a number has, one at least.
 pub fn digit_count(n: u64) -> usize
-    ensures { result ≡ digitCount n }
+    ensures { result ≡ digit_count n }
 {
     let mut m = n;
     let mut count = 1;

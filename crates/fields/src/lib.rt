@@ -8,8 +8,8 @@ mod digits; // digits.rt: decimal digits
 mod text; // text.rt: a number's characters
 
 ghost use Rattle.std.specs.Prelude.{◌≡◌};
-ghost use Rattle.fields.specs.Field.{places_of, negative, widthAllowed, field_of};
-ghost use Rattle.fields.specs.inner.Putting.{Put};
+ghost use Rattle.fields.specs.Field.{places_of, negative, width_allowed, field_of};
+ghost use Rattle.fields.specs.Inner.Putting.{Put};
 ghost use Rattle.std.proofs.Math.Option.{none, some};
 ghost use Rattle.meaning.specs.Answer as G;
 
@@ -44,7 +44,7 @@ fn below_zero(q: Quantity) -> bool
 }
 
 fn width_allowed(width: usize) -> bool
-    ensures { result ≡ widthAllowed width }
+    ensures { result ≡ width_allowed width }
 {
     if width < 1 {
         return false;

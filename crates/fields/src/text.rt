@@ -2,7 +2,7 @@
 ghost use Rattle.std.specs.Prelude.{◌≡◌, ◌++◌, ◌+◌, ◌/◌, ◌≤◌, length, replicate};
 ghost use Rattle.std.proofs.lemmas.List.Edits.{sets};
 ghost use Rattle.fields.specs.Digits.{digits};
-ghost use Rattle.fields.specs.Field.{hyphen, minus, fraction, unsigned, rightIn, leftIn};
+ghost use Rattle.fields.specs.Field.{hyphen, minus, fraction, unsigned, right_in, left_in};
 
 use crate::digits;
 
@@ -55,7 +55,7 @@ fn put_text(buffer: &mut [u8], at: usize, sign: usize, count: usize, whole: u64,
 // "numbers are right-aligned"; "A number too long becomes w asterisks".
 pub fn put_units(buffer: &mut [u8], at: usize, width: usize, d: usize, below: bool, u: u64)
     requires { (at + width ≤ length buffer.old) × (d ≤ 6) }
-    ensures { buffer.new ≡ sets buffer.old at (rightIn width (minus below u ++ unsigned d u)) }
+    ensures { buffer.new ≡ sets buffer.old at (right_in width (minus below u ++ unsigned d u)) }
 {
     let whole = u / numbers::places::scale(d);
     let count = digits::digit_count(whole);
@@ -73,7 +73,7 @@ pub fn put_units(buffer: &mut [u8], at: usize, width: usize, d: usize, below: bo
 // "Strings are left-aligned, filled with spaces or cut to w".
 pub fn put_string(buffer: &mut [u8], at: usize, width: usize, bytes: &[u8])
     requires { at + width ≤ length buffer.old }
-    ensures { buffer.new ≡ sets buffer.old at (leftIn width bytes.now) }
+    ensures { buffer.new ≡ sets buffer.old at (left_in width bytes.now) }
 {
     let length = bytes.len();
     if length < width {

@@ -7,32 +7,32 @@ use Rattle.texts.specs.declared.text.Piece.{Piece}
 use Rattle.texts.specs.declared.text.Piece.TheVariants.{Byte, Placed}
 use Rattle.texts.specs.declared.text.PieceRead.{PieceRead}
 use Rattle.texts.specs.declared.text.PieceRead.TheVariants.{PieceTo, NoPiece}
-use Rattle.texts.specs.readers.Text.{piece_at}
+use Rattle.texts.specs.Readers.Text.{piece_at}
 use Rattle.form_codes.specs.declared.row.Pair.{Pair}
 use Rattle.form_codes.specs.declared.row.Seven.{Seven}
 use Rattle.form_codes.specs.declared.row.CodeRow.{CodeRow}
-use Rattle.form_codes.specs.Row.{rowNumbers, bareRow, rowWith}
-use Rattle.form_codes.specs.Argument.{argumentCodes}
+use Rattle.form_codes.specs.Row.{row_numbers, bare_row, row_with}
+use Rattle.form_codes.specs.Argument.{argument_codes}
 
 -- whether places are said, and how many
-abbrev pub placesCodes : Places → Pair
-placesCodes Unsaid = (0, 0)
-placesCodes (Said d) = (1, d)
+abbrev pub places_codes : Places → Pair
+places_codes Unsaid = (0, 0)
+places_codes (Said d) = (1, d)
 
-abbrev pub layoutCodes : ℕ → Pair → Seven
-layoutCodes w d = (w, d.0, d.1, 0, 0, 0, 0)
+abbrev pub layout_codes : ℕ → Pair → Seven
+layout_codes w d = (w, d.0, d.1, 0, 0, 0, 0)
 
-abbrev pub fieldRow : Field → ℕ → CodeRow
-fieldRow f next = (2, next, argumentCodes f.argument, layoutCodes f.width (placesCodes f.places))
+abbrev pub field_row : Field → ℕ → CodeRow
+field_row f next = (2, next, argument_codes f.argument, layout_codes f.width (places_codes f.places))
 
-abbrev pub pieceRow : Piece → ℕ → CodeRow
-pieceRow (Byte b) next = rowWith 1 next (b, 0, 0, 0, 0, 0, 0)
-pieceRow (Placed f) next = fieldRow f next
+abbrev pub piece_row : Piece → ℕ → CodeRow
+piece_row (Byte b) next = row_with 1 next (b, 0, 0, 0, 0, 0, 0)
+piece_row (Placed f) next = field_row f next
 
-abbrev pub readRow : PieceRead → CodeRow
-readRow NoPiece = bareRow 0 0
-readRow (PieceTo p next) = pieceRow p next
+abbrev pub read_row : PieceRead → CodeRow
+read_row NoPiece = bare_row 0 0
+read_row (PieceTo p next) = piece_row p next
 
 -- the numbers of the piece at a place of a line's bytes
-abbrev pub pieceNumbers : List ℕ → ℕ → List ℕ
-pieceNumbers l at = rowNumbers (readRow (piece_at l at))
+abbrev pub piece_numbers : List ℕ → ℕ → List ℕ
+piece_numbers l at = row_numbers (read_row (piece_at l at))

@@ -1,6 +1,6 @@
 // Arguments as seven numbers, indexes as two.
 ghost use Rattle.std.specs.Prelude.{◌≡◌};
-ghost use Rattle.form_codes.specs.Argument.{indexCodes, filterCode, belowZero, signedCodes, literalCodes, cellCodes, operandCodes, argumentCodes};
+ghost use Rattle.form_codes.specs.Argument.{index_codes, filter_code, below_zero, signed_codes, literal_codes, cell_codes, operand_codes, argument_codes};
 
 use crate::row::{Pair, Seven};
 use arguments::argument::{Argument, Filter};
@@ -9,7 +9,7 @@ use arguments::operand::Operand;
 use numbers::{Quantity, sign};
 
 pub fn index_codes(index: Index) -> Pair
-    ensures { result ≡ indexCodes index }
+    ensures { result ≡ index_codes index }
 {
     match index {
         Index::Fixed(n) => Pair(1, n as u64),
@@ -19,7 +19,7 @@ pub fn index_codes(index: Index) -> Pair
 }
 
 fn filter_code(filter: Filter) -> u64
-    ensures { result ≡ filterCode filter }
+    ensures { result ≡ filter_code filter }
 {
     match filter {
         Filter::Unfiltered => 0,
@@ -33,7 +33,7 @@ fn filter_code(filter: Filter) -> u64
 }
 
 fn below_zero(z: i64) -> u64
-    ensures { result ≡ belowZero z }
+    ensures { result ≡ below_zero z }
 {
     if sign::negative(z) {
         return 1;
@@ -42,13 +42,13 @@ fn below_zero(z: i64) -> u64
 }
 
 fn signed_codes(kind: u64, filter: u64, z: i64) -> Seven
-    ensures { result ≡ signedCodes kind filter z }
+    ensures { result ≡ signed_codes kind filter z }
 {
     Seven(kind, below_zero(z), sign::magnitude(z), 0, 0, 0, filter)
 }
 
 fn literal_codes(q: Quantity, filter: u64) -> Seven
-    ensures { result ≡ literalCodes q filter }
+    ensures { result ≡ literal_codes q filter }
 {
     match q {
         Quantity::Integer(z) => signed_codes(1, filter, z),
@@ -58,13 +58,13 @@ fn literal_codes(q: Quantity, filter: u64) -> Seven
 
 // A cell with one index, or with two.
 fn cell_codes(kind: u64, n: usize, r: Pair, e: Pair, filter: u64) -> Seven
-    ensures { result ≡ cellCodes kind n r e filter }
+    ensures { result ≡ cell_codes kind n r e filter }
 {
     Seven(kind, n as u64, r.0, r.1, e.0, e.1, filter)
 }
 
 fn operand_codes(operand: Operand, filter: u64) -> Seven
-    ensures { result ≡ operandCodes operand filter }
+    ensures { result ≡ operand_codes operand filter }
 {
     match operand {
         Operand::NumberLiteral(q) => literal_codes(q, filter),
@@ -84,7 +84,7 @@ fn operand_codes(operand: Operand, filter: u64) -> Seven
 }
 
 pub fn argument_codes(argument: Argument) -> Seven
-    ensures { result ≡ argumentCodes argument }
+    ensures { result ≡ argument_codes argument }
 {
     let operand = argument.operand;
     let filter = argument.filter;

@@ -1,7 +1,7 @@
 // A line's command with its arguments.
 ghost use Rattle.std.specs.Prelude.{◌≡◌};
 ghost use Rattle.buffers.specs.Buffer.{Stored};
-ghost use Rattle.form_codes.specs.Line.{operationCode, comparisonCode, targetCodes, optionalCodes, fetchRow, datasourceRow, lineRow, lineNumbers};
+ghost use Rattle.form_codes.specs.Line.{operation_code, comparison_code, target_codes, optional_codes, fetch_row, datasource_row, line_row, line_numbers};
 
 use crate::row::{CodeRow, Seven};
 use crate::{argument, row};
@@ -10,7 +10,7 @@ use lines::command;
 use lines::command::{Comparison, Fetch, Line, Operation, Optional, Target};
 
 fn operation_code(operation: Operation) -> u64
-    ensures { result ≡ operationCode operation }
+    ensures { result ≡ operation_code operation }
 {
     match operation {
         Operation::Assign => 1,
@@ -22,7 +22,7 @@ fn operation_code(operation: Operation) -> u64
 }
 
 fn comparison_code(comparison: Comparison) -> u64
-    ensures { result ≡ comparisonCode comparison }
+    ensures { result ≡ comparison_code comparison }
 {
     match comparison {
         Comparison::SameString => 1,
@@ -38,7 +38,7 @@ fn comparison_code(comparison: Comparison) -> u64
 
 // The variable as it would be an argument.
 fn target_codes(target: Target) -> Seven
-    ensures { result ≡ targetCodes target }
+    ensures { result ≡ target_codes target }
 {
     match target {
         Target::IntegerTarget(n) => Seven(4, n as u64, 0, 0, 0, 0, 0),
@@ -48,7 +48,7 @@ fn target_codes(target: Target) -> Seven
 }
 
 fn optional_codes(optional: Optional) -> Seven
-    ensures { result ≡ optionalCodes optional }
+    ensures { result ≡ optional_codes optional }
 {
     match optional {
         Optional::Given(a) => argument::argument_codes(a),
@@ -57,7 +57,7 @@ fn optional_codes(optional: Optional) -> Seven
 }
 
 fn fetch_row(form: u64, fetch: Fetch) -> CodeRow
-    ensures { result ≡ fetchRow form fetch }
+    ensures { result ≡ fetch_row form fetch }
 {
     let first = fetch.record;
     let second = fetch.entry;
@@ -73,14 +73,14 @@ fn fetch_row(form: u64, fetch: Fetch) -> CodeRow
 }
 
 fn datasource_row(index: Index) -> CodeRow
-    ensures { result ≡ datasourceRow index }
+    ensures { result ≡ datasource_row index }
 {
     let i = argument::index_codes(index);
     row::row_with(13, 0, Seven(i.0, i.1, 0, 0, 0, 0, 0))
 }
 
 fn line_row(line: Line) -> CodeRow
-    ensures { result ≡ lineRow line }
+    ensures { result ≡ line_row line }
 {
     match line {
         Line::NoForm => row::bare_row(0, 0),
@@ -118,7 +118,7 @@ fn line_row(line: Line) -> CodeRow
 }
 
 pub fn write_line(line: &[u8], numbers: &mut [u64]) -> bool
-    ensures { Stored numbers.old 0 (lineNumbers line.now) numbers.new result }
+    ensures { Stored numbers.old 0 (line_numbers line.now) numbers.new result }
 {
     let parsed = command::parse_line(line);
     row::put_row(numbers, line_row(parsed))

@@ -1,7 +1,7 @@
 // One byte of a text, or a field.
 ghost use Rattle.std.specs.Prelude.{◌≡◌};
 ghost use Rattle.buffers.specs.Buffer.{Stored};
-ghost use Rattle.form_codes.specs.Piece.{placesCodes, fieldRow, pieceRow, readRow, pieceNumbers};
+ghost use Rattle.form_codes.specs.Piece.{places_codes, field_row, piece_row, read_row, piece_numbers};
 
 use crate::row::{CodeRow, Pair, Seven};
 use crate::{argument, row};
@@ -9,7 +9,7 @@ use texts::text;
 use texts::text::{Field, Piece, PieceRead, Places};
 
 fn places_codes(places: Places) -> Pair
-    ensures { result ≡ placesCodes places }
+    ensures { result ≡ places_codes places }
 {
     match places {
         Places::Unsaid => Pair(0, 0),
@@ -18,7 +18,7 @@ fn places_codes(places: Places) -> Pair
 }
 
 fn field_row(field: Field, next: usize) -> CodeRow
-    ensures { result ≡ fieldRow field next }
+    ensures { result ≡ field_row field next }
 {
     let argument = field.argument;
     let places = field.places;
@@ -33,7 +33,7 @@ fn field_row(field: Field, next: usize) -> CodeRow
 }
 
 fn piece_row(piece: Piece, next: usize) -> CodeRow
-    ensures { result ≡ pieceRow piece next }
+    ensures { result ≡ piece_row piece next }
 {
     match piece {
         Piece::Byte(b) => row::row_with(1, next as u64, Seven(b as u64, 0, 0, 0, 0, 0, 0)),
@@ -42,7 +42,7 @@ fn piece_row(piece: Piece, next: usize) -> CodeRow
 }
 
 fn read_row(read: PieceRead) -> CodeRow
-    ensures { result ≡ readRow read }
+    ensures { result ≡ read_row read }
 {
     match read {
         PieceRead::NoPiece => row::bare_row(0, 0),
@@ -51,7 +51,7 @@ fn read_row(read: PieceRead) -> CodeRow
 }
 
 pub fn write_piece(line: &[u8], at: usize, numbers: &mut [u64]) -> bool
-    ensures { Stored numbers.old 0 (pieceNumbers line.now at) numbers.new result }
+    ensures { Stored numbers.old 0 (piece_numbers line.now at) numbers.new result }
 {
     let read = text::piece_at(line, at);
     row::put_row(numbers, read_row(read))

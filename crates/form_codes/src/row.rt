@@ -2,7 +2,7 @@
 ghost use Rattle.std.specs.Prelude.{◌≡◌, ◌≤◌, length};
 ghost use Rattle.std.proofs.lemmas.List.Edits.{sets};
 ghost use Rattle.buffers.specs.Buffer.{Stored};
-ghost use Rattle.form_codes.specs.Row.{rowNumbers, bareRow, rowWith};
+ghost use Rattle.form_codes.specs.Row.{row_numbers, bare_row, row_with};
 
 // What an index is, and its number.
 #[derive(Drop)]
@@ -25,7 +25,7 @@ pub struct Seven(
 pub struct CodeRow(pub u64, pub u64, pub Seven, pub Seven);
 
 pub fn bare_row(form: u64, number: u64) -> CodeRow
-    ensures { result ≡ bareRow form number }
+    ensures { result ≡ bare_row form number }
 {
     CodeRow(
         form,
@@ -36,7 +36,7 @@ pub fn bare_row(form: u64, number: u64) -> CodeRow
 }
 
 pub fn row_with(form: u64, number: u64, first: Seven) -> CodeRow
-    ensures { result ≡ rowWith form number first }
+    ensures { result ≡ row_with form number first }
 {
     CodeRow(form, number, first, Seven(0, 0, 0, 0, 0, 0, 0))
 }
@@ -54,7 +54,7 @@ fn copy_in(numbers: &mut [u64], row: &[u64])
 
 // Whether there was room for the row.
 pub fn put_row(numbers: &mut [u64], row: CodeRow) -> bool
-    ensures { Stored numbers.old 0 (rowNumbers row) numbers.new result }
+    ensures { Stored numbers.old 0 (row_numbers row) numbers.new result }
 {
     if numbers.len() < 16 {
         return false;

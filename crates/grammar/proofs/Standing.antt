@@ -13,8 +13,8 @@ use lib.Seq.{get_or-drop, drop-drop, drop-append_seam, drop-cons}
 use Rattle.scan.specs.declared.run.Class.{Class}
 use Rattle.scan.specs.Run.{belongs, span}
 use Rattle.scan.specs.Line.{byte_at}
-use Rattle.scan.specs.Words.{begins, standsAt, Spelled, first_of}
-use Rattle.scan.proofs.RunLaws.{byte-within}
+use Rattle.scan.specs.Words.{begins, stands_at, Spelled, first_of}
+use Rattle.scan.proofs.RunLaws.{byte_within}
 use Rattle.grammar.specs.Number.{All}
 
 -- what holds in each case of a test, with its outcome, holds of what it picks
@@ -31,9 +31,9 @@ pub record Found (P : List ℕ → Type 0) (l : List ℕ) (at next : ℕ) : Type
 
 module _ (l : List ℕ) (at : ℕ) where
   -- the byte there is the first of what begins there
-  pub byte-is : (s : List ℕ) → drop at l ≡ s → byte_at l at ≡ get_or s 0 0
+  pub byte_is_law : (s : List ℕ) → drop at l ≡ s → byte_at l at ≡ get_or s 0 0
   unfolding byte_at
-  byte-is s e = ap (λ (i : ℕ). get_or l i 0) (sym (add-zero at)) ∙ sym (get_or-drop at l 0 0) ∙ ap (λ (x : List ℕ). get_or x 0 0) e
+  byte_is_law s e = ap (λ (i : ℕ). get_or l i 0) (sym (add-zero at)) ∙ sym (get_or-drop at l 0 0) ∙ ap (λ (x : List ℕ). get_or x 0 0) e
 
   -- what stands behind something
   pub onward : (s r : List ℕ) → drop at l ≡ s ++ r → drop (at + length s) l ≡ r
@@ -43,41 +43,41 @@ module _ (l : List ℕ) (at : ℕ) where
   past b r e = onward (b ∷ []) r e
 
   -- a byte other than 0 stands there
-  pub byte-stands : (v : ℕ) → byte_at l at ≡ v → 0 < v → drop at l ≡ v ∷ drop (at + 1) l
+  pub byte_stands : (v : ℕ) → byte_at l at ≡ v → 0 < v → drop at l ≡ v ∷ drop (at + 1) l
   unfolding byte_at
-  byte-stands v e h =
-      drop-cons l at 0 (byte-within l at (byte_at l at) v refl e h) ∙ ap₂ (λ (b k : ℕ). b ∷ drop k l) e (sym (add-one at))
+  byte_stands v e h =
+      drop-cons l at 0 (byte_within l at (byte_at l at) v refl e h) ∙ ap₂ (λ (b k : ℕ). b ∷ drop k l) e (sym (add-one at))
 
 -- ---- words
 
-begins-self : (w r : List ℕ) → begins w (w ++ r) ≡ true
+begins_self : (w r : List ℕ) → begins w (w ++ r) ≡ true
 unfolding begins
-begins-self [] r = refl
-begins-self (a ∷ w) r = rw (eq-eqb a a refl) (begins-self w r)
+begins_self [] r = refl
+begins_self (a ∷ w) r = rw (eq-eqb a a refl) (begins_self w r)
 
-begins-says : (w s : List ℕ) → begins w s ≡ true → s ≡ w ++ drop (length w) s
+begins_says : (w s : List ℕ) → begins w s ≡ true → s ≡ w ++ drop (length w) s
 unfolding begins
-begins-says [] s e = refl
-begins-says (a ∷ w) [] e = absurd (false≢true e)
-begins-says (a ∷ w) (b ∷ s) e = go (eqb a b) refl e (begins-says w s)
+begins_says [] s e = refl
+begins_says (a ∷ w) [] e = absurd (false≢true e)
+begins_says (a ∷ w) (b ∷ s) e = go (eqb a b) refl e (begins_says w s)
   where
     go : (t : Bool) → eqb a b ≡ t → cond t (begins w s) false ≡ true → (begins w s ≡ true → s ≡ w ++ drop (length w) s) → b ∷ s ≡ a ∷ (w ++ drop (length w) s)
     go true q f more = ap₂ (λ (x : ℕ) (y : List ℕ). x ∷ y) (sym (eqb-true a b q)) (more f)
     go false q f more = absurd (false≢true f)
 
 module _ (w l : List ℕ) (at : ℕ) where
-  pub stands : (r : List ℕ) → drop at l ≡ w ++ r → standsAt w l at ≡ true
-  unfolding standsAt
-  stands r e = ap (begins w) e ∙ begins-self w r
+  pub stands : (r : List ℕ) → drop at l ≡ w ++ r → stands_at w l at ≡ true
+  unfolding stands_at
+  stands r e = ap (begins w) e ∙ begins_self w r
 
   -- another word stands there
-  pub other_word : (s : List ℕ) → drop at l ≡ s → begins w s ≡ false → standsAt w l at ≡ false
-  unfolding standsAt
+  pub other_word : (s : List ℕ) → drop at l ≡ s → begins w s ≡ false → stands_at w l at ≡ false
+  unfolding stands_at
   other_word s e h = ap (begins w) e ∙ h
 
-  pub stands-says : standsAt w l at ≡ true → drop at l ≡ w ++ drop (at + length w) l
-  unfolding standsAt
-  stands-says e = begins-says w (drop at l) e ∙ ap (λ (x : List ℕ). w ++ x) (drop-drop (length w) at l)
+  pub stands_says : stands_at w l at ≡ true → drop at l ≡ w ++ drop (at + length w) l
+  unfolding stands_at
+  stands_says e = begins_says w (drop at l) e ∙ ap (λ (x : List ℕ). w ++ x) (drop-drop (length w) at l)
 
 -- ---- bytes of a class
 
@@ -87,47 +87,47 @@ Stops class [] = Unit {0}
 Stops class (b ∷ r) = belongs class b ≡ false
 
 module _ (class : Class) where
-  pub span-all : (s : List ℕ) → All class (span class s)
+  pub span_all : (s : List ℕ) → All class (span class s)
   unfolding span All
-  span-all [] = tt
-  span-all (b ∷ s) = tested (All class) (belongs class b) (λ e. (e, span-all s)) (λ e. tt)
+  span_all [] = tt
+  span_all (b ∷ s) = tested (All class) (belongs class b) (λ e. (e, span_all s)) (λ e. tt)
 
-  span-stops : (n : ℕ) (r : List ℕ) → Stops class r → span class (take n r) ≡ []
+  span_stops : (n : ℕ) (r : List ℕ) → Stops class r → span class (take n r) ≡ []
   unfolding span
-  span-stops zero r h = refl
-  span-stops (suc n) [] h = refl
-  span-stops (suc n) (b ∷ r) h = rw h
+  span_stops zero r h = refl
+  span_stops (suc n) [] h = refl
+  span_stops (suc n) (b ∷ r) h = rw h
 
   -- a row of bytes of the class is read whole where it ends
-  pub span-exact : (s r : List ℕ) (n : ℕ) → All class s → length s ≤ n → Stops class r → span class (take n (s ++ r)) ≡ s
+  pub span_exact : (s r : List ℕ) (n : ℕ) → All class s → length s ≤ n → Stops class r → span class (take n (s ++ r)) ≡ s
   unfolding span All
-  span-exact [] r n a h k = span-stops n r k
-  span-exact (b ∷ s) r zero a h k = absurd (omega arith)
-  span-exact (b ∷ s) r (suc n) a h k = rw a.0 (ap (λ (x : List ℕ). b ∷ x) (span-exact s r n a.1 (omega arith) k))
+  span_exact [] r n a h k = span_stops n r k
+  span_exact (b ∷ s) r zero a h k = absurd (omega arith)
+  span_exact (b ∷ s) r (suc n) a h k = rw a.0 (ap (λ (x : List ℕ). b ∷ x) (span_exact s r n a.1 (omega arith) k))
 
-  span-front : (n : ℕ) (w : List ℕ) → span class (take n w) ++ drop (length (span class (take n w))) w ≡ w
+  span_front : (n : ℕ) (w : List ℕ) → span class (take n w) ++ drop (length (span class (take n w))) w ≡ w
   unfolding span
-  span-front zero w = refl
-  span-front (suc n) [] = refl
-  span-front (suc n) (b ∷ w) = go (belongs class b) (span-front n w)
+  span_front zero w = refl
+  span_front (suc n) [] = refl
+  span_front (suc n) (b ∷ w) = go (belongs class b) (span_front n w)
     where
       go : (t : Bool) → span class (take n w) ++ drop (length (span class (take n w))) w ≡ w → cond t (b ∷ span class (take n w)) [] ++ drop (length (cond t (b ∷ span class (take n w)) [])) (b ∷ w) ≡ b ∷ w
       go true e = ap (λ (x : List ℕ). b ∷ x) e
       go false e = refl
 
   -- what is read of a part of a line stands there
-  pub span-here : (l : List ℕ) (at n : ℕ) → drop at l ≡ span class (take n (drop at l)) ++ drop (at + length (span class (take n (drop at l)))) l
-  span-here l at n =
-      sym (span-front n (drop at l)) ∙ ap (λ (x : List ℕ). span class (take n (drop at l)) ++ x) (drop-drop (length (span class (take n (drop at l)))) at l)
+  pub span_here : (l : List ℕ) (at n : ℕ) → drop at l ≡ span class (take n (drop at l)) ++ drop (at + length (span class (take n (drop at l)))) l
+  span_here l at n =
+      sym (span_front n (drop at l)) ∙ ap (λ (x : List ℕ). span class (take n (drop at l)) ++ x) (drop-drop (length (span class (take n (drop at l)))) at l)
 
 -- ---- what the words of a table begin, where one stands
 
 infixr 5 ◌or◌
 pub data EachWord {A : Type 0} (P : A → Type 0) (l : List ℕ) (at : ℕ) : List (Spelled A) → Type 0 where
   no_more : EachWord P l at []
-  ◌or◌ : {e : Spelled A} {es : List (Spelled A)} → (standsAt e.word l at ≡ true → P (e.form l (at + length e.word))) → EachWord P l at es → EachWord P l at (e ∷ es)
+  ◌or◌ : {e : Spelled A} {es : List (Spelled A)} → (stands_at e.word l at ≡ true → P (e.form l (at + length e.word))) → EachWord P l at es → EachWord P l at (e ∷ es)
 
 pub found_word : {A : Type 0} (P : A → Type 0) (none : A) (es : List (Spelled A)) (l : List ℕ) (at : ℕ) → P none → EachWord P l at es → P (first_of none es l at)
 unfolding first_of
 found_word P none [] l at x no_more = x
-found_word P none (e ∷ es) l at x (h or hs) = tested P (standsAt e.word l at) h (λ q. found_word P none es l at x hs)
+found_word P none (e ∷ es) l at x (h or hs) = tested P (stands_at e.word l at) h (λ q. found_word P none es l at x hs)

@@ -15,13 +15,13 @@ use Rattle.scan.specs.declared.run.Class.TheVariants.{Digit}
 use Rattle.scan.specs.declared.digits.Numeral.{Numeral}
 use Rattle.scan.specs.declared.digits.Numeral.TheVariants.{Value, NoNumeral}
 use Rattle.scan.specs.Run.{belongs, span}
-use Rattle.scan.specs.Line.{byte_at, byteIs}
+use Rattle.scan.specs.Line.{byte_at, byte_is}
 use Rattle.scan.specs.Value.{value_of}
-use Rattle.scan.specs.readers.Digits.{digitsAt, number_at}
+use Rattle.scan.specs.Readers.Digits.{digits_at, number_at}
 use Rattle.arguments.specs.declared.argument.Argument.{Argument}
 use Rattle.arguments.specs.declared.argument.ArgumentRead.{ArgumentRead}
 use Rattle.arguments.specs.declared.argument.ArgumentRead.TheVariants.{ArgumentTo, NoArgument}
-use Rattle.arguments.specs.readers.Argument.{argumentAt}
+use Rattle.arguments.specs.Readers.Argument.{argument_at}
 use Rattle.texts.specs.declared.text.Places.{Places}
 use Rattle.texts.specs.declared.text.Places.TheVariants.{Unsaid}
 use Rattle.texts.specs.declared.text.PlacesRead.{PlacesRead}
@@ -32,15 +32,15 @@ use Rattle.texts.specs.declared.text.Piece.{Piece}
 use Rattle.texts.specs.declared.text.Piece.TheVariants.{Placed}
 use Rattle.texts.specs.declared.text.PieceRead.{PieceRead}
 use Rattle.texts.specs.declared.text.PieceRead.TheVariants.{PieceTo, NoPiece}
-use Rattle.texts.specs.readers.Text.{places_at, places_of, widthNext, field_of, field_at, placed, piece_at, before, piecesWithin}
+use Rattle.texts.specs.Readers.Text.{places_at, places_of, width_next, field_of, field_at, placed, piece_at, before, pieces_within}
 use Rattle.grammar.specs.Number.{point, Numbered}
 use Rattle.grammar.specs.Argument.{ArgumentSpelled}
-use Rattle.grammar.specs.Text.{PlacesSpelled, unsaid, said, PieceSpelled, plain_byte, field, TextSpelled, end-of-text, piece}
-use Rattle.grammar.proofs.Standing.{tested, Found, byte-is, onward, past, byte-stands, span-here}
-use Rattle.grammar.proofs.Numbers.{digits-read, number_read, number_spelled}
+use Rattle.grammar.specs.Text.{PlacesSpelled, unsaid, said, PieceSpelled, plain_byte, field, TextSpelled, end_of_text, piece}
+use Rattle.grammar.proofs.Standing.{tested, Found, byte_is_law, onward, past, byte_stands, span_here}
+use Rattle.grammar.proofs.Numbers.{digits_read, number_read, number_spelled}
 use Rattle.grammar.proofs.Literals.{row_read}
-use Rattle.grammar.proofs.Operands.{then-byte}
-use Rattle.grammar.proofs.Arguments.{argument-read, argument-spelled}
+use Rattle.grammar.proofs.Operands.{then_byte}
+use Rattle.grammar.proofs.Arguments.{argument_read, argument_spelled}
 
 abbrev opening : ℕ
 opening = code "{"
@@ -53,70 +53,70 @@ comma = code ","
 
 -- ---- what is spelled is read
 
-byte-other : (l : List ℕ) (at b v : ℕ) (r : List ℕ) → drop at l ≡ b ∷ r → (b ≡ v → ⊥) → eqb (byte_at l at) v ≡ false
-byte-other l at b v r e h = ne_eqb (byte_at l at) v (λ q. h (sym (byte-is l at (b ∷ r) e) ∙ q))
+byte_other : (l : List ℕ) (at b v : ℕ) (r : List ℕ) → drop at l ≡ b ∷ r → (b ≡ v → ⊥) → eqb (byte_at l at) v ≡ false
+byte_other l at b v r e h = ne_eqb (byte_at l at) v (λ q. h (sym (byte_is_law l at (b ∷ r) e) ∙ q))
 
-byte-this : (l : List ℕ) (at b : ℕ) (r : List ℕ) → drop at l ≡ b ∷ r → eqb (byte_at l at) b ≡ true
-byte-this l at b r e = eq-eqb (byte_at l at) b (byte-is l at (b ∷ r) e)
+byte_this : (l : List ℕ) (at b : ℕ) (r : List ℕ) → drop at l ≡ b ∷ r → eqb (byte_at l at) b ≡ true
+byte_this l at b r e = eq-eqb (byte_at l at) b (byte_is_law l at (b ∷ r) e)
 
-places-read : (l : List ℕ) (at : ℕ) (p : Places) (y r : List ℕ) → PlacesSpelled p y → drop at l ≡ y ++ (closing ∷ r) → places_at l at ≡ PlacesTo p (at + length y + 1)
+places_read : (l : List ℕ) (at : ℕ) (p : Places) (y r : List ℕ) → PlacesSpelled p y → drop at l ≡ y ++ (closing ∷ r) → places_at l at ≡ PlacesTo p (at + length y + 1)
 unfolding places_at belongs
-places-read l at p y r unsaid e = rw (byte-this l at closing r e) (ap (PlacesTo Unsaid) (omega arith))
-places-read l at p y r (said s w h) e =
+places_read l at p y r unsaid e = rw (byte_this l at closing r e) (ap (PlacesTo Unsaid) (omega arith))
+places_read l at p y r (said s w h) e =
     let g : drop (at + 1) l ≡ s ++ (closing ∷ r) = past l at point (s ++ (closing ∷ r)) e in
     let n : length s ≡ 1 = omega (arith, w.enough, w.few) in
     let k : at + 1 + length s ≡ at + 2 = omega arith in
     let c : drop (at + 2) l ≡ closing ∷ r = ap (λ (i : ℕ). drop i l) (sym k) ∙ onward l (at + 1) s (closing ∷ r) g in
-    rw (byte-other l at point closing (s ++ (closing ∷ r)) e (λ q. omega arith), byte-this l at point (s ++ (closing ∷ r)) e, digits-read l (at + 1) 1 s (closing ∷ r) (omega arith) g w.all w.few refl, ne_eqb (length s) 0 (λ q. omega (arith, w.enough)), le-ltb 6 (value_of s) h, byte-this l (at + 2) closing r c)
+    rw (byte_other l at point closing (s ++ (closing ∷ r)) e (λ q. omega arith), byte_this l at point (s ++ (closing ∷ r)) e, digits_read l (at + 1) 1 s (closing ∷ r) (omega arith) g w.all w.few refl, ne_eqb (length s) 0 (λ q. omega (arith, w.enough)), le-ltb 6 (value_of s) h, byte_this l (at + 2) closing r c)
     (ap (PlacesTo p) (omega arith))
 
 -- what stands behind a width, its places and the closing brace, is no digit
-places-stop : (p : Places) (y r : List ℕ) → PlacesSpelled p y → (b : ℕ) × (x : List ℕ) × (y ++ (closing ∷ r) ≡ b ∷ x) × (belongs Digit b ≡ false)
+places_stop : (p : Places) (y r : List ℕ) → PlacesSpelled p y → (b : ℕ) × (x : List ℕ) × (y ++ (closing ∷ r) ≡ b ∷ x) × (belongs Digit b ≡ false)
 unfolding belongs
-places-stop p y r unsaid = (closing, r, refl, refl)
-places-stop p y r (said s w h) = (point, s ++ (closing ∷ r), refl, refl)
+places_stop p y r unsaid = (closing, r, refl, refl)
+places_stop p y r (said s w h) = (point, s ++ (closing ∷ r), refl, refl)
 
-field-read : (l : List ℕ) (at : ℕ) (a : Argument) (s : List ℕ) (w : ℕ) (x : List ℕ) (p : Places) (y r : List ℕ) → ArgumentSpelled at a s → Numbered 32 w x → PlacesSpelled p y → drop at l ≡ s ++ (comma ∷ (x ++ (y ++ (closing ∷ r)))) → field_at l at ≡ FieldTo (record { argument = a; width = w; places = p }) (at + length s + 1 + length x + length y + 1)
-unfolding field_at field_of widthNext places_of belongs
-field-read l at a s w x p y r u v t e =
+field_read : (l : List ℕ) (at : ℕ) (a : Argument) (s : List ℕ) (w : ℕ) (x : List ℕ) (p : Places) (y r : List ℕ) → ArgumentSpelled at a s → Numbered 32 w x → PlacesSpelled p y → drop at l ≡ s ++ (comma ∷ (x ++ (y ++ (closing ∷ r)))) → field_at l at ≡ FieldTo (record { argument = a; width = w; places = p }) (at + length s + 1 + length x + length y + 1)
+unfolding field_at field_of width_next places_of belongs
+field_read l at a s w x p y r u v t e =
     let b : ℕ = at + length s in
     let f : drop b l ≡ comma ∷ (x ++ (y ++ (closing ∷ r))) = onward l at s _ e in
     let g : drop (b + 1) l ≡ x ++ (y ++ (closing ∷ r)) = past l b comma _ f in
-    let q = places-stop p y r t in
+    let q = places_stop p y r t in
     let h : drop (b + 1) l ≡ x ++ (q.0 ∷ q.1) = g ∙ ap (λ (z : List ℕ). x ++ z) q.2 in
-    rw (argument-read l at a s (comma ∷ (x ++ (y ++ (closing ∷ r)))) u e (refl, λ z. omega arith, λ z. omega arith), byte-this l b comma _ f, number_read l (b + 1) 32 w x (q.0 ∷ q.1) (omega arith) h v q.3, places-read l (b + 1 + length x) p y r t (onward l (b + 1) x (y ++ (closing ∷ r)) g))
+    rw (argument_read l at a s (comma ∷ (x ++ (y ++ (closing ∷ r)))) u e (refl, λ z. omega arith, λ z. omega arith), byte_this l b comma _ f, number_read l (b + 1) 32 w x (q.0 ∷ q.1) (omega arith) h v q.3, places_read l (b + 1 + length x) p y r t (onward l (b + 1) x (y ++ (closing ∷ r)) g))
 
 nonempty : (l : List ℕ) (at b : ℕ) (r : List ℕ) → drop at l ≡ b ∷ r → leb (length l) at ≡ false
 nonempty l at b r e = lt-leb (length l) at (omega (arith, ap length e, length-drop at l))
 
-pub piece-read : (l : List ℕ) (at : ℕ) (p : Piece) (s r : List ℕ) → PieceSpelled at p s → drop at l ≡ s ++ r → piece_at l at ≡ PieceTo p (at + length s)
+pub piece_read : (l : List ℕ) (at : ℕ) (p : Piece) (s r : List ℕ) → PieceSpelled at p s → drop at l ≡ s ++ r → piece_at l at ≡ PieceTo p (at + length s)
 unfolding piece_at placed
-piece-read l at p s r (plain_byte b h k) e =
-    rw (nonempty l at b r e, byte-other l at b opening r e h, byte-other l at b closing r e k, byte-is l at (b ∷ r) e)
-piece-read l at p z r (field a s w x q y u v t) e =
+piece_read l at p s r (plain_byte b h k) e =
+    rw (nonempty l at b r e, byte_other l at b opening r e h, byte_other l at b closing r e k, byte_is_law l at (b ∷ r) e)
+piece_read l at p z r (field a s w x q y u v t) e =
     let f : drop at l ≡ opening ∷ (s ++ (comma ∷ (x ++ (y ++ (closing ∷ r))))) =
     e
     ∙ ap (λ (j : List ℕ). opening ∷ j) (append_assoc s (comma ∷ (x ++ (y ++ (closing ∷ [])))) r)
     ∙ ap (λ (j : List ℕ). opening ∷ (s ++ (comma ∷ j))) (append_assoc x (y ++ (closing ∷ [])) r)
     ∙ ap (λ (j : List ℕ). opening ∷ (s ++ (comma ∷ (x ++ j)))) (append_assoc y (closing ∷ []) r) in
-    rw (nonempty l at opening _ f, byte-this l at opening _ f, field-read l (at + 1) a s w x q y r u v t (past l at opening _ f))
+    rw (nonempty l at opening _ f, byte_this l at opening _ f, field_read l (at + 1) a s w x q y r u v t (past l at opening _ f))
     (ap (PieceTo p) (omega (arith, length-append s (comma ∷ (x ++ (y ++ (closing ∷ [])))), length-append x (y ++ (closing ∷ [])), length-append y (closing ∷ []))))
 
 -- a piece has a byte at least
-piece-some : (at : ℕ) (p : Piece) (s : List ℕ) → PieceSpelled at p s → (b : ℕ) × (r : List ℕ) × (s ≡ b ∷ r)
-piece-some at p s (plain_byte b h k) = (b, [], refl)
-piece-some at p s (field a x w y q z u v t) = (opening, x ++ (comma ∷ (y ++ (z ++ (closing ∷ [])))), refl)
+piece_some : (at : ℕ) (p : Piece) (s : List ℕ) → PieceSpelled at p s → (b : ℕ) × (r : List ℕ) × (s ≡ b ∷ r)
+piece_some at p s (plain_byte b h k) = (b, [], refl)
+piece_some at p s (field a x w y q z u v t) = (opening, x ++ (comma ∷ (y ++ (z ++ (closing ∷ [])))), refl)
 
-pub text-read : (n : ℕ) (l : List ℕ) (at : ℕ) (ps : List Piece) (s : List ℕ) → TextSpelled at ps s → drop at l ≡ s → length s ≤ n → piecesWithin n l at ≡ some ps
-unfolding piecesWithin before
-text-read zero l at ps s (end-of-text at') e h = refl
-text-read (suc n) l at ps s (end-of-text at') e h = rw (le-leb (length l) at (omega (arith, ap length e, length-drop at l)))
-text-read zero l at ps z (piece at' p s qs t u v) e h =
-    let b = piece-some at' p s u in
+pub text_read : (n : ℕ) (l : List ℕ) (at : ℕ) (ps : List Piece) (s : List ℕ) → TextSpelled at ps s → drop at l ≡ s → length s ≤ n → pieces_within n l at ≡ some ps
+unfolding pieces_within before
+text_read zero l at ps s (end_of_text at') e h = refl
+text_read (suc n) l at ps s (end_of_text at') e h = rw (le-leb (length l) at (omega (arith, ap length e, length-drop at l)))
+text_read zero l at ps z (piece at' p s qs t u v) e h =
+    let b = piece_some at' p s u in
     absurd (omega (arith, length-append s t, ap length b.2))
-text-read (suc n) l at ps z (piece at' p s qs t u v) e h =
-    let b = piece-some at p s u in
-    rw (nonempty l at b.0 (b.1 ++ t) (e ∙ ap (λ (x : List ℕ). x ++ t) b.2), piece-read l at p s t u e, text-read n l (at + length s) qs t v (onward l at s t e) (omega (arith, length-append s t, ap length b.2)))
+text_read (suc n) l at ps z (piece at' p s qs t u v) e h =
+    let b = piece_some at p s u in
+    rw (nonempty l at b.0 (b.1 ++ t) (e ∙ ap (λ (x : List ℕ). x ++ t) b.2), piece_read l at p s t u e, text_read n l (at + length s) qs t v (onward l at s t e) (omega (arith, length-append s t, ap length b.2)))
 
 -- ---- what is read is spelled
 
@@ -124,31 +124,31 @@ abbrev PlacesFound : List ℕ → ℕ → PlacesRead → Type 0
 PlacesFound l at (PlacesTo p next) = Found (λ z. (y : List ℕ) × PlacesSpelled p y × (z ≡ y ++ (closing ∷ []))) l at next
 PlacesFound l at NoPlaces = Unit {0}
 
-places-sound : (l : List ℕ) (at : ℕ) → PlacesFound l at (places_at l at)
-unfolding places_at digitsAt
-places-sound l at =
+places_sound : (l : List ℕ) (at : ℕ) → PlacesFound l at (places_at l at)
+unfolding places_at digits_at
+places_sound l at =
     let s : List ℕ = span Digit (take 1 (drop (at + 1) l)) in
-    tested (PlacesFound l at) (byteIs l at "}")
+    tested (PlacesFound l at) (byte_is l at "}")
     (λ c. record {
       bytes = closing ∷ [];
       spelled = ([], unsaid, refl);
-      here = byte-stands l at closing (eqb-true (byte_at l at) closing c) (omega arith);
+      here = byte_stands l at closing (eqb-true (byte_at l at) closing c) (omega arith);
       behind = refl;
     })
-    (λ c. tested (PlacesFound l at) (byteIs l at ".")
+    (λ c. tested (PlacesFound l at) (byte_is l at ".")
     (λ d. tested (PlacesFound l at) (eqb (length s) 0) (λ z. tt)
     (λ z. tested (PlacesFound l at) (ltb 6 (value_of s)) (λ v. tt)
-    (λ v. tested (PlacesFound l at) (byteIs l (at + 2) "}")
+    (λ v. tested (PlacesFound l at) (byte_is l (at + 2) "}")
     (λ b.
     let w = row_read l (at + 1) 1 (eqb-false (length s) 0 z) in
     let n : length s ≡ 1 = omega (arith, w.enough, w.few) in
     let k : at + 1 + length s ≡ at + 2 = omega arith in
     let j : at + 2 + 1 ≡ at + 3 = omega arith in
-    let t : drop (at + 1 + length s) l ≡ closing ∷ drop (at + 3) l = ap (λ (i : ℕ). drop i l) k ∙ byte-stands l (at + 2) closing (eqb-true (byte_at l (at + 2)) closing b) (omega arith) ∙ ap (λ (i : ℕ). closing ∷ drop i l) j in
+    let t : drop (at + 1 + length s) l ≡ closing ∷ drop (at + 3) l = ap (λ (i : ℕ). drop i l) k ∙ byte_stands l (at + 2) closing (eqb-true (byte_at l (at + 2)) closing b) (omega arith) ∙ ap (λ (i : ℕ). closing ∷ drop i l) j in
     record {
       bytes = point ∷ (s ++ (closing ∷ []));
       spelled = (point ∷ s, said s w (ltb-false 6 (value_of s) v), refl);
-      here = byte-stands l at point (eqb-true (byte_at l at) point d) (omega arith) ∙ ap (λ (x : List ℕ). point ∷ x) (span-here Digit l (at + 1) 1 ∙ ap (λ (x : List ℕ). s ++ x) t ∙ sym (append_assoc s (closing ∷ []) (drop (at + 3) l)));
+      here = byte_stands l at point (eqb-true (byte_at l at) point d) (omega arith) ∙ ap (λ (x : List ℕ). point ∷ x) (span_here Digit l (at + 1) 1 ∙ ap (λ (x : List ℕ). s ++ x) t ∙ sym (append_assoc s (closing ∷ []) (drop (at + 3) l)));
       behind = omega (arith, length-append s (closing ∷ []));
     })
     (λ b. tt))))
@@ -178,27 +178,27 @@ then_next l at m next f g h =
     }
 
 module _ (l : List ℕ) (at : ℕ) where
-  placed-sound : (a : Argument) (m w k : ℕ) → Found (ArgumentSpelled (at + 1) a) l (at + 1) m → drop m l ≡ comma ∷ drop (m + 1) l → Found (Numbered 32 w) l (m + 1) k → (x : PlacesRead) → PlacesFound l k x → FieldFound l at (places_of a w x)
+  placed_sound : (a : Argument) (m w k : ℕ) → Found (ArgumentSpelled (at + 1) a) l (at + 1) m → drop m l ≡ comma ∷ drop (m + 1) l → Found (Numbered 32 w) l (m + 1) k → (x : PlacesRead) → PlacesFound l k x → FieldFound l at (places_of a w x)
   unfolding places_of
-  placed-sound a m w k f e g (PlacesTo p next) h =
-      then-byte l (at + 1) m next comma f e
+  placed_sound a m w k f e g (PlacesTo p next) h =
+      then_byte l (at + 1) m next comma f e
       (then_next {R = Sized w p} l (m + 1) k next g h (λ x z u v. record { digits = x; rest = v.0; width = u; places = v.1; joined = ap (λ (y : List ℕ). x ++ y) v.2 }))
       (λ s z u v. subst (λ (y : List ℕ). PieceSpelled at (Placed (record { argument = a; width = w; places = p })) (opening ∷ (s ++ (comma ∷ y)))) (sym v.joined) (field a s w v.digits p v.rest u v.width v.places))
-  placed-sound a m w k f e g NoPlaces h = tt
+  placed_sound a m w k f e g NoPlaces h = tt
 
-  width-sound : (a : Argument) (m : ℕ) → Found (ArgumentSpelled (at + 1) a) l (at + 1) m → drop m l ≡ comma ∷ drop (m + 1) l → (x : Numeral) → number_at l (m + 1) 32 ≡ x → FieldFound l at (widthNext l a x)
-  unfolding widthNext
-  width-sound a m f e (Value w next) h = placed-sound a m w next f e (number_spelled l (m + 1) 32 w next h) (places_at l next) (places-sound l next)
-  width-sound a m f e NoNumeral h = tt
+  width_sound : (a : Argument) (m : ℕ) → Found (ArgumentSpelled (at + 1) a) l (at + 1) m → drop m l ≡ comma ∷ drop (m + 1) l → (x : Numeral) → number_at l (m + 1) 32 ≡ x → FieldFound l at (width_next l a x)
+  unfolding width_next
+  width_sound a m f e (Value w next) h = placed_sound a m w next f e (number_spelled l (m + 1) 32 w next h) (places_at l next) (places_sound l next)
+  width_sound a m f e NoNumeral h = tt
 
-  field-sound : FieldFound l at (field_at l (at + 1))
+  field_sound : FieldFound l at (field_at l (at + 1))
   unfolding field_at field_of
-  field-sound = go (argumentAt l (at + 1)) refl
+  field_sound = go (argument_at l (at + 1)) refl
     where
-      go : (x : ArgumentRead) → argumentAt l (at + 1) ≡ x → FieldFound l at (field_of l x)
+      go : (x : ArgumentRead) → argument_at l (at + 1) ≡ x → FieldFound l at (field_of l x)
       go (ArgumentTo a m) h =
-          tested (FieldFound l at) (byteIs l m ",")
-          (λ c. width-sound a m (argument-spelled l (at + 1) a m h) (byte-stands l m comma (eqb-true (byte_at l m) comma c) (omega arith)) (number_at l (m + 1) 32) refl)
+          tested (FieldFound l at) (byte_is l m ",")
+          (λ c. width_sound a m (argument_spelled l (at + 1) a m h) (byte_stands l m comma (eqb-true (byte_at l m) comma c) (omega arith)) (number_at l (m + 1) 32) refl)
           (λ c. tt)
       go NoArgument h = tt
 
@@ -206,24 +206,24 @@ module _ (l : List ℕ) (at : ℕ) where
   PieceFound (PieceTo p next) = Found (PieceSpelled at p) l at next
   PieceFound NoPiece = Unit {0}
 
-  field-piece : drop at l ≡ opening ∷ drop (at + 1) l → (x : FieldRead) → FieldFound l at x → PieceFound (placed x)
+  field_piece : drop at l ≡ opening ∷ drop (at + 1) l → (x : FieldRead) → FieldFound l at x → PieceFound (placed x)
   unfolding placed
-  field-piece e (FieldTo f next) g =
+  field_piece e (FieldTo f next) g =
       record {
         bytes = opening ∷ g.bytes;
         spelled = g.spelled;
         here = e ∙ ap (λ (x : List ℕ). opening ∷ x) g.here;
         behind = omega (arith, g.behind);
       }
-  field-piece e NoField g = tt
+  field_piece e NoField g = tt
 
-  piece-sound : PieceFound (piece_at l at)
+  piece_sound : PieceFound (piece_at l at)
   unfolding piece_at byte_at
-  piece-sound =
+  piece_sound =
       tested PieceFound (leb (length l) at) (λ h. tt) (λ h.
-      tested PieceFound (byteIs l at "{")
-      (λ b. field-piece (byte-stands l at opening (eqb-true (byte_at l at) opening b) (omega arith)) (field_at l (at + 1)) field-sound)
-      (λ b. tested PieceFound (byteIs l at "}") (λ c. tt)
+      tested PieceFound (byte_is l at "{")
+      (λ b. field_piece (byte_stands l at opening (eqb-true (byte_at l at) opening b) (omega arith)) (field_at l (at + 1)) field_sound)
+      (λ b. tested PieceFound (byte_is l at "}") (λ c. tt)
       (λ c. record {
         bytes = byte_at l at ∷ [];
         spelled = plain_byte (byte_at l at) (eqb-false (byte_at l at) opening b) (eqb-false (byte_at l at) closing c);
@@ -231,33 +231,33 @@ module _ (l : List ℕ) (at : ℕ) where
         behind = refl;
       })))
 
-pub piece-spelled : (l : List ℕ) (at : ℕ) (p : Piece) (next : ℕ) → piece_at l at ≡ PieceTo p next → Found (PieceSpelled at p) l at next
-piece-spelled l at p next e = subst (PieceFound l at) e (piece-sound l at)
+pub piece_spelled : (l : List ℕ) (at : ℕ) (p : Piece) (next : ℕ) → piece_at l at ≡ PieceTo p next → Found (PieceSpelled at p) l at next
+piece_spelled l at p next e = subst (PieceFound l at) e (piece_sound l at)
 
 drop_all : (l : List ℕ) (at : ℕ) → length l ≤ at → drop at l ≡ []
 drop_all l at h = drop_of_length-le l h
 
-before-some : (p : Piece) (o : Option (List Piece)) (ps : List Piece) → before p o ≡ some ps → (qs : List Piece) × (o ≡ some qs) × (ps ≡ p ∷ qs)
+before_some : (p : Piece) (o : Option (List Piece)) (ps : List Piece) → before p o ≡ some ps → (qs : List Piece) × (o ≡ some qs) × (ps ≡ p ∷ qs)
 unfolding before
-before-some p (some qs) ps e = (qs, refl, sym (some-injective _ _ e))
-before-some p none ps e = absurd (none-ne-some _ e)
+before_some p (some qs) ps e = (qs, refl, sym (some-injective _ _ e))
+before_some p none ps e = absurd (none-ne-some _ e)
 
-pub text-spelled : (n : ℕ) (l : List ℕ) (at : ℕ) (ps : List Piece) → length (drop at l) ≤ n → piecesWithin n l at ≡ some ps → TextSpelled at ps (drop at l)
-unfolding piecesWithin
-text-spelled zero l at ps h e = subst (λ (x : List Piece). TextSpelled at x (drop at l)) (some-injective _ _ e) (rw (drop_all l at (omega (arith, length-drop at l))) (end-of-text at))
-text-spelled (suc n) l at ps h e = go (leb (length l) at) refl e (text-spelled n l)
+pub text_spelled : (n : ℕ) (l : List ℕ) (at : ℕ) (ps : List Piece) → length (drop at l) ≤ n → pieces_within n l at ≡ some ps → TextSpelled at ps (drop at l)
+unfolding pieces_within
+text_spelled zero l at ps h e = subst (λ (x : List Piece). TextSpelled at x (drop at l)) (some-injective _ _ e) (rw (drop_all l at (omega (arith, length-drop at l))) (end_of_text at))
+text_spelled (suc n) l at ps h e = go (leb (length l) at) refl e (text_spelled n l)
   where
     rest : (at next : ℕ) (p : Piece) (qs : List Piece) → Found (PieceSpelled at p) l at next → TextSpelled next qs (drop next l) → TextSpelled at (p ∷ qs) (drop at l)
     rest at next p qs f t = rw f.here (piece at p f.bytes qs (drop next l) f.spelled (rw (← f.behind) t))
 
-    found : (at : ℕ) (x : PieceRead) → piece_at l at ≡ x → length (drop at l) ≤ suc n → elim x [ PieceTo p next ↦ before p (piecesWithin n l next) | NoPiece ↦ none ] ≡ some ps → ((at : ℕ) (qs : List Piece) → length (drop at l) ≤ n → piecesWithin n l at ≡ some qs → TextSpelled at qs (drop at l)) → TextSpelled at ps (drop at l)
+    found : (at : ℕ) (x : PieceRead) → piece_at l at ≡ x → length (drop at l) ≤ suc n → elim x [ PieceTo p next ↦ before p (pieces_within n l next) | NoPiece ↦ none ] ≡ some ps → ((at : ℕ) (qs : List Piece) → length (drop at l) ≤ n → pieces_within n l at ≡ some qs → TextSpelled at qs (drop at l)) → TextSpelled at ps (drop at l)
     found at (PieceTo p next) k h e more =
-        let f = piece-spelled l at p next k in
-        let b = piece-some at p f.bytes f.spelled in
-        let q = before-some p (piecesWithin n l next) ps e in
+        let f = piece_spelled l at p next k in
+        let b = piece_some at p f.bytes f.spelled in
+        let q = before_some p (pieces_within n l next) ps e in
         rw q.2 (rest at next p q.0 f (more next q.0 (omega (arith, h, ap length f.here, length-append f.bytes (drop next l), ap length b.2)) q.1))
     found at NoPiece k h e more = absurd (none-ne-some _ e)
 
-    go : (t : Bool) → leb (length l) at ≡ t → cond t (some []) (elim (piece_at l at) [ PieceTo p next ↦ before p (piecesWithin n l next) | NoPiece ↦ none ]) ≡ some ps → ((at : ℕ) (qs : List Piece) → length (drop at l) ≤ n → piecesWithin n l at ≡ some qs → TextSpelled at qs (drop at l)) → TextSpelled at ps (drop at l)
-    go true k e more = subst (λ (x : List Piece). TextSpelled at x (drop at l)) (some-injective _ _ e) (rw (drop_all l at (leb-true (length l) at k)) (end-of-text at))
+    go : (t : Bool) → leb (length l) at ≡ t → cond t (some []) (elim (piece_at l at) [ PieceTo p next ↦ before p (pieces_within n l next) | NoPiece ↦ none ]) ≡ some ps → ((at : ℕ) (qs : List Piece) → length (drop at l) ≤ n → pieces_within n l at ≡ some qs → TextSpelled at qs (drop at l)) → TextSpelled at ps (drop at l)
+    go true k e more = subst (λ (x : List Piece). TextSpelled at x (drop at l)) (some-injective _ _ e) (rw (drop_all l at (leb-true (length l) at k)) (end_of_text at))
     go false k e more = found at (piece_at l at) refl h e more

@@ -8,7 +8,7 @@ use Rattle.scan.specs.Line.{byte_at}
 use Rattle.arguments.specs.declared.index.Index.{Index}
 use Rattle.arguments.specs.declared.argument.Argument.{Argument}
 use Rattle.texts.specs.declared.text.Piece.{Piece}
-use Rattle.texts.specs.Width.{totalWidth}
+use Rattle.texts.specs.Width.{total_width}
 use Rattle.lines.specs.declared.command.Operation.{Operation}
 use Rattle.lines.specs.declared.command.Operation.TheVariants.{Assign, Add, Subtract, Multiply, Divide}
 use Rattle.lines.specs.declared.command.Target.{Target}
@@ -28,28 +28,28 @@ abbrev pub space : ℕ
 space = code " "
 
 -- "`$SETE`, `$SETA`, `$SETS`, `$SETM`, `$SETD`", with the space behind the word
-abbrev pub setWord : Operation → List ℕ
-setWord Assign = ascii "$SETE "
-setWord Add = ascii "$SETA "
-setWord Subtract = ascii "$SETS "
-setWord Multiply = ascii "$SETM "
-setWord Divide = ascii "$SETD "
+abbrev pub set_word : Operation → List ℕ
+set_word Assign = ascii "$SETE "
+set_word Add = ascii "$SETA "
+set_word Subtract = ascii "$SETS "
+set_word Multiply = ascii "$SETM "
+set_word Divide = ascii "$SETD "
 
 -- "variable": IVn, FVn, and "SV takes a string; after another word than $SETE it is 3"
 pub data TargetSpelled : Operation → Target → List ℕ → Type 0 where
-  integer-target : (o : Operation) (n : ℕ) (s : List ℕ) → Numbered 99 n s → TargetSpelled o (IntegerTarget n) (ascii "IV" ++ s)
-  decimal-target : (o : Operation) (n : ℕ) (s : List ℕ) → Numbered 99 n s → TargetSpelled o (DecimalTarget n) (ascii "FV" ++ s)
-  string-target : (n : ℕ) (s : List ℕ) → Numbered 99 n s → TargetSpelled Assign (StringTarget n) (ascii "SV" ++ s)
+  integer_target : (o : Operation) (n : ℕ) (s : List ℕ) → Numbered 99 n s → TargetSpelled o (IntegerTarget n) (ascii "IV" ++ s)
+  decimal_target : (o : Operation) (n : ℕ) (s : List ℕ) → Numbered 99 n s → TargetSpelled o (DecimalTarget n) (ascii "FV" ++ s)
+  string_as_target : (n : ℕ) (s : List ℕ) → Numbered 99 n s → TargetSpelled Assign (StringTarget n) (ascii "SV" ++ s)
 
-abbrev pub compareWord : Comparison → List ℕ
-compareWord SameString = ascii "$IFEQSS "
-compareWord SameLetters = ascii "$IFEQSI "
-compareWord Equal = ascii "$IFEQ "
-compareWord NotEqual = ascii "$IFNE "
-compareWord Less = ascii "$IFLT "
-compareWord AtMost = ascii "$IFLE "
-compareWord Greater = ascii "$IFGT "
-compareWord AtLeast = ascii "$IFGE "
+abbrev pub compare_word : Comparison → List ℕ
+compare_word SameString = ascii "$IFEQSS "
+compare_word SameLetters = ascii "$IFEQSI "
+compare_word Equal = ascii "$IFEQ "
+compare_word NotEqual = ascii "$IFNE "
+compare_word Less = ascii "$IFLT "
+compare_word AtMost = ascii "$IFLE "
+compare_word Greater = ascii "$IFGT "
+compare_word AtLeast = ascii "$IFGE "
 
 -- "[k]", "[n]": an argument, or nothing
 pub data OptionalSpelled (at : ℕ) : Optional → List ℕ → Type 0 where
@@ -62,30 +62,30 @@ pub data FetchSpelled : Fetch → List ℕ → Type 0 where
 
 -- "`$PHn text` (n 1–9, `$PH` is `$PH1`; ..)"
 pub data HeadingWord : ℕ → List ℕ → Type 0 where
-  bare-word : HeadingWord 1 (ascii "$PH")
-  numbered-word : (n : ℕ) (s : List ℕ) → Numbered 9 n s → HeadingWord n (ascii "$PH" ++ s)
+  bare_word : HeadingWord 1 (ascii "$PH")
+  numbered_word : (n : ℕ) (s : List ℕ) → Numbered 9 n s → HeadingWord n (ascii "$PH" ++ s)
 
 pub data Spells : Line → List ℕ → Type 0 where
   -- "at most 132 bytes", with fields at their widths
-  text : (ps : List Piece) (l : List ℕ) → (byte_at l 0 ≡ code "$" → ⊥) → TextSpelled 0 ps l → totalWidth ps ≤ 132 → Spells Text l
+  text : (ps : List Piece) (l : List ℕ) → (byte_at l 0 ≡ code "$" → ⊥) → TextSpelled 0 ps l → total_width ps ≤ 132 → Spells Text l
   -- "1–16 of A–Z, 0–9"
-  section-form : (name : List ℕ) → Several InName 1 16 name → Spells (Section 5 (5 + length name)) (ascii "$SEC " ++ name)
-  set : (o : Operation) (t : Target) (x : List ℕ) (a : Argument) (y : List ℕ) → TargetSpelled o t x → ArgumentSpelled (7 + length x) a y → Spells (Set o t a) (setWord o ++ (x ++ (space ∷ y)))
-  if-not : (a : Argument) (s : List ℕ) → ArgumentSpelled 7 a s → Spells (IfNot a) (ascii "$IFNOT " ++ s)
+  section_form : (name : List ℕ) → Several InName 1 16 name → Spells (Section 5 (5 + length name)) (ascii "$SEC " ++ name)
+  set : (o : Operation) (t : Target) (x : List ℕ) (a : Argument) (y : List ℕ) → TargetSpelled o t x → ArgumentSpelled (7 + length x) a y → Spells (Set o t a) (set_word o ++ (x ++ (space ∷ y)))
+  if_not : (a : Argument) (s : List ℕ) → ArgumentSpelled 7 a s → Spells (IfNot a) (ascii "$IFNOT " ++ s)
   if : (a : Argument) (s : List ℕ) → ArgumentSpelled 4 a s → Spells (If a) (ascii "$IF " ++ s)
-  compare : (c : Comparison) (a : Argument) (x : List ℕ) (b : Argument) (y : List ℕ) → ArgumentSpelled (length (compareWord c)) a x → ArgumentSpelled (length (compareWord c) + length x + 1) b y → Spells (Compare c a b) (compareWord c ++ (x ++ (space ∷ y)))
+  compare : (c : Comparison) (a : Argument) (x : List ℕ) (b : Argument) (y : List ℕ) → ArgumentSpelled (length (compare_word c)) a x → ArgumentSpelled (length (compare_word c) + length x + 1) b y → Spells (Compare c a b) (compare_word c ++ (x ++ (space ∷ y)))
   «else» : Spells Else (ascii "$ELSE")
-  end-if : Spells EndIf (ascii "$ENDIF")
-  begin-table : (a : Argument) (s : List ℕ) → ArgumentSpelled 4 a s → Spells (BeginTable a) (ascii "$BT " ++ s)
-  end-table : (k : Optional) (s : List ℕ) → OptionalSpelled 3 k s → Spells (EndTable k) (ascii "$ET" ++ s)
-  records-form : (f : Fetch) (s : List ℕ) → FetchSpelled f s → Spells (Records f) (ascii "$REC " ++ s)
-  entries-form : (f : Fetch) (s : List ℕ) → FetchSpelled f s → Spells (Entries f) (ascii "$TBL " ++ s)
+  end_if : Spells EndIf (ascii "$ENDIF")
+  begin_table : (a : Argument) (s : List ℕ) → ArgumentSpelled 4 a s → Spells (BeginTable a) (ascii "$BT " ++ s)
+  end_table : (k : Optional) (s : List ℕ) → OptionalSpelled 3 k s → Spells (EndTable k) (ascii "$ET" ++ s)
+  records_form : (f : Fetch) (s : List ℕ) → FetchSpelled f s → Spells (Records f) (ascii "$REC " ++ s)
+  entries_form : (f : Fetch) (s : List ℕ) → FetchSpelled f s → Spells (Entries f) (ascii "$TBL " ++ s)
   datasource : (i : Index) (s : List ℕ) → IndexSpelled i s → Spells (Datasource i) (ascii "$SETDS " ++ s)
-  no-form-feed : Spells NoFormFeed (ascii "$NOFF")
-  new-page : (n : Optional) (s : List ℕ) → OptionalSpelled 3 n s → Spells (NewPage n) (ascii "$NP" ++ s)
+  no_form_feed : Spells NoFormFeed (ascii "$NOFF")
+  new_page_line : (n : Optional) (s : List ℕ) → OptionalSpelled 3 n s → Spells (NewPage n) (ascii "$NP" ++ s)
   -- "no space after the word undefines it, a space alone defines a blank"; the width is that of the line, "command word included"
-  heading : (n : ℕ) (w : List ℕ) (ps : List Piece) (s : List ℕ) → HeadingWord n w → TextSpelled (length w + 1) ps s → length w + 1 + totalWidth ps ≤ 132 → Spells (Heading n (length w + 1)) (w ++ (space ∷ s))
-  no-heading : (n : ℕ) (w : List ℕ) → HeadingWord n w → Spells (NoHeading n) w
+  heading : (n : ℕ) (w : List ℕ) (ps : List Piece) (s : List ℕ) → HeadingWord n w → TextSpelled (length w + 1) ps s → length w + 1 + total_width ps ≤ 132 → Spells (Heading n (length w + 1)) (w ++ (space ∷ s))
+  no_heading_line : (n : ℕ) (w : List ℕ) → HeadingWord n w → Spells (NoHeading n) w
   -- "alone or with a space and any text, unread"
   remark : Spells Remark (ascii "$REM")
-  remark-text : (s : List ℕ) → Spells Remark (ascii "$REM " ++ s)
+  remark_text : (s : List ℕ) → Spells Remark (ascii "$REM " ++ s)

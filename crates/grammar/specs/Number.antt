@@ -4,7 +4,7 @@ use Prim.Native.Char.{code}
 use Rattle.numbers.specs.declared.Quantity.{Quantity}
 use Rattle.numbers.specs.declared.Quantity.TheVariants.{Integer, Decimal}
 use Rattle.numbers.specs.Sign.{signed}
-use Rattle.numbers.specs.Range.{integerLimit, decimalLimit}
+use Rattle.numbers.specs.Range.{integer_limit, decimal_limit}
 use Rattle.scan.specs.declared.run.Class.{Class}
 use Rattle.scan.specs.declared.run.Class.TheVariants.{Digit}
 use Rattle.scan.specs.Ascii.{ascii}
@@ -42,17 +42,17 @@ sign true = ascii "-"
 sign false = []
 
 -- the digits before the point and those behind it, in millionths
-abbrev pub millionthsSpelled : List ℕ → List ℕ → ℕ
-millionthsSpelled whole fraction = value_of whole * 1000000 + value_of fraction * 10 ^ (6 - length fraction)
+abbrev pub millionths_spelled : List ℕ → List ℕ → ℕ
+millionths_spelled whole fraction = value_of whole * 1000000 + value_of fraction * 10 ^ (6 - length fraction)
 
 -- "an integer (optional `-`, 1–10 digits); a decimal (the same, a point, 1–6 digits)"; 3: "a number literal exceeds
 -- ±2,000,000,000"
 pub data LiteralSpelled : Quantity → List ℕ → Type 0 where
-  integer-literal : (negative : Bool) (whole : List ℕ) → Several Digit 1 10 whole → value_of whole ≤ integerLimit → LiteralSpelled (Integer (signed negative (value_of whole))) (sign negative ++ whole)
-  decimal-literal : (negative : Bool) (whole fraction : List ℕ) → Several Digit 1 10 whole → Several Digit 1 6 fraction → millionthsSpelled whole fraction ≤ decimalLimit → LiteralSpelled (Decimal (signed negative (millionthsSpelled whole fraction))) (sign negative ++ (whole ++ (point ∷ fraction)))
+  integer_literal : (negative : Bool) (whole : List ℕ) → Several Digit 1 10 whole → value_of whole ≤ integer_limit → LiteralSpelled (Integer (signed negative (value_of whole))) (sign negative ++ whole)
+  decimal_literal : (negative : Bool) (whole fraction : List ℕ) → Several Digit 1 10 whole → Several Digit 1 6 fraction → millionths_spelled whole fraction ≤ decimal_limit → LiteralSpelled (Decimal (signed negative (millionths_spelled whole fraction))) (sign negative ++ (whole ++ (point ∷ fraction)))
 
 -- "An index .. is 1–3 digits, IVn or LOOP"
 pub data IndexSpelled : Index → List ℕ → Type 0 where
-  fixed-index : (s : List ℕ) → Several Digit 1 3 s → IndexSpelled (Fixed (value_of s)) s
-  variable-index : (n : ℕ) (s : List ℕ) → Numbered 99 n s → IndexSpelled (Variable n) (ascii "IV" ++ s)
-  loop-index : IndexSpelled Loop (ascii "LOOP")
+  fixed_index : (s : List ℕ) → Several Digit 1 3 s → IndexSpelled (Fixed (value_of s)) s
+  variable_as_index : (n : ℕ) (s : List ℕ) → Numbered 99 n s → IndexSpelled (Variable n) (ascii "IV" ++ s)
+  loop_index : IndexSpelled Loop (ascii "LOOP")

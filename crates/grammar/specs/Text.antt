@@ -24,5 +24,5 @@ pub data PieceSpelled (at : ℕ) : Piece → List ℕ → Type 0 where
 
 -- the pieces of a text that begins at a place of its line
 pub data TextSpelled : ℕ → List Piece → List ℕ → Type 0 where
-  end-of-text : (at : ℕ) → TextSpelled at [] []
+  end_of_text : (at : ℕ) → TextSpelled at [] []
   piece : (at : ℕ) (p : Piece) (s : List ℕ) (ps : List Piece) (t : List ℕ) → PieceSpelled at p s → TextSpelled (at + length s) ps t → TextSpelled at (p ∷ ps) (s ++ t)

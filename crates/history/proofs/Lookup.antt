@@ -7,24 +7,24 @@ use Prim.Native.Nat.{ℕ, ◌≤◌, ◌<◌}
 use native.Mathlib.Omega.{arith}
 use borrow.Author.Tests.{ltb-true, ltb-false}
 use lib.Dec.{ltb}
-use Rattle.cells.specs.Cell.{Cell, keyNumber}
+use Rattle.cells.specs.Cell.{Cell, key_number}
 use Rattle.cells.specs.Asking.{lookup}
 use Rattle.store.specs.Edit.{lower, higher, with, without}
-use Rattle.history.proofs.Filter.{isBelow, isAbove, lower-filter, higher-filter, lookup_first, lookup-next, lookup-none, lookup-all, lookup-behind, lookup-before}
+use Rattle.history.proofs.Filter.{is_below, is_above, lower_filter, higher_filter, lookup_first, lookup_next, lookup_none, lookup_all, lookup_behind, lookup_before}
 
 -- no key from n on is below n, no key up to n is above it
 module _ (k n : ℕ) (cs : List Cell) where
   not_lower : n ≤ k → lookup k (lower n cs) ≡ none
-  not_lower h = rw (lower-filter n cs) (lookup-none k (isBelow n) (λ c e q. omega (arith, ltb-true (keyNumber c) n e)) cs)
+  not_lower h = rw (lower_filter n cs) (lookup_none k (is_below n) (λ c e q. omega (arith, ltb-true (key_number c) n e)) cs)
 
-  not-higher : k ≤ n → lookup k (higher n cs) ≡ none
-  not-higher h = rw (higher-filter n cs) (lookup-none k (isAbove n) (λ c e q. omega (arith, ltb-true n (keyNumber c) e)) cs)
+  not_higher : k ≤ n → lookup k (higher n cs) ≡ none
+  not_higher h = rw (higher_filter n cs) (lookup_none k (is_above n) (λ c e q. omega (arith, ltb-true n (key_number c) e)) cs)
 
-  in-lower : k < n → lookup k (lower n cs) ≡ lookup k cs
-  in-lower h = rw (lower-filter n cs) (lookup-all k (isBelow n) (λ c e q. omega (arith, ltb-false (keyNumber c) n e)) cs)
+  in_lower : k < n → lookup k (lower n cs) ≡ lookup k cs
+  in_lower h = rw (lower_filter n cs) (lookup_all k (is_below n) (λ c e q. omega (arith, ltb-false (key_number c) n e)) cs)
 
-  in-higher : n < k → lookup k (higher n cs) ≡ lookup k cs
-  in-higher h = rw (higher-filter n cs) (lookup-all k (isAbove n) (λ c e q. omega (arith, ltb-false n (keyNumber c) e)) cs)
+  in_higher : n < k → lookup k (higher n cs) ≡ lookup k cs
+  in_higher h = rw (higher_filter n cs) (lookup_all k (is_above n) (λ c e q. omega (arith, ltb-false n (key_number c) e)) cs)
 
   -- a key other than n is found where it was, with anything between that is not of that key
   parts : (ys : List Cell) → (n ≡ k → ⊥) → lookup k ys ≡ lookup k (higher n cs) → lookup k (lower n cs ++ ys) ≡ lookup k cs
@@ -33,29 +33,29 @@ module _ (k n : ℕ) (cs : List Cell) where
       go : (t : Bool) → ltb k n ≡ t → lookup k (lower n cs ++ ys) ≡ lookup k cs
       go true f =
           let h : k < n = ltb-true _ _ f in
-          lookup-before k ys (lower n cs) (e ∙ not-higher (omega arith)) ∙ in-lower h
+          lookup_before k ys (lower n cs) (e ∙ not_higher (omega arith)) ∙ in_lower h
       go false f =
           let h : n ≤ k = ltb-false _ _ f in
-          lookup-behind k ys (lower n cs) (not_lower h) ∙ e ∙ in-higher (omega arith)
+          lookup_behind k ys (lower n cs) (not_lower h) ∙ e ∙ in_higher (omega arith)
 
 -- "Put adds or replaces the cell of a key": it is found
-pub lookup-with : (c : Cell) (cs : List Cell) → lookup (keyNumber c) (with c cs) ≡ some c
+pub lookup_with : (c : Cell) (cs : List Cell) → lookup (key_number c) (with c cs) ≡ some c
 unfolding with
-lookup-with c cs =
-    lookup-behind (keyNumber c) (c ∷ higher (keyNumber c) cs) (lower (keyNumber c) cs) (not_lower (keyNumber c) (keyNumber c) cs (omega arith)) ∙ lookup_first (keyNumber c) c _ refl
+lookup_with c cs =
+    lookup_behind (key_number c) (c ∷ higher (key_number c) cs) (lower (key_number c) cs) (not_lower (key_number c) (key_number c) cs (omega arith)) ∙ lookup_first (key_number c) c _ refl
 
 -- "Remove takes it out.": it is missing
-pub lookup-without : (n : ℕ) (cs : List Cell) → lookup n (without n cs) ≡ none
+pub lookup_without : (n : ℕ) (cs : List Cell) → lookup n (without n cs) ≡ none
 unfolding without
-lookup-without n cs =
-    lookup-behind n (higher n cs) (lower n cs) (not_lower n n cs (omega arith)) ∙ not-higher n n cs (omega arith)
+lookup_without n cs =
+    lookup_behind n (higher n cs) (lower n cs) (not_lower n n cs (omega arith)) ∙ not_higher n n cs (omega arith)
 
 -- other keys find what they found
-pub lookup-with-other : (k : ℕ) (c : Cell) (cs : List Cell) → (keyNumber c ≡ k → ⊥) → lookup k (with c cs) ≡ lookup k cs
+pub lookup_with_other : (k : ℕ) (c : Cell) (cs : List Cell) → (key_number c ≡ k → ⊥) → lookup k (with c cs) ≡ lookup k cs
 unfolding with
-lookup-with-other k c cs other =
-    parts k (keyNumber c) cs (c ∷ higher (keyNumber c) cs) other (lookup-next k c (higher (keyNumber c) cs) other)
+lookup_with_other k c cs other =
+    parts k (key_number c) cs (c ∷ higher (key_number c) cs) other (lookup_next k c (higher (key_number c) cs) other)
 
-pub lookup-without-other : (k n : ℕ) (cs : List Cell) → (n ≡ k → ⊥) → lookup k (without n cs) ≡ lookup k cs
+pub lookup_without_other : (k n : ℕ) (cs : List Cell) → (n ≡ k → ⊥) → lookup k (without n cs) ≡ lookup k cs
 unfolding without
-lookup-without-other k n cs other = parts k n cs (higher n cs) other refl
+lookup_without_other k n cs other = parts k n cs (higher n cs) other refl

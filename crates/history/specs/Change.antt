@@ -3,8 +3,8 @@ use Rattle.std.specs.Prelude.{Bool, true, false, ◌&&◌, List, ℕ, eqb}
 use Rattle.std.proofs.Math.Option.{Option, none, some}
 use Rattle.meaning.specs.declared.end.Ended.{Ended}
 use Rattle.meaning.specs.declared.end.Ended.TheVariants.{Finished, Halted}
-use Rattle.cells.specs.Cell.{Key, Cell, keyAsNumber, wholeCell, wholeKey}
-use Rattle.store.specs.Edit.{CellEdit, putOn, removeOn, Edit, put_of, removeOf}
+use Rattle.cells.specs.Cell.{Key, Cell, key_as_number, whole_cell, whole_key}
+use Rattle.store.specs.Edit.{CellEdit, put_on, remove_on, Edit, put_of, remove_of}
 use Rattle.history.specs.LentStore.{LentStore}
 
 -- the bytes of a cell, or of a key: any bytes
@@ -13,56 +13,56 @@ pub data Change : Type 0 where
   remove : List ℕ → Change
 
 -- what the edit hands back
-unfoldable pub handedBack : Change → LentStore → Edit
-handedBack (put s) m = put_of m.buffer m.length s
-handedBack (remove s) m = removeOf m.buffer m.length s
+unfoldable pub handed_back : Change → LentStore → Edit
+handed_back (put s) m = put_of m.buffer m.length s
+handed_back (remove s) m = remove_of m.buffer m.length s
 
 -- the store for the next call: "in the same buffer, at the length last handed back"
-abbrev pub handedOn : Edit → LentStore
-handedOn r = record { buffer = r.buffer; length = r.length }
+abbrev pub handed_on : Edit → LentStore
+handed_on r = record { buffer = r.buffer; length = r.length }
 
-abbrev pub afterChange : Change → LentStore → LentStore
-afterChange e m = handedOn (handedBack e m)
+abbrev pub after_change : Change → LentStore → LentStore
+after_change e m = handed_on (handed_back e m)
 
 -- how the edit ended; "0 is success", and an edit with that end is accepted
-abbrev pub editEnd : Change → LentStore → Ended
-editEnd e m = (handedBack e m).end
+abbrev pub edit_end : Change → LentStore → Ended
+edit_end e m = (handed_back e m).end
 
 unfoldable pub succeeded : Ended → Bool
 succeeded Finished = true
 succeeded (Halted h l) = false
 
 abbrev pub accepted : Change → LentStore → Bool
-accepted e m = succeeded (editEnd e m)
+accepted e m = succeeded (edit_end e m)
 
 -- the key that an edit names, none where the bytes are no cell or key
-unfoldable pub keyOfCell : Option Cell → Option Key
-keyOfCell none = none
-keyOfCell (some c) = some c.key
+unfoldable pub key_of_cell : Option Cell → Option Key
+key_of_cell none = none
+key_of_cell (some c) = some c.key
 
-unfoldable pub keyNamed : Change → Option Key
-keyNamed (put s) = keyOfCell (wholeCell s)
-keyNamed (remove s) = wholeKey s
+unfoldable pub key_named : Change → Option Key
+key_named (put s) = key_of_cell (whole_cell s)
+key_named (remove s) = whole_key s
 
 -- keys are compared as numbers
 unfoldable pub is_key : Key → Option Key → Bool
 is_key k none = false
-is_key k (some l) = eqb (keyAsNumber l) (keyAsNumber k)
+is_key k (some l) = eqb (key_as_number l) (key_as_number k)
 
 -- an accepted put or remove of key k
 unfoldable pub touches : Key → Change → LentStore → Bool
-touches k e m = accepted e m && is_key k (keyNamed e)
+touches k e m = accepted e m && is_key k (key_named e)
 
 -- the key is one of the parameter in the datasource that k names
-unfoldable pub ofItsParameter : Key → Option Key → Bool
-ofItsParameter k none = false
-ofItsParameter k (some l) = eqb l.datasource k.datasource && eqb l.parameter k.parameter
+unfoldable pub of_its_parameter : Key → Option Key → Bool
+of_its_parameter k none = false
+of_its_parameter k (some l) = eqb l.datasource k.datasource && eqb l.parameter k.parameter
 
 -- an accepted put or remove of a cell of that parameter
-unfoldable pub touchesParameter : Key → Change → LentStore → Bool
-touchesParameter k e m = accepted e m && ofItsParameter k (keyNamed e)
+unfoldable pub touches_parameter : Key → Change → LentStore → Bool
+touches_parameter k e m = accepted e m && of_its_parameter k (key_named e)
 
 -- the same edit on the cells alone, in a buffer of `size` bytes
 unfoldable pub edited : ℕ → Change → List Cell → CellEdit
-edited size (put s) cs = putOn size (wholeCell s) cs
-edited size (remove s) cs = removeOn (wholeKey s) cs
+edited size (put s) cs = put_on size (whole_cell s) cs
+edited size (remove s) cs = remove_on (whole_key s) cs

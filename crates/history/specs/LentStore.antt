@@ -5,38 +5,38 @@ use Rattle.meaning.specs.Answer.{Answer}
 use Rattle.meaning.specs.Each.{Each}
 use Rattle.meaning.specs.declared.question.Question.{Question}
 use Rattle.cells.specs.Cell.{Key, Cell}
-use Rattle.cells.specs.Store.{cellsHeld, holdsCells}
-use Rattle.cells.specs.Asking.{Reply, askOf}
+use Rattle.cells.specs.Store.{cells_held, holds_cells}
+use Rattle.cells.specs.Asking.{Reply, ask_of}
 
 pub record LentStore : Type 0 where
   pub buffer : List ℕ
   pub length : ℕ
 
 -- the cells that it holds, or none where it is out of form
-abbrev pub cellsHeldBy : LentStore → Option (List Cell)
-cellsHeldBy m = cellsHeld m.buffer m.length
+abbrev pub cells_held_by : LentStore → Option (List Cell)
+cells_held_by m = cells_held m.buffer m.length
 
 -- 1: "The store breaks its form or is longer than its buffer."
-abbrev pub inForm : LentStore → Bool
-inForm m = holdsCells (cellsHeldBy m)
+abbrev pub in_form : LentStore → Bool
+in_form m = holds_cells (cells_held_by m)
 
 -- "Ask answers one question."
-abbrev pub askIn : LentStore → Question → Reply
-askIn m q = askOf m.buffer m.length q
+abbrev pub ask_in : LentStore → Question → Reply
+ask_in m q = ask_of m.buffer m.length q
 
 -- the store as a source of answers
 abbrev pub answer_in : LentStore → Question → Answer
-answer_in m q = (askIn m q).answer
+answer_in m q = (ask_in m q).answer
 
 -- "Kind 1 asks for the cell of a key"
-abbrev pub cellQuestion : Key → Question
-cellQuestion k =
+abbrev pub cell_question : Key → Question
+cell_question k =
     record {
       kind = 1;
       datasource = k.datasource;
       parameter = k.parameter;
-      «record» = k.recordNumber;
-      entry = k.entryNumber;
+      «record» = k.record_number;
+      entry = k.entry_number;
     }
 
 -- "An answer is as before if it is the one the first run got": so for each question of a list

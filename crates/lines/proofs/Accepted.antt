@@ -3,29 +3,29 @@ use mathlib.Core.Path.{◌≡◌, refl, subst}
 use mathlib.Core.Bool.{Bool, true, false, cond}
 use mathlib.Core.List.{List}
 use Prim.Native.Nat.{ℕ}
-use Rattle.scan.specs.Line.{byteIs}
+use Rattle.scan.specs.Line.{byte_is}
 use Rattle.scan.proofs.TestLaws.{picked}
-use Rattle.scan.proofs.WordLaws.{EachForm, all, ◌besides◌, found-form}
+use Rattle.scan.proofs.WordLaws.{EachForm, all, ◌besides◌, found_form}
 use Rattle.arguments.specs.declared.argument.Argument.{Argument}
-use Rattle.arguments.proofs.Parsed.{Between, IndexWithin, ArgumentWithin, small-parameter}
-use Rattle.texts.specs.readers.Text.{textFits}
+use Rattle.arguments.proofs.Parsed.{Between, IndexWithin, ArgumentWithin, small_parameter}
+use Rattle.texts.specs.Readers.Text.{text_fits}
 use Rattle.lines.specs.declared.command.Operation.{Operation}
 use Rattle.lines.specs.declared.command.Comparison.{Comparison}
 use Rattle.lines.specs.declared.command.Optional.{Optional}
 use Rattle.lines.specs.declared.command.Optional.TheVariants.{Given, Absent}
 use Rattle.lines.specs.declared.command.Line.{Line}
 use Rattle.lines.specs.declared.command.Line.TheVariants.{NoForm, Text, Section, Set, IfNot, If, Compare, Else, EndIf, BeginTable, EndTable, Records, Entries, Datasource, NoFormFeed, NewPage, Heading, NoHeading, Remark}
-use Rattle.lines.specs.readers.Set.{set_at}
-use Rattle.lines.specs.readers.Compare.{compareAt}
-use Rattle.lines.specs.readers.Command.{commands, parseLine}
-use Rattle.lines.specs.inner.Sound.{Small, SmallOptional, Sound}
-use Rattle.lines.proofs.Makes.{set-makes, datasource-makes, compare-makes, single-makes, bare-makes, optional-makes, fetch-makes, section-makes, heading-makes, remark-makes}
+use Rattle.lines.specs.Readers.Set.{set_at}
+use Rattle.lines.specs.Readers.Compare.{compare_at}
+use Rattle.lines.specs.Readers.Command.{commands, parse_line}
+use Rattle.lines.specs.Inner.Sound.{Small, SmallOptional, Sound}
+use Rattle.lines.proofs.Makes.{set_makes, datasource_makes, compare_makes, single_makes, bare_makes, optional_makes, fetch_makes, section_makes, heading_makes, remark_makes}
 pub use Rattle.lines.proofs.Makes.{TargetWithin, OptionalWithin, FetchWithin, HeadingWithin}
 
 -- what the form of line l says of its parts: each is within the limits of document 01
 abbrev pub Bounded : List ℕ → Line → Type 0
 Bounded l NoForm = Unit {0}
-Bounded l Text = textFits l 0 ≡ true
+Bounded l Text = text_fits l 0 ≡ true
 Bounded l (Section a e) = Unit {0}
 Bounded l (Set o t a) = TargetWithin t × ArgumentWithin l a
 Bounded l (IfNot a) = ArgumentWithin l a
@@ -40,7 +40,7 @@ Bounded l (Entries f) = FetchWithin f
 Bounded l (Datasource i) = IndexWithin i
 Bounded l NoFormFeed = Unit {0}
 Bounded l (NewPage n) = OptionalWithin l n
-Bounded l (Heading n at) = (textFits l at ≡ true) × HeadingWithin l n at
+Bounded l (Heading n at) = (text_fits l at ≡ true) × HeadingWithin l n at
 Bounded l (NoHeading n) = Between 1 9 n
 Bounded l Remark = Unit {0}
 
@@ -51,11 +51,11 @@ fine : {l : List ℕ} {f : Line} → Bounded l f → Fine l f
 fine h = record { is = h }
 
 small : (l : List ℕ) (a : Argument) → ArgumentWithin l a → Small a
-small l a h = small-parameter l a.operand h.operand
+small l a h = small_parameter l a.operand h.operand
 
-small-optional : (l : List ℕ) (k : Optional) → OptionalWithin l k → SmallOptional k
-small-optional l (Given a) h = small l a h
-small-optional l Absent h = tt
+small_optional : (l : List ℕ) (k : Optional) → OptionalWithin l k → SmallOptional k
+small_optional l (Given a) h = small l a h
+small_optional l Absent h = tt
 
 sound : (l : List ℕ) (f : Line) → Bounded l f → Sound l f
 sound l NoForm h = tt
@@ -68,12 +68,12 @@ sound l (Compare c a b) h = (small l a h.0, small l b h.1)
 sound l Else h = tt
 sound l EndIf h = tt
 sound l (BeginTable a) h = small l a h
-sound l (EndTable k) h = small-optional l k h
+sound l (EndTable k) h = small_optional l k h
 sound l (Records f) h = h.parameter.most
 sound l (Entries f) h = h.parameter.most
 sound l (Datasource i) h = tt
 sound l NoFormFeed h = tt
-sound l (NewPage n) h = small-optional l n h
+sound l (NewPage n) h = small_optional l n h
 sound l (Heading n at) h = (h.0, h.1.inside)
 sound l (NoHeading n) h = tt
 sound l Remark h = tt
@@ -83,15 +83,15 @@ module _ (l : List ℕ) where
   none = fine tt
 
   set : (word : Operation) (at : ℕ) → Fine l (set_at word l at)
-  set word = set-makes (Fine l) none word (λ t a k. fine k)
+  set word = set_makes (Fine l) none word (λ t a k. fine k)
 
-  compare : (word : Comparison) (at : ℕ) → Fine l (compareAt word l at)
-  compare word = compare-makes (Fine l) none word (λ a b j k. fine (j, k))
+  compare : (word : Comparison) (at : ℕ) → Fine l (compare_at word l at)
+  compare word = compare_makes (Fine l) none word (λ a b j k. fine (j, k))
 
-  commands-fine : EachForm (Fine l) l commands
+  commands_fine : EachForm (Fine l) l commands
   unfolding commands
-  commands-fine =
-      datasource-makes (Fine l) none (λ i k. fine k) l
+  commands_fine =
+      datasource_makes (Fine l) none (λ i k. fine k) l
       besides set _
       besides set _
       besides set _
@@ -105,39 +105,39 @@ module _ (l : List ℕ) where
       besides compare _
       besides compare _
       besides compare _
-      besides single-makes (Fine l) none IfNot (λ a k. fine k)
-      besides single-makes (Fine l) none If (λ a k. fine k)
-      besides single-makes (Fine l) none BeginTable (λ a k. fine k)
-      besides bare-makes (Fine l) none Else (fine tt) l
-      besides bare-makes (Fine l) none EndIf (fine tt) l
-      besides bare-makes (Fine l) none NoFormFeed (fine tt) l
-      besides optional-makes (Fine l) none EndTable (λ k h. fine h)
-      besides optional-makes (Fine l) none NewPage (λ k h. fine h)
-      besides fetch-makes (Fine l) none Records (λ f h. fine h) l
-      besides fetch-makes (Fine l) none Entries (λ f h. fine h) l
-      besides section-makes (Fine l) none (λ a e. fine tt) l
-      besides heading-makes (Fine l) none l (λ n at e h. fine (e, h)) (λ n k. fine k)
-      besides remark-makes (Fine l) none (fine tt) l
+      besides single_makes (Fine l) none IfNot (λ a k. fine k)
+      besides single_makes (Fine l) none If (λ a k. fine k)
+      besides single_makes (Fine l) none BeginTable (λ a k. fine k)
+      besides bare_makes (Fine l) none Else (fine tt) l
+      besides bare_makes (Fine l) none EndIf (fine tt) l
+      besides bare_makes (Fine l) none NoFormFeed (fine tt) l
+      besides optional_makes (Fine l) none EndTable (λ k h. fine h)
+      besides optional_makes (Fine l) none NewPage (λ k h. fine h)
+      besides fetch_makes (Fine l) none Records (λ f h. fine h) l
+      besides fetch_makes (Fine l) none Entries (λ f h. fine h) l
+      besides section_makes (Fine l) none (λ a e. fine tt) l
+      besides heading_makes (Fine l) none l (λ n at e h. fine (e, h)) (λ n k. fine k)
+      besides remark_makes (Fine l) none (fine tt) l
       besides all
 
-  parsed-fine : Fine l (parseLine l)
-  unfolding parseLine
-  parsed-fine = picked (Fine l) (byteIs l 0 "$") (found-form (Fine l) NoForm commands l 1 none commands-fine) (go (textFits l 0) refl)
+  parsed_fine : Fine l (parse_line l)
+  unfolding parse_line
+  parsed_fine = picked (Fine l) (byte_is l 0 "$") (found_form (Fine l) NoForm commands l 1 none commands_fine) (go (text_fits l 0) refl)
     where
-      go : (b : Bool) → textFits l 0 ≡ b → Fine l (cond b Text NoForm)
+      go : (b : Bool) → text_fits l 0 ≡ b → Fine l (cond b Text NoForm)
       go true e = fine e
       go false e = fine tt
 
   -- "With fields at width w a line, command word included, has at most 132 bytes"
-  pub text-accepted : parseLine l ≡ Text → textFits l 0 ≡ true
-  text-accepted e = (subst (Fine l) e parsed-fine).is
+  pub text_accepted : parse_line l ≡ Text → text_fits l 0 ≡ true
+  text_accepted e = (subst (Fine l) e parsed_fine).is
 
-  pub heading-accepted : (n at : ℕ) → parseLine l ≡ Heading n at → textFits l at ≡ true
-  heading-accepted n at e = (subst (Fine l) e parsed-fine).is.0
+  pub heading_accepted : (n at : ℕ) → parse_line l ≡ Heading n at → text_fits l at ≡ true
+  heading_accepted n at e = (subst (Fine l) e parsed_fine).is.0
 
   -- Whatever was read of the line lies within its limits.
-  pub parsed-bounded : (f : Line) → parseLine l ≡ f → Bounded l f
-  parsed-bounded f e = (subst (Fine l) e parsed-fine).is
+  pub parsed_bounded : (f : Line) → parse_line l ≡ f → Bounded l f
+  parsed_bounded f e = (subst (Fine l) e parsed_fine).is
 
-  pub parsed-sound : (f : Line) → parseLine l ≡ f → Sound l f
-  parsed-sound f e = sound l f (parsed-bounded f e)
+  pub parsed_sound : (f : Line) → parse_line l ≡ f → Sound l f
+  parsed_sound f e = sound l f (parsed_bounded f e)

@@ -1,4 +1,4 @@
--- No argument and no name starts at a line's end, so that `behindSpace` may stand for the lack of a space.
+-- No argument and no name starts at a line's end, so that `behind_space` may stand for the lack of a space.
 use mathlib.Core.Path.{◌≡◌}
 use mathlib.Core.List.{List}
 use Prim.Native.Nat.{ℕ, ◌≤◌}
@@ -6,18 +6,18 @@ use lib.ListN.{length, drop_of_length-le, get_or-eq_default}
 use Rattle.scan.specs.declared.digits.Numeral.TheVariants.{NoNumeral}
 use Rattle.scan.specs.Run.{span}
 use Rattle.scan.specs.Line.{byte_at}
-use Rattle.scan.specs.readers.Digits.{digitsAt, number_at}
-use Rattle.scan.specs.Words.{begins, standsAt, first_of}
+use Rattle.scan.specs.Readers.Digits.{digits_at, number_at}
+use Rattle.scan.specs.Words.{begins, stands_at, first_of}
 use Rattle.arguments.specs.declared.index.IndexRead.TheVariants.{NoIndex}
 use Rattle.arguments.specs.declared.operand.OperandRead.TheVariants.{NoOperand}
 use Rattle.arguments.specs.declared.argument.ArgumentRead.TheVariants.{NoArgument}
-use Rattle.arguments.specs.readers.Literal.{unsignedAt, literalAt}
-use Rattle.arguments.specs.readers.Index.{index_at}
-use Rattle.arguments.specs.readers.Operand.{names, named_at, numberOr, operand_at}
-use Rattle.arguments.specs.readers.Argument.{argumentOf, argumentAt}
+use Rattle.arguments.specs.Readers.Literal.{unsigned_at, literal_at}
+use Rattle.arguments.specs.Readers.Index.{index_at}
+use Rattle.arguments.specs.Readers.Operand.{names, named_at, number_or, operand_at}
+use Rattle.arguments.specs.Readers.Argument.{argument_of, argument_at}
 use Rattle.lines.specs.declared.command.Line.TheVariants.{NoForm}
-use Rattle.lines.specs.readers.Fetch.{parameterAt}
-use Rattle.lines.specs.readers.Title.{name_at}
+use Rattle.lines.specs.Readers.Fetch.{parameter_at}
+use Rattle.lines.specs.Readers.Title.{name_at}
 
 module _ (l : List ℕ) (at : ℕ) (h : length l ≤ at) where
   no_byte : byte_at l at ≡ 0
@@ -25,24 +25,24 @@ module _ (l : List ℕ) (at : ℕ) (h : length l ≤ at) where
   no_byte = get_or-eq_default l 0 h
 
   pub no_number : (limit : ℕ) → number_at l at limit ≡ NoNumeral
-  unfolding span digitsAt number_at
+  unfolding span digits_at number_at
   no_number limit = rw (no_byte, drop_of_length-le l h)
 
-  pub no-parameter : parameterAt l at ≡ NoNumeral
-  unfolding parameterAt
-  no-parameter = rw no_byte
+  pub no_parameter : parameter_at l at ≡ NoNumeral
+  unfolding parameter_at
+  no_parameter = rw no_byte
 
   pub no_index : index_at l at ≡ NoIndex
-  unfolding span digitsAt begins standsAt index_at
+  unfolding span digits_at begins stands_at index_at
   no_index = rw (drop_of_length-le l h)
 
   pub no_operand : operand_at l at ≡ NoOperand
-  unfolding span digitsAt begins standsAt first_of unsignedAt literalAt names named_at numberOr operand_at
+  unfolding span digits_at begins stands_at first_of unsigned_at literal_at names named_at number_or operand_at
   no_operand = rw (no_byte, drop_of_length-le l h)
 
-  pub no-argument : argumentAt l at ≡ NoArgument
-  unfolding argumentOf argumentAt
-  no-argument = rw no_operand
+  pub no_argument : argument_at l at ≡ NoArgument
+  unfolding argument_of argument_at
+  no_argument = rw no_operand
 
   pub no_name : name_at l at ≡ NoForm
   unfolding span name_at

@@ -1,3 +1,3 @@
-pub mod readers
-pub mod inner
+pub mod Readers
+pub mod Inner
 pub mod Rows

@@ -5,9 +5,9 @@ use Rattle.numbers.specs.declared.Quantity.TheVariants.{Integer, Decimal}
 use Rattle.scan.specs.Ascii.{ascii}
 use Rattle.scan.specs.Run.{belongs, span}
 use Rattle.scan.specs.Line.{byte_at}
-use Rattle.scan.specs.Value.{valueFrom}
-use Rattle.scan.specs.readers.Digits.{digitsAt, number_at}
-use Rattle.scan.specs.Words.{begins, standsAt, first_of}
+use Rattle.scan.specs.Value.{value_from}
+use Rattle.scan.specs.Readers.Digits.{digits_at, number_at}
+use Rattle.scan.specs.Words.{begins, stands_at, first_of}
 use Rattle.arguments.specs.declared.index.Index.TheVariants.{Fixed, Variable, Loop}
 use Rattle.arguments.specs.declared.operand.Operand.{Operand}
 use Rattle.arguments.specs.declared.operand.Operand.TheVariants.{NumberLiteral, IntegerVariable, DecimalVariable, StringVariable, PageNumber, LineNumber, LoopCounter, RecordElement, EntryElement, Parameter, Record, Entry}
@@ -15,26 +15,26 @@ use Rattle.arguments.specs.declared.operand.Operand.TheVariants as operand
 use Rattle.arguments.specs.declared.argument.Argument.{Argument}
 use Rattle.arguments.specs.declared.argument.Filter.{Filter}
 use Rattle.arguments.specs.declared.argument.Filter.TheVariants.{Unfiltered, Absolute, Truncated, UpperCase, Length, RecordCount, EntryCount}
-use Rattle.arguments.specs.readers.Literal.{inMillionths, fractionAt, unsignedAt, literalAt}
-use Rattle.arguments.specs.readers.Index.{variableIndex, index_at}
-use Rattle.arguments.specs.readers.Operand.{stringAt, entry_of, recordOf, cell_of, cell_at, whole_at, numberedOf, numberedAt, names, named_at, numberOr, operand_at}
+use Rattle.arguments.specs.Readers.Literal.{in_millionths, fraction_at, unsigned_at, literal_at}
+use Rattle.arguments.specs.Readers.Index.{variable_index, index_at}
+use Rattle.arguments.specs.Readers.Operand.{string_at, entry_of, record_read_of, cell_of, cell_at, whole_at, numbered_of, numbered_at, names, named_at, number_or, operand_at}
 use Rattle.arguments.specs.Admitted.{count_of, admits}
-use Rattle.arguments.specs.readers.Argument.{filteredAt, filters, argumentOf, argumentAt}
-use Rattle.texts.specs.Width.{width_of, totalWidth}
-use Rattle.texts.specs.readers.Text.{places_at, places_of, widthNext, field_of, field_at, placed, piece_at, before, piecesWithin, textPieces, fitsBehind, textFits}
+use Rattle.arguments.specs.Readers.Argument.{filtered_at, filters, argument_of, argument_at}
+use Rattle.texts.specs.Width.{width_of, total_width}
+use Rattle.texts.specs.Readers.Text.{places_at, places_of, width_next, field_of, field_at, placed, piece_at, before, pieces_within, text_pieces, fits_behind, text_fits}
 use Rattle.lines.specs.declared.command.Operation.TheVariants.{Assign, Add, Subtract, Multiply, Divide}
 use Rattle.lines.specs.declared.command.Target.TheVariants.{IntegerTarget, DecimalTarget, StringTarget}
 use Rattle.lines.specs.declared.command.Comparison.TheVariants.{SameString, SameLetters, Equal, NotEqual, Less, AtMost, Greater, AtLeast}
 use Rattle.lines.specs.declared.command.Optional.TheVariants.{Given, Absent}
 use Rattle.lines.specs.declared.command.Line.{Line}
 use Rattle.lines.specs.declared.command.Line.TheVariants.{NoForm, Text, Section, Set, IfNot, If, Compare, Else, EndIf, BeginTable, EndTable, Records, Entries, Datasource, NoFormFeed, NewPage, Heading, NoHeading, Remark}
-use Rattle.lines.specs.readers.Behind.{behindSpace}
-use Rattle.lines.specs.readers.Set.{stringTarget, target_of, set_at, datasourceAt}
-use Rattle.lines.specs.readers.Compare.{compareAt}
-use Rattle.lines.specs.readers.Simple.{singleAt, bareAt, optionalAt}
-use Rattle.lines.specs.readers.Fetch.{parameterAt, fetchedAt, fetchAt}
-use Rattle.lines.specs.readers.Title.{name_at, sectionAt, headingOf, headingAt, remarkAt}
-use Rattle.lines.specs.readers.Command.{commands, parseLine}
+use Rattle.lines.specs.Readers.Behind.{behind_space}
+use Rattle.lines.specs.Readers.Set.{string_target, target_of, set_at, datasource_at}
+use Rattle.lines.specs.Readers.Compare.{compare_at}
+use Rattle.lines.specs.Readers.Simple.{single_at, bare_at, optional_at}
+use Rattle.lines.specs.Readers.Fetch.{parameter_at, fetched_at, fetch_at}
+use Rattle.lines.specs.Readers.Title.{name_at, section_at, heading_of, heading_at, remark_at}
+use Rattle.lines.specs.Readers.Command.{commands, parse_line}
 
 -- what a line is, and what is expected
 pub record Row : Type 0 where
@@ -43,7 +43,7 @@ pub record Row : Type 0 where
 
 infix 70 ◌is◌
 abbrev ◌is◌ : String → Line → Row
-l is e = record { computed = parseLine (ascii l); expected = e }
+l is e = record { computed = parse_line (ascii l); expected = e }
 
 abbrev plain : Operand → Argument
 plain o = record { operand = o; filter = Unfiltered }
@@ -147,6 +147,6 @@ rows =
     ∷ "$IF P1.1.1|ENTCNT" is NoForm
     ∷ []
 
-pub rows-hold : map (λ (r : Row). r.computed) rows ≡ map (λ (r : Row). r.expected) rows
-unfolding rows belongs span byte_at valueFrom digitsAt number_at begins standsAt first_of inMillionths fractionAt unsignedAt literalAt variableIndex index_at stringAt entry_of recordOf cell_of cell_at whole_at numberedOf numberedAt names named_at numberOr operand_at count_of admits filteredAt filters argumentOf argumentAt places_at places_of widthNext field_of field_at placed piece_at width_of totalWidth before piecesWithin textPieces fitsBehind textFits behindSpace stringTarget target_of set_at datasourceAt compareAt singleAt bareAt optionalAt parameterAt fetchedAt fetchAt name_at sectionAt headingOf headingAt remarkAt commands parseLine
-rows-hold = refl
+pub rows_hold : map (λ (r : Row). r.computed) rows ≡ map (λ (r : Row). r.expected) rows
+unfolding rows belongs span byte_at value_from digits_at number_at begins stands_at first_of in_millionths fraction_at unsigned_at literal_at variable_index index_at string_at entry_of record_read_of cell_of cell_at whole_at numbered_of numbered_at names named_at number_or operand_at count_of admits filtered_at filters argument_of argument_at places_at places_of width_next field_of field_at placed piece_at width_of total_width before pieces_within text_pieces fits_behind text_fits behind_space string_target target_of set_at datasource_at compare_at single_at bare_at optional_at parameter_at fetched_at fetch_at name_at section_at heading_of heading_at remark_at commands parse_line
+rows_hold = refl

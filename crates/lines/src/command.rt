@@ -2,9 +2,9 @@
 ghost use Rattle.std.specs.Prelude.{◌≡◌};
 ghost use Rattle.scan.specs.Words.{first_of};
 ghost use Rattle.lines.specs.declared.command.Line.TheVariants.{NoForm};
-ghost use Rattle.lines.specs.readers.Command.{commands, parseLine};
-ghost use Rattle.lines.specs.inner.Dispatch.{otherAt, commandAt};
-ghost use Rattle.lines.specs.inner.Known.{form_of};
+ghost use Rattle.lines.specs.Readers.Command.{commands, parse_line};
+ghost use Rattle.lines.specs.Inner.Dispatch.{other_at, command_at};
+ghost use Rattle.lines.specs.Inner.Known.{form_of};
 
 use crate::{compare, fetch, set, simple, title, word};
 use arguments::argument::Argument;
@@ -92,7 +92,7 @@ pub enum Line {
 
 // The words 20 to 26 of the table.
 fn other_at(line: &[u8], at: usize, k: usize) -> Line
-    ensures { result ≡ otherAt line.now at k }
+    ensures { result ≡ other_at line.now at k }
 {
     if k < 22 {
         return simple::optional_at(line, at, k);
@@ -111,7 +111,7 @@ fn other_at(line: &[u8], at: usize, k: usize) -> Line
 
 // The command of the table's word k, which ends at a place of the line.
 fn command_at(line: &[u8], at: usize, k: usize) -> Line
-    ensures { result ≡ commandAt line.now at k }
+    ensures { result ≡ command_at line.now at k }
 {
     if k == 0 {
         return set::datasource_at(line, at);
@@ -143,7 +143,7 @@ fn command_in(line: &[u8]) -> Line
 
 // A line's command with its arguments, a text, or that it has no form.
 pub fn parse_line(line: &[u8]) -> Line
-    ensures { result ≡ parseLine line.now }
+    ensures { result ≡ parse_line line.now }
 {
     if bytes::byte(line, 0) == b'$' {
         return command_in(line);

@@ -1,7 +1,7 @@
 // $IFEQSS, $IFEQSI, $IFEQ, $IFNE, $IFLT, $IFLE, $IFGT and $IFGE, the words 6 to 13 of the table.
 ghost use Rattle.std.specs.Prelude.{◌≡◌};
-ghost use Rattle.lines.specs.inner.Dispatch.{comparisonOf};
-ghost use Rattle.lines.specs.readers.Compare.{compareAt};
+ghost use Rattle.lines.specs.Inner.Dispatch.{comparison_of};
+ghost use Rattle.lines.specs.Readers.Compare.{compare_at};
 
 use crate::behind;
 use crate::command::{Comparison, Line};
@@ -9,7 +9,7 @@ use arguments::argument;
 use arguments::argument::ArgumentRead;
 
 fn comparison_of(k: usize) -> Comparison
-    ensures { result ≡ comparisonOf k }
+    ensures { result ≡ comparison_of k }
 {
     if k == 6 {
         return Comparison::SameString;
@@ -36,7 +36,7 @@ fn comparison_of(k: usize) -> Comparison
 }
 
 pub fn compare_at(line: &[u8], at: usize, k: usize) -> Line
-    ensures { result ≡ compareAt (comparisonOf k) line.now at }
+    ensures { result ≡ compare_at (comparison_of k) line.now at }
 {
     let start = behind::behind_space(line, at);
     let ArgumentRead::ArgumentTo(left, next) = argument::argument_at(line, start) else {

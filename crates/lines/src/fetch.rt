@@ -1,7 +1,7 @@
 // $REC and $TBL, the words 22 and 23 of the table: "n Pm record entry count".
 ghost use Rattle.std.specs.Prelude.{◌≡◌};
-ghost use Rattle.lines.specs.inner.Dispatch.{fetchOf};
-ghost use Rattle.lines.specs.readers.Fetch.{parameterAt, fetchedAt, fetchAt};
+ghost use Rattle.lines.specs.Inner.Dispatch.{fetch_of};
+ghost use Rattle.lines.specs.Readers.Fetch.{parameter_at, fetched_at, fetch_at};
 
 use crate::behind;
 use crate::command::{Fetch, Line};
@@ -19,7 +19,7 @@ pub enum FetchRead {
 
 // "Pm", without a filter.
 fn parameter_at(line: &[u8], at: usize) -> Numeral
-    ensures { result ≡ parameterAt line.now at }
+    ensures { result ≡ parameter_at line.now at }
 {
     if bytes::byte(line, at) != b'P' {
         return Numeral::NoNumeral;
@@ -29,7 +29,7 @@ fn parameter_at(line: &[u8], at: usize) -> Numeral
 
 // "record entry count"
 fn fetched_at(line: &[u8], at: usize, number: usize, parameter: usize) -> FetchRead
-    ensures { result ≡ fetchedAt line.now at number parameter }
+    ensures { result ≡ fetched_at line.now at number parameter }
 {
     let start = behind::behind_space(line, at);
     let IndexRead::IndexTo(first, next) = index::index_at(line, start) else {
@@ -56,7 +56,7 @@ fn fetched_at(line: &[u8], at: usize, number: usize, parameter: usize) -> FetchR
 }
 
 pub fn fetch_at(line: &[u8], at: usize, k: usize) -> Line
-    ensures { result ≡ fetchAt (fetchOf k) line.now at }
+    ensures { result ≡ fetch_at (fetch_of k) line.now at }
 {
     let start = behind::behind_space(line, at);
     let Numeral::Value(number, next) = digits::number_at(line, start, 10) else {

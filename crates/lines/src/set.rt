@@ -1,7 +1,7 @@
 // $SETDS, $SETE, $SETA, $SETS, $SETM and $SETD, the words 0 to 5 of the table.
 ghost use Rattle.std.specs.Prelude.{◌≡◌};
-ghost use Rattle.lines.specs.inner.Dispatch.{operationOf};
-ghost use Rattle.lines.specs.readers.Set.{target_of, set_at, datasourceAt};
+ghost use Rattle.lines.specs.Inner.Dispatch.{operation_of};
+ghost use Rattle.lines.specs.Readers.Set.{target_of, set_at, datasource_at};
 
 use crate::behind;
 use crate::command::{Line, Operation, Target};
@@ -17,7 +17,7 @@ pub enum TargetRead {
 }
 
 fn operation_of(k: usize) -> Operation
-    ensures { result ≡ operationOf k }
+    ensures { result ≡ operation_of k }
 {
     if k == 1 {
         return Operation::Assign;
@@ -36,7 +36,7 @@ fn operation_of(k: usize) -> Operation
 
 // What may be set: "SV takes a string; after another word than $SETE it is 3".
 fn target_of(operand: Operand, k: usize) -> TargetRead
-    ensures { result ≡ target_of operand (operationOf k) }
+    ensures { result ≡ target_of operand (operation_of k) }
 {
     match operand {
         Operand::IntegerVariable(n) => TargetRead::TargetIs(Target::IntegerTarget(n)),
@@ -62,7 +62,7 @@ fn target_of(operand: Operand, k: usize) -> TargetRead
 
 // "variable argument"
 pub fn set_at(line: &[u8], at: usize, k: usize) -> Line
-    ensures { result ≡ set_at (operationOf k) line.now at }
+    ensures { result ≡ set_at (operation_of k) line.now at }
 {
     let start = behind::behind_space(line, at);
     let OperandRead::OperandTo(operand, next) = variable::variable_at(line, start) else {
@@ -84,7 +84,7 @@ pub fn set_at(line: &[u8], at: usize, k: usize) -> Line
 
 // "`$SETDS n`", an index.
 pub fn datasource_at(line: &[u8], at: usize) -> Line
-    ensures { result ≡ datasourceAt line.now at }
+    ensures { result ≡ datasource_at line.now at }
 {
     let start = behind::behind_space(line, at);
     let IndexRead::IndexTo(index, end) = index::index_at(line, start) else {

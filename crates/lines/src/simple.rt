@@ -1,7 +1,7 @@
 // Commands of one argument, of none, and of one that may be absent: the words 14 to 21 of the table.
 ghost use Rattle.std.specs.Prelude.{◌≡◌};
-ghost use Rattle.lines.specs.inner.Dispatch.{singleOf, bareOf, optionalOf};
-ghost use Rattle.lines.specs.readers.Simple.{singleAt, bareAt, optionalAt};
+ghost use Rattle.lines.specs.Inner.Dispatch.{single_of, bare_of, optional_of};
+ghost use Rattle.lines.specs.Readers.Simple.{single_at, bare_at, optional_at};
 
 use crate::behind;
 use crate::command::{Line, Optional};
@@ -10,7 +10,7 @@ use arguments::argument::ArgumentRead;
 
 // $IFNOT, $IF, $BT
 pub fn single_at(line: &[u8], at: usize, k: usize) -> Line
-    ensures { result ≡ singleAt (singleOf k) line.now at }
+    ensures { result ≡ single_at (single_of k) line.now at }
 {
     let start = behind::behind_space(line, at);
     let ArgumentRead::ArgumentTo(argument, end) = argument::argument_at(line, start) else {
@@ -30,7 +30,7 @@ pub fn single_at(line: &[u8], at: usize, k: usize) -> Line
 
 // $ELSE, $ENDIF, $NOFF
 pub fn bare_at(line: &[u8], at: usize, k: usize) -> Line
-    ensures { result ≡ bareAt (bareOf k) line.now at }
+    ensures { result ≡ bare_at (bare_of k) line.now at }
 {
     if at < line.len() {
         return Line::NoForm;
@@ -46,7 +46,7 @@ pub fn bare_at(line: &[u8], at: usize, k: usize) -> Line
 
 // $ET, $NP
 fn optional_of(k: usize, argument: Optional) -> Line
-    ensures { result ≡ optionalOf k argument }
+    ensures { result ≡ optional_of k argument }
 {
     if k == 20 {
         return Line::EndTable(argument);
@@ -56,7 +56,7 @@ fn optional_of(k: usize, argument: Optional) -> Line
 
 // "[k]": an argument, or the end of the line.
 pub fn optional_at(line: &[u8], at: usize, k: usize) -> Line
-    ensures { result ≡ optionalAt (optionalOf k) line.now at }
+    ensures { result ≡ optional_at (optional_of k) line.now at }
 {
     if line.len() <= at {
         return optional_of(k, Optional::Absent);

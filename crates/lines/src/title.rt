@@ -1,7 +1,7 @@
 // $SEC, $PH and $REM, the words 24 to 26 of the table: what stands behind them is a name, a text or unread, no argument.
 ghost use Rattle.std.specs.Prelude.{◌≡◌};
-ghost use Rattle.lines.specs.readers.Title.{sectionAt, headingOf, headingAt, remarkAt};
-ghost use Rattle.lines.specs.inner.Known.{known_of, knownHeading};
+ghost use Rattle.lines.specs.Readers.Title.{section_at, heading_of, heading_at, remark_at};
+ghost use Rattle.lines.specs.Inner.Known.{known_of, known_heading};
 
 use crate::behind;
 use crate::command::Line;
@@ -11,7 +11,7 @@ use scan::{bytes, digits, run};
 
 // "name: 1–16 of A–Z, 0–9"
 pub fn section_at(line: &[u8], at: usize) -> Line
-    ensures { result ≡ sectionAt line.now at }
+    ensures { result ≡ section_at line.now at }
 {
     let start = behind::behind_space(line, at);
     let length = run::count(bytes::part(line, start, 16), Class::InName);
@@ -27,7 +27,7 @@ pub fn section_at(line: &[u8], at: usize) -> Line
 
 // A heading behind its word and number: "no space after the word undefines it, a space alone defines a blank".
 fn heading_of(line: &[u8], at: usize, n: usize) -> Line
-    ensures { result ≡ headingOf line.now at n }
+    ensures { result ≡ heading_of line.now at n }
 {
     if line.len() <= at {
         return Line::NoHeading(n);
@@ -43,7 +43,7 @@ fn heading_of(line: &[u8], at: usize, n: usize) -> Line
 
 // "n 1–9, `$PH` is `$PH1`"
 pub fn heading_at(line: &[u8], at: usize) -> Line
-    ensures { result ≡ headingAt line.now at }
+    ensures { result ≡ heading_at line.now at }
 {
     let Numeral::Value(n, next) = digits::number_at(line, at, 9) else {
         return heading_of(line, at, 1);
@@ -62,7 +62,7 @@ fn known_of(line: &[u8], at: usize, n: usize) -> Line
 }
 
 pub fn known_heading(line: &[u8], at: usize) -> Line
-    ensures { result ≡ knownHeading line.now at }
+    ensures { result ≡ known_heading line.now at }
 {
     let Numeral::Value(n, next) = digits::number_at(line, at, 9) else {
         return known_of(line, at, 1);
@@ -72,7 +72,7 @@ pub fn known_heading(line: &[u8], at: usize) -> Line
 
 // "alone or with a space and any text, unread"
 pub fn remark_at(line: &[u8], at: usize) -> Line
-    ensures { result ≡ remarkAt line.now at }
+    ensures { result ≡ remark_at line.now at }
 {
     if line.len() <= at {
         return Line::Remark;

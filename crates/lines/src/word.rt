@@ -1,14 +1,14 @@
 // Which command's word stands behind the `$`: letters of the line tell which words can, and these are compared with it.
 ghost use Rattle.std.specs.Prelude.{◌≡◌};
 ghost use Rattle.scan.specs.Line.{byte_at};
-ghost use Rattle.lines.specs.inner.Dispatch.{commandWord};
+ghost use Rattle.lines.specs.Inner.Dispatch.{command_word};
 
 use scan::words::WordRead;
 use scan::{bytes, words};
 
 // Any of the words. Apart from its callers, since the table is built with each call.
 fn any_word(line: &[u8]) -> WordRead
-    ensures { result ≡ commandWord line.now }
+    ensures { result ≡ command_word line.now }
 {
     let table =
         b"SETDS   SETE    SETA    SETS    SETM    SETD    IFEQSS  IFEQSI  IFEQ    IFNE    IFLT    IFLE    IFGT    IFGE    IFNOT   IF      BT      ELSE    ENDIF   NOFF    ET      NP      REC     TBL     SEC     PH      REM     ";
@@ -18,7 +18,7 @@ fn any_word(line: &[u8]) -> WordRead
 // The words that begin with S.
 fn set_word(line: &[u8]) -> WordRead
     requires { byte_at line.now 1 ≡ 83 }
-    ensures { result ≡ commandWord line.now }
+    ensures { result ≡ command_word line.now }
 {
     let section = words::word_or(line, 1, b"SEC", 24, WordRead::NoWord);
     let fourth = bytes::byte(line, 4);
@@ -39,7 +39,7 @@ fn set_word(line: &[u8]) -> WordRead
 // The words that begin with I.
 fn test_word(line: &[u8]) -> WordRead
     requires { byte_at line.now 1 ≡ 73 }
-    ensures { result ≡ commandWord line.now }
+    ensures { result ≡ command_word line.now }
 {
     let shortest = words::word_or(line, 1, b"IF", 15, WordRead::NoWord);
     let third = bytes::byte(line, 3);
@@ -68,7 +68,7 @@ fn test_word(line: &[u8]) -> WordRead
 
 // The first word of the table of commands that stands behind the `$`.
 pub fn command_word(line: &[u8]) -> WordRead
-    ensures { result ≡ commandWord line.now }
+    ensures { result ≡ command_word line.now }
 {
     let first = bytes::byte(line, 1);
     match first {

@@ -6,14 +6,14 @@ use native.Mathlib.Omega.{arith}
 use lib.ListN.{length, take}
 use lib.Seq.{sets}
 use Rattle.meaning.specs.Tree.{Tree, End, Run, run}
-use Rattle.meaning.specs.inner.Place.{at, Does}
-use Rattle.meaning.proofs.Runs.{asked-fits}
+use Rattle.meaning.specs.Inner.Place.{at, Does}
+use Rattle.meaning.proofs.Runs.{asked_fits}
 use Rattle.meaning.proofs.Doing.{filled}
 
 module _ {Q R E L A : Type 0} {source : Q → R} {t : Tree Q R E L A} {e : End E L A} {text text' : List ℕ} {log log' : List Q} {n n' k p g g' : ℕ} (d : Does source t (at text n log 0 p g) (at text' n' log' k p g') e) where
   -- No more was asked than there were places for.
-  pub asked-most : k ≤ p
-  asked-most = omega (arith, d.did.asked, asked-fits source (p - 0) (length text - n) t)
+  pub asked_most : k ≤ p
+  asked_most = omega (arith, d.did.asked, asked_fits source (p - 0) (length text - n) t)
 
   -- The same run, with its questions behind the `a` questions of a read list of `l` places.
   pub moved : (reads : List Q) (a l : ℕ) → l - a ≡ p → k ≤ length log → Does source t (at text n reads a l g) (at text' n' (sets reads a (take k log')) (a + k) l g') e

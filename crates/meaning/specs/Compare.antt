@@ -26,5 +26,5 @@ abbrev pub Longer : {Q E L A : Type 0} → Run Q E L A → Run Q E L A → Type 
 Longer x y = LongerBy x.end x y
 
 -- A source behind a filter: a question that isn't shown gets a blank answer instead of the source's.
-unfoldable pub behindFilter : {Q R : Type 0} → (Q → Bool) → (Q → R) → (Q → R) → Q → R
-behindFilter shown blank source q = elim (shown q) [ true ↦ source q | false ↦ blank q ]
+unfoldable pub behind_filter : {Q R : Type 0} → (Q → Bool) → (Q → R) → (Q → R) → Q → R
+behind_filter shown blank source q = elim (shown q) [ true ↦ source q | false ↦ blank q ]

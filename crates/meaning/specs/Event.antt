@@ -6,14 +6,14 @@ pub data Event : Type 0 where
   line : List ℕ → Event
   break : List ℕ → Event
 
-abbrev pub eventBytes : Event → List ℕ
-eventBytes (line b) = b
-eventBytes (break b) = b
+abbrev pub event_bytes : Event → List ℕ
+event_bytes (line b) = b
+event_bytes (break b) = b
 
 -- The text is the events' bytes, one behind the other.
 unfoldable pub joined : List Event → List ℕ
 joined [] = []
-joined (v ∷ vs) = eventBytes v ++ joined vs
+joined (v ∷ vs) = event_bytes v ++ joined vs
 
 -- How many breaks there are.
 unfoldable pub breaks : List Event → ℕ
@@ -22,19 +22,19 @@ breaks (line b ∷ vs) = breaks vs
 breaks (break b ∷ vs) = suc (breaks vs)
 
 -- The lines printed "to the next break or the run's end".
-unfoldable pub pageFrom : List Event → List (List ℕ)
-pageFrom [] = []
-pageFrom (line b ∷ vs) = b ∷ pageFrom vs
-pageFrom (break b ∷ vs) = []
+unfoldable pub page_from : List Event → List (List ℕ)
+page_from [] = []
+page_from (line b ∷ vs) = b ∷ page_from vs
+page_from (break b ∷ vs) = []
 
 -- The pages that start at a break.
-unfoldable pub laterPages : List Event → List (List (List ℕ))
-laterPages [] = []
-laterPages (line b ∷ vs) = laterPages vs
-laterPages (break b ∷ vs) = pageFrom vs ∷ laterPages vs
+unfoldable pub later_pages : List Event → List (List (List ℕ))
+later_pages [] = []
+later_pages (line b ∷ vs) = later_pages vs
+later_pages (break b ∷ vs) = page_from vs ∷ later_pages vs
 
 -- "A page's lines, headings included, are those printed from the run's start or a break to the next break or the run's end,
 -- under $NOFF too": each page as the list of its lines.
-unfoldable pub pagesOf : List Event → List (List (List ℕ))
-unfolding laterPages pageFrom
-pagesOf vs = pageFrom vs ∷ laterPages vs
+unfoldable pub pages_of : List Event → List (List (List ℕ))
+unfolding later_pages page_from
+pages_of vs = page_from vs ∷ later_pages vs

@@ -3,7 +3,7 @@ pub mod Event
 pub mod Tree
 pub mod Number
 pub mod Meaning
-pub mod inner
+pub mod Inner
 pub mod Each
 pub mod Compare
 pub mod Rule

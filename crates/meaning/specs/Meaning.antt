@@ -9,6 +9,6 @@ abbrev pub Meaning : Type 0 → Type 0
 Meaning A = Tree Question Answer Refusal ℕ A
 
 -- Questions asked one after another on a line, with their answers in order.
-unfoldable pub asksEach : ℕ → List Question → Meaning (List Answer)
-asksEach line [] = done []
-asksEach line (q ∷ qs) = ask q line (λ a. bind (asksEach line qs) (λ rest. done (a ∷ rest)))
+unfoldable pub asks_each : ℕ → List Question → Meaning (List Answer)
+asks_each line [] = done []
+asks_each line (q ∷ qs) = ask q line (λ a. bind (asks_each line qs) (λ rest. done (a ∷ rest)))

@@ -11,47 +11,47 @@ use Rattle.meaning.specs.declared.end.Ended.{Ended}
 use Rattle.meaning.specs.declared.end.Ended.TheVariants.{Finished, Halted}
 
 -- 9 and 14 stand under overflows.
-abbrev pub refusalNumber : Refusal → ℕ
-refusalNumber BadStore = 1
-refusalNumber BadTemplate = 2
-refusalNumber BadLine = 3
-refusalNumber BadNesting = 4
-refusalNumber RepeatedSection = 5
-refusalNumber NoSection = 6
-refusalNumber TooManyLines = 7
-refusalNumber BadIndex = 8
-refusalNumber MissingArgument = 10
-refusalNumber WrongKind = 11
-refusalNumber ZeroDivisor = 12
-refusalNumber OutOfRange = 13
-refusalNumber BadRequest = 15
-refusalNumber StoreFull = 16
-refusalNumber NoCell = 17
+abbrev pub refusal_number : Refusal → ℕ
+refusal_number BadStore = 1
+refusal_number BadTemplate = 2
+refusal_number BadLine = 3
+refusal_number BadNesting = 4
+refusal_number RepeatedSection = 5
+refusal_number NoSection = 6
+refusal_number TooManyLines = 7
+refusal_number BadIndex = 8
+refusal_number MissingArgument = 10
+refusal_number WrongKind = 11
+refusal_number ZeroDivisor = 12
+refusal_number OutOfRange = 13
+refusal_number BadRequest = 15
+refusal_number StoreFull = 16
+refusal_number NoCell = 17
 
-abbrev pub overflowNumber : Overflow → ℕ
-overflowNumber ReadList = 9
-overflowNumber Output = 14
+abbrev pub overflow_number : Overflow → ℕ
+overflow_number ReadList = 9
+overflow_number Output = 14
 
-abbrev pub causeNumber : Cause Refusal → ℕ
-causeNumber (refused e) = refusalNumber e
-causeNumber (cut o) = overflowNumber o
+abbrev pub cause_number : Cause Refusal → ℕ
+cause_number (refused e) = refusal_number e
+cause_number (cut o) = overflow_number o
 
 -- "0 is success."
 abbrev pub number_of : {L A : Type 0} → End Refusal L A → ℕ
 number_of (finished a) = 0
-number_of (halted c l) = causeNumber c
+number_of (halted c l) = cause_number c
 
 -- The line that an end names; "0 .. give line 0". That 1 and 6 do, and every end of ask, put and remove, is said where these are
--- made: report/specs/Report:reportOf, template/specs/Order:acceptedRun, cells/specs/Asking:refusedWith.
-abbrev pub lineNamed : {A : Type 0} → End Refusal ℕ A → ℕ
-lineNamed (finished a) = 0
-lineNamed (halted c l) = l
+-- made: report/specs/Report:report_of, template/specs/Order:accepted_run, cells/specs/Asking:refused_with.
+abbrev pub line_named : {A : Type 0} → End Refusal ℕ A → ℕ
+line_named (finished a) = 0
+line_named (halted c l) = l
 
-abbrev pub causeOf : Halt → Cause Refusal
-causeOf (Refused e) = refused e
-causeOf (Cut o) = cut o
+abbrev pub cause_of : Halt → Cause Refusal
+cause_of (Refused e) = refused e
+cause_of (Cut o) = cut o
 
 -- How a call of the code ended, with what it yields where the run goes on.
 abbrev pub end_of : {A : Type 0} → A → Ended → End Refusal ℕ A
 end_of a Finished = finished a
-end_of a (Halted h l) = halted (causeOf h) l
+end_of a (Halted h l) = halted (cause_of h) l

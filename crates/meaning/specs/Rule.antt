@@ -10,9 +10,9 @@ pub record Rule (S : Type 0) : Type 1 where
 
 module _ {S : Type 0} (rule : Rule S) where
   -- The state behind a list of events.
-  abbrev pub stateAfter : S → List Event → S
-  stateAfter s [] = s
-  stateAfter s (v ∷ vs) = stateAfter (rule.next s v) vs
+  abbrev pub state_after : S → List Event → S
+  state_after s [] = s
+  state_after s (v ∷ vs) = state_after (rule.next s v) vs
 
   -- Each event of the list is allowed where it stands.
   abbrev pub AllAllowed : S → List Event → Type 0
@@ -32,13 +32,13 @@ AtEnd Φ (finished a) s = Φ a s
 AtEnd Φ (halted c l) s = Unit {0}
 
 -- At most m lines a page: the state is how many lines the page has, and a break starts the next page.
-abbrev pub linesAfter : ℕ → Event → ℕ
-linesAfter c (line b) = suc c
-linesAfter c (break b) = 0
+abbrev pub lines_after : ℕ → Event → ℕ
+lines_after c (line b) = suc c
+lines_after c (break b) = 0
 
 abbrev pub RoomFor : ℕ → ℕ → Event → Type 0
 RoomFor m c (line b) = c < m
 RoomFor m c (break b) = Unit {0}
 
-abbrev pub pageLimit : ℕ → Rule ℕ
-pageLimit m = record { next = linesAfter; allowed = RoomFor m }
+abbrev pub page_limit : ℕ → Rule ℕ
+page_limit m = record { next = lines_after; allowed = RoomFor m }

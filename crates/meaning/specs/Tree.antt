@@ -1,6 +1,6 @@
 -- A run as a tree: what it asks, how it goes on with each answer, what it prints, and how it ends.
 use Rattle.std.specs.Prelude.{true, false, List, [], ◌∷◌, ℕ, zero, suc, ◌-◌, leb, length}
-use Rattle.meaning.specs.Event.{Event, eventBytes, joined}
+use Rattle.meaning.specs.Event.{Event, event_bytes, joined}
 use Rattle.meaning.specs.declared.refusal.Overflow.{Overflow}
 use Rattle.meaning.specs.declared.refusal.Overflow.TheVariants.{ReadList, Output}
 
@@ -57,7 +57,7 @@ run source places room (stop e l) = ended (halted (refused e) l)
 run source zero room (ask q l k) = ended (halted (cut ReadList) l)
 run source (suc places) room (ask q l k) = asking q (run source places room (k (source q)))
 run source places room (print v l t) =
-    elim (leb (length (eventBytes v)) room) [
-      | true ↦ printing v (run source places (room - length (eventBytes v)) t)
+    elim (leb (length (event_bytes v)) room) [
+      | true ↦ printing v (run source places (room - length (event_bytes v)) t)
       | false ↦ ended (halted (cut Output) l)
     ]

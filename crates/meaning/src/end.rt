@@ -1,6 +1,6 @@
 // How a call that asks or prints ended.
 ghost use Rattle.std.specs.Prelude.{◌≡◌};
-ghost use Rattle.meaning.specs.Number.{causeOf, end_of, causeNumber, number_of, lineNamed};
+ghost use Rattle.meaning.specs.Number.{cause_of, end_of, cause_number, number_of, line_named};
 
 use crate::refusal::{Overflow, Refusal};
 
@@ -20,7 +20,7 @@ pub enum Ended {
 
 impl Halt {
     pub fn number(self) -> u8
-        ensures { result ≡ causeNumber (causeOf self) }
+        ensures { result ≡ cause_number (cause_of self) }
     {
         match self {
             Halt::Refused(refusal) => refusal.number(),
@@ -42,7 +42,7 @@ impl Ended {
 
     // The line named; 0 where none is.
     pub fn line(self) -> u32
-        ensures { result ≡ lineNamed (end_of (tt {0}) self) }
+        ensures { result ≡ line_named (end_of (tt {0}) self) }
     {
         match self {
             Ended::Finished => 0,

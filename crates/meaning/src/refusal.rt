@@ -1,6 +1,6 @@
 // What a run can be refused for, or cut off at.
 ghost use Rattle.std.specs.Prelude.{◌≡◌};
-ghost use Rattle.meaning.specs.Number.{refusalNumber, overflowNumber};
+ghost use Rattle.meaning.specs.Number.{refusal_number, overflow_number};
 
 // "Numbers a run can end with", without the two that only a full buffer makes.
 #[derive(Drop)]
@@ -48,7 +48,7 @@ pub enum Overflow {
 
 impl Refusal {
     pub fn number(self) -> u8
-        ensures { result ≡ refusalNumber self }
+        ensures { result ≡ refusal_number self }
     {
         match self {
             Refusal::BadStore => 1,
@@ -72,7 +72,7 @@ impl Refusal {
 
 impl Overflow {
     pub fn number(self) -> u8
-        ensures { result ≡ overflowNumber self }
+        ensures { result ≡ overflow_number self }
     {
         match self {
             Overflow::ReadList => 9,

@@ -1,2 +1,2 @@
 pub mod Nest
-pub mod inner
+pub mod Inner

@@ -9,79 +9,79 @@ use Rattle.nesting.specs.declared.Shape.TheVariants.{Section, Remark, Test, Else
 pub data Mark : Type 0 where
   section : Mark
   test : Mark
-  elsePart : Mark
+  else_part : Mark
   table : Mark
 
 -- "At most 10 are open": a test in its $ELSE part is open too
-unfoldable pub testsOpen : List Mark → ℕ
-testsOpen [] = 0
-testsOpen (section ∷ s) = testsOpen s
-testsOpen (test ∷ s) = suc (testsOpen s)
-testsOpen (elsePart ∷ s) = suc (testsOpen s)
-testsOpen (table ∷ s) = testsOpen s
+unfoldable pub tests_open : List Mark → ℕ
+tests_open [] = 0
+tests_open (section ∷ s) = tests_open s
+tests_open (test ∷ s) = suc (tests_open s)
+tests_open (else_part ∷ s) = suc (tests_open s)
+tests_open (table ∷ s) = tests_open s
 
 -- "At most 5 are open."
-unfoldable pub tablesOpen : List Mark → ℕ
-tablesOpen [] = 0
-tablesOpen (section ∷ s) = tablesOpen s
-tablesOpen (test ∷ s) = tablesOpen s
-tablesOpen (elsePart ∷ s) = tablesOpen s
-tablesOpen (table ∷ s) = suc (tablesOpen s)
+unfoldable pub tables_open : List Mark → ℕ
+tables_open [] = 0
+tables_open (section ∷ s) = tables_open s
+tables_open (test ∷ s) = tables_open s
+tables_open (else_part ∷ s) = tables_open s
+tables_open (table ∷ s) = suc (tables_open s)
 
 -- $SEC: "open at the next $SEC"
-unfoldable pub sectionBegun : List Mark → Option (List Mark)
-sectionBegun [] = some (section ∷ [])
-sectionBegun (section ∷ s) = some (section ∷ [])
-sectionBegun (test ∷ s) = none
-sectionBegun (elsePart ∷ s) = none
-sectionBegun (table ∷ s) = none
+unfoldable pub section_begun : List Mark → Option (List Mark)
+section_begun [] = some (section ∷ [])
+section_begun (section ∷ s) = some (section ∷ [])
+section_begun (test ∷ s) = none
+section_begun (else_part ∷ s) = none
+section_begun (table ∷ s) = none
 
 -- $ELSE: "repeated" in a test's $ELSE part, "crossed" in a table, else "unmatched"
-unfoldable pub testTurned : List Mark → Option (List Mark)
-testTurned [] = none
-testTurned (section ∷ s) = none
-testTurned (test ∷ s) = some (elsePart ∷ s)
-testTurned (elsePart ∷ s) = none
-testTurned (table ∷ s) = none
+unfoldable pub test_turned : List Mark → Option (List Mark)
+test_turned [] = none
+test_turned (section ∷ s) = none
+test_turned (test ∷ s) = some (else_part ∷ s)
+test_turned (else_part ∷ s) = none
+test_turned (table ∷ s) = none
 
 -- $ENDIF: "crossed" in a table, "unmatched"
-unfoldable pub testEnded : List Mark → Option (List Mark)
-testEnded [] = none
-testEnded (section ∷ s) = none
-testEnded (test ∷ s) = some s
-testEnded (elsePart ∷ s) = some s
-testEnded (table ∷ s) = none
+unfoldable pub test_ended : List Mark → Option (List Mark)
+test_ended [] = none
+test_ended (section ∷ s) = none
+test_ended (test ∷ s) = some s
+test_ended (else_part ∷ s) = some s
+test_ended (table ∷ s) = none
 
 -- $ET: "crossed" in a test, "unmatched"
-unfoldable pub tableEnded : List Mark → Option (List Mark)
-tableEnded [] = none
-tableEnded (section ∷ s) = none
-tableEnded (test ∷ s) = none
-tableEnded (elsePart ∷ s) = none
-tableEnded (table ∷ s) = some s
+unfoldable pub table_ended : List Mark → Option (List Mark)
+table_ended [] = none
+table_ended (section ∷ s) = none
+table_ended (test ∷ s) = none
+table_ended (else_part ∷ s) = none
+table_ended (table ∷ s) = some s
 
 -- "a line other than $REM has no $SEC before it"
-unfoldable pub inSection : List Mark → Option (List Mark) → Option (List Mark)
-inSection [] o = none
-inSection (m ∷ s) o = o
+unfoldable pub in_section : List Mark → Option (List Mark) → Option (List Mark)
+in_section [] o = none
+in_section (m ∷ s) o = o
 
 -- what is open behind a line, the innermost first, or none where the line is at fault
 unfoldable pub behind : Shape → List Mark → Option (List Mark)
-behind Section s = sectionBegun s
+behind Section s = section_begun s
 behind Remark s = some s
-behind Test s = inSection s (cond (ltb (testsOpen s) 10) (some (test ∷ s)) none)
-behind Else s = testTurned s
-behind EndTest s = testEnded s
-behind Table s = inSection s (cond (ltb (tablesOpen s) 5) (some (table ∷ s)) none)
-behind EndTable s = tableEnded s
-behind Plain s = inSection s (some s)
+behind Test s = in_section s (cond (ltb (tests_open s) 10) (some (test ∷ s)) none)
+behind Else s = test_turned s
+behind EndTest s = test_ended s
+behind Table s = in_section s (cond (ltb (tables_open s) 5) (some (table ∷ s)) none)
+behind EndTable s = table_ended s
+behind Plain s = in_section s (some s)
 -- no line of the templates that check 4 sees: check 3 comes first (template/specs/Order)
-behind NoForm s = inSection s (some s)
+behind NoForm s = in_section s (some s)
 
 -- "open at .. the last line": nothing but a section is open
-unfoldable pub allClosed : List Mark → Bool
-allClosed [] = true
-allClosed (section ∷ s) = true
-allClosed (test ∷ s) = false
-allClosed (elsePart ∷ s) = false
-allClosed (table ∷ s) = false
+unfoldable pub all_closed : List Mark → Bool
+all_closed [] = true
+all_closed (section ∷ s) = true
+all_closed (test ∷ s) = false
+all_closed (else_part ∷ s) = false
+all_closed (table ∷ s) = false

@@ -4,7 +4,7 @@
 // after_line   what is open behind a line, or that the line is at fault
 // all_closed   whether nothing but a section is open
 ghost use Rattle.nesting.specs.declared.Shape.TheVariants.{Section, Remark, Test, Else, EndTest, Table, EndTable, Plain};
-ghost use Rattle.nesting.specs.inner.Open.{Steps, Ends};
+ghost use Rattle.nesting.specs.Inner.Open.{Steps, Ends};
 
 // What a line is to nesting. Plain lines open and close nothing.
 #[derive(Drop)]

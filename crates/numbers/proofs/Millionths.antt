@@ -3,9 +3,9 @@ use mathlib.Core.Path.{◌≡◌, sym, ap, ◌∙◌}
 use Prim.Native.Nat.{ℕ, ◌+◌, ◌*◌, ◌/◌, ◌%◌, ◌≤◌, ◌<◌}
 use native.Mathlib.Nat.{mul-le-mul, mod-lt, div-add-mod', div-lt_iff_lt-mul, mul-add-div_right}
 use native.Mathlib.Omega.{arith}
-use Rattle.numbers.specs.Range.{decimalLimit}
+use Rattle.numbers.specs.Range.{decimal_limit}
 use Rattle.numbers.specs.Rounding.{rounded}
-use Rattle.numbers.proofs.Rounding.{rounded-half}
+use Rattle.numbers.proofs.Rounding.{rounded_half}
 
 -- ---- products: whole parts and millionths apart
 
@@ -18,7 +18,7 @@ Product a b =
 
 pub product_is : (a b : ℕ) → rounded (a * b) 1000000 ≡ Product a b
 product_is a b =
-    rounded-half (a * b) 1000000
+    rounded_half (a * b) 1000000
     ∙ (λ i. (sym (div-add-mod' a 1000000) i * sym (div-add-mod' b 1000000) i + 500000) / 1000000)
     ∙ columns (a / 1000000) (a % 1000000) (b / 1000000) (b % 1000000)
 
@@ -28,8 +28,8 @@ pub record ProductFits (a b : ℕ) : Type 0 where
   pub lh : a % 1000000 * (b / 1000000) ≤ 1000000 * 2000000000
   pub ll : a % 1000000 * (b % 1000000) ≤ 1000000 * 1000000
 
-pub product-fits : (a b : ℕ) → a ≤ decimalLimit → b ≤ decimalLimit → ProductFits a b
-product-fits a b ha hb = record {
+pub product_fits : (a b : ℕ) → a ≤ decimal_limit → b ≤ decimal_limit → ProductFits a b
+product_fits a b ha hb = record {
   hh = mul-le-mul {n₂ = 2000000000} {m₂ = 2000000000} (omega arith) (omega arith);
   hl = mul-le-mul {n₂ = 2000000000} {m₂ = 1000000} (omega arith) (omega arith);
   lh = mul-le-mul {n₂ = 1000000} {m₂ = 2000000000} (omega arith) (omega arith);
@@ -53,7 +53,7 @@ Quotient a b = a / b * 1000000 + (first a b / b * 1000 + second a b / b) + (seco
 
 pub quotient_is : (a b : ℕ) → 0 < b → rounded (a * 1000000) b ≡ Quotient a b
 quotient_is a b h =
-    rounded-half (a * 1000000) b
+    rounded_half (a * 1000000) b
     ∙ ap (λ (n : ℕ). n / b)
     (steps a b (a / b) (a % b) (first a b / b) (first a b % b) (second a b / b) (second a b % b) (b / 2) (div-add-mod' a b) (div-add-mod' (first a b) b) (div-add-mod' (second a b) b))
     ∙ mul-add-div_right h (a / b * 1000000 + (first a b / b * 1000 + second a b / b)) (second a b % b + b / 2)

@@ -21,19 +21,19 @@ nearest a b h = record {
 }
 
 -- the form that doesn't double
-pub rounded-half : (a b : ℕ) → rounded a b ≡ (a + b / 2) / b
+pub rounded_half : (a b : ℕ) → rounded a b ≡ (a + b / 2) / b
 unfolding rounded
-rounded-half a b = sym (div-div-eq-div-mul (2 * a + b) 2 b) ∙ ap (λ (n : ℕ). n / b) (omega arith)
+rounded_half a b = sym (div-div-eq-div-mul (2 * a + b) 2 b) ∙ ap (λ (n : ℕ). n / b) (omega arith)
 
 -- a multiple of the divisor is divided exactly
-pub rounded-exact : (a b : ℕ) → 0 < b → rounded (a * b) b ≡ a
-rounded-exact a b h =
-    rounded-half (a * b) b ∙ mul-add-div_right h a (b / 2) ∙ rw (div-eq_of_lt {n = b / 2} {m = b} (omega arith)) (omega arith)
+pub rounded_exact : (a b : ℕ) → 0 < b → rounded (a * b) b ≡ a
+rounded_exact a b h =
+    rounded_half (a * b) b ∙ mul-add-div_right h a (b / 2) ∙ rw (div-eq_of_lt {n = b / 2} {m = b} (omega arith)) (omega arith)
 
 -- it is no more than the dividend
-pub rounded-le : (a b : ℕ) → 0 < b → rounded a b ≤ a
+pub rounded_le : (a b : ℕ) → 0 < b → rounded a b ≤ a
 unfolding rounded
-rounded-le a b h =
+rounded_le a b h =
     let m : 1 * a ≤ b * a = mul-le-mul {n₂ = b} {m₂ = a} (omega arith) (omega arith) in
     let l : rounded a b < a + 1 = (div-lt_iff_lt-mul {k = 2 * b} {x = 2 * a + b} {y = a + 1} (omega arith)).1 (omega arith) in
     omega arith
@@ -51,11 +51,11 @@ power_at (suc k) p zero h = sym (mul-one p)
 power_at (suc k) p (suc n) h =
     power_at k (p * 10) n (omega arith) ∙ mul_assoc p 10 (10 ^ n) ∙ ap (λ (x : ℕ). p * x) (sym (pow-succ' 10 n))
 
-pub power-above : (n : ℕ) → 0 < 10 ^ n
-power-above n = pow-le-pow_right {n = 10} (omega arith) {i = 0} {j = n} (omega arith)
+pub power_above : (n : ℕ) → 0 < 10 ^ n
+power_above n = pow-le-pow_right {n = 10} (omega arith) {i = 0} {j = n} (omega arith)
 
 -- 10^6 units of 6 places are 10^d units of d places
-pub power-split : (n d : ℕ) → d ≤ 6 → n * 1000000 ≡ n * 10 ^ d * 10 ^ (6 - d)
-power-split n d h =
+pub power_split : (n d : ℕ) → d ≤ 6 → n * 1000000 ≡ n * 10 ^ d * 10 ^ (6 - d)
+power_split n d h =
     let e : d + (6 - d) ≡ 6 = omega arith in
     ap (λ (k : ℕ). n * 10 ^ k) (sym e) ∙ ap (λ (p : ℕ). n * p) (pow-add 10 d (6 - d)) ∙ sym (mul_assoc n (10 ^ d) (10 ^ (6 - d)))

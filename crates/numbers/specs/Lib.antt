@@ -6,5 +6,5 @@ pub mod Arithmetic
 pub mod Parts
 pub mod Order
 pub mod Places
-pub mod inner
+pub mod Inner
 pub mod Rows

@@ -3,10 +3,10 @@ use Rattle.std.specs.Prelude.{ℕ, ◌-◌, ◌^◌, cond, ◌&&◌, leb, nat_ab
 use Rattle.numbers.specs.declared.Quantity.{Quantity}
 use Rattle.numbers.specs.declared.Rounded.{Rounded}
 use Rattle.numbers.specs.declared.Rounded.TheVariants.{Units, OutOfRange}
-use Rattle.numbers.specs.Range.{decimalLimit, within, millionths}
+use Rattle.numbers.specs.Range.{decimal_limit, within, millionths}
 use Rattle.numbers.specs.Rounding.{rounded}
 
 -- "rounded to d places, halves away from zero", with d 0–6: the magnitude in units of 10^-d
-unfoldable pub roundedTo : Quantity → ℕ → Rounded
-roundedTo q d =
-    cond (leb d 6 && within decimalLimit (millionths q)) (Units (rounded (nat_abs (millionths q)) (10 ^ (6 - d)))) OutOfRange
+unfoldable pub rounded_to : Quantity → ℕ → Rounded
+rounded_to q d =
+    cond (leb d 6 && within decimal_limit (millionths q)) (Units (rounded (nat_abs (millionths q)) (10 ^ (6 - d)))) OutOfRange

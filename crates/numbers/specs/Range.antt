@@ -4,11 +4,11 @@ use Rattle.numbers.specs.declared.Quantity.{Quantity}
 use Rattle.numbers.specs.declared.Quantity.TheVariants.{Integer, Decimal}
 
 -- "Values lie within ±2,000,000,000, so within ±2×10^15 millionths"
-abbrev pub integerLimit : ℕ
-integerLimit = 2000000000
+abbrev pub integer_limit : ℕ
+integer_limit = 2000000000
 
-abbrev pub decimalLimit : ℕ
-decimalLimit = 2000000000000000
+abbrev pub decimal_limit : ℕ
+decimal_limit = 2000000000000000
 
 unfoldable pub within : ℕ → ℤ → Bool
 within limit z = leb (nat_abs z) limit

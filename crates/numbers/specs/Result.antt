@@ -6,15 +6,15 @@ use Rattle.numbers.specs.declared.Number.TheVariants.{Computed, ZeroDivisor, Out
 -- success with a value, or a refusal with its number
 pub data Result : Type 0 where
   success : ℤ → Result
-  noResult : ℕ → Result
+  no_result : ℕ → Result
 
 -- "12. The divisor is zero. 13. A result is out of range"
-abbrev pub resultIn : Number → Result
-resultIn (Computed z) = success z
-resultIn ZeroDivisor = noResult 12
-resultIn OutOfRange = noResult 13
+abbrev pub result_in : Number → Result
+result_in (Computed z) = success z
+result_in ZeroDivisor = no_result 12
+result_in OutOfRange = no_result 13
 
 -- "0 is success"
-abbrev pub resultNumber : Result → ℕ
-resultNumber (success z) = 0
-resultNumber (noResult n) = n
+abbrev pub result_number : Result → ℕ
+result_number (success z) = 0
+result_number (no_result n) = n

@@ -2,10 +2,10 @@
 -- report/specs/Rows, as whole templates.
 use Rattle.std.specs.Prelude.{◌≡◌, refl, List, [], ◌∷◌, map, ℕ, ℤ, pos, neg_ℤ}
 use Rattle.numbers.specs.Sign.{opposed}
-use Rattle.numbers.specs.Range.{integerLimit, decimalLimit, within}
-use Rattle.numbers.specs.Result.{Result, success, noResult}
+use Rattle.numbers.specs.Range.{integer_limit, decimal_limit, within}
+use Rattle.numbers.specs.Result.{Result, success, no_result}
 use Rattle.numbers.specs.Rounding.{rounded}
-use Rattle.numbers.specs.Arithmetic.{checked, operands, divided_by, sum_of, differenceOf, integerProduct, integerQuotient, decimalProduct, decimalQuotient, absoluteOf, inMillionths}
+use Rattle.numbers.specs.Arithmetic.{checked, operands, divided_by, sum_of, difference_of, integer_product, integer_quotient, decimal_product, decimal_quotient, absolute_of, in_millionths}
 
 -- what a definition computes, and what is expected
 pub record Row : Type 0 where
@@ -22,37 +22,37 @@ negated n = neg_ℤ (pos n)
 unfoldable pub rows : List Row
 rows =
     -- −0.000001 × 0.5
-    decimalProduct (negated 1) (pos 500000) gives success (negated 1)
+    decimal_product (negated 1) (pos 500000) gives success (negated 1)
     -- just below a half
-    ∷ decimalProduct (pos 1) (pos 499999) gives success (pos 0)
+    ∷ decimal_product (pos 1) (pos 499999) gives success (pos 0)
     -- 2 ÷ −3
-    ∷ decimalQuotient (pos 2000000) (negated 3000000) gives success (negated 666667)
+    ∷ decimal_quotient (pos 2000000) (negated 3000000) gives success (negated 666667)
     -- IV 7 ÷ −2
-    ∷ integerQuotient (pos 7) (negated 2) gives success (negated 3)
+    ∷ integer_quotient (pos 7) (negated 2) gives success (negated 3)
     -- 2,000,000,000 × 2 in both kinds
-    ∷ integerProduct (negated 2000000000) (pos 2) gives noResult 13
-    ∷ decimalProduct (pos 2000000000000000) (pos 2000000) gives noResult 13
+    ∷ integer_product (negated 2000000000) (pos 2) gives no_result 13
+    ∷ decimal_product (pos 2000000000000000) (pos 2000000) gives no_result 13
     -- a millionth divided by 2 and by −2 is a half, away from zero
-    ∷ decimalQuotient (pos 1) (pos 2000000) gives success (pos 1)
-    ∷ decimalQuotient (pos 1) (negated 2000000) gives success (negated 1)
+    ∷ decimal_quotient (pos 1) (pos 2000000) gives success (pos 1)
+    ∷ decimal_quotient (pos 1) (negated 2000000) gives success (negated 1)
     -- the ends of the range
-    ∷ integerQuotient (negated 2000000000) (negated 1) gives success (pos 2000000000)
-    ∷ decimalProduct (pos 2000000000000000) (pos 1000000) gives success (pos 2000000000000000)
-    ∷ decimalProduct (pos 2000000000000000) (pos 1000001) gives noResult 13
+    ∷ integer_quotient (negated 2000000000) (negated 1) gives success (pos 2000000000)
+    ∷ decimal_product (pos 2000000000000000) (pos 1000000) gives success (pos 2000000000000000)
+    ∷ decimal_product (pos 2000000000000000) (pos 1000001) gives no_result 13
     -- 1,999,998,000.002 × 1.000001 is past the limit only before it is rounded
-    ∷ decimalProduct (pos 1999998000002000) (pos 1000001) gives success (pos 2000000000000000)
+    ∷ decimal_product (pos 1999998000002000) (pos 1000001) gives success (pos 2000000000000000)
     -- sums, differences and the rest, at the ends
-    ∷ sum_of integerLimit (negated 2000000000) (pos 1) gives success (negated 1999999999)
-    ∷ sum_of integerLimit (pos 2000000000) (pos 1) gives noResult 13
-    ∷ differenceOf decimalLimit (negated 2000000000000000) (pos 1) gives noResult 13
-    ∷ absoluteOf integerLimit (negated 2000000000) gives success (pos 2000000000)
-    ∷ inMillionths (negated 2000000000) gives success (negated 2000000000000000)
+    ∷ sum_of integer_limit (negated 2000000000) (pos 1) gives success (negated 1999999999)
+    ∷ sum_of integer_limit (pos 2000000000) (pos 1) gives no_result 13
+    ∷ difference_of decimal_limit (negated 2000000000000000) (pos 1) gives no_result 13
+    ∷ absolute_of integer_limit (negated 2000000000) gives success (pos 2000000000)
+    ∷ in_millionths (negated 2000000000) gives success (negated 2000000000000000)
     -- zero divisors, in both kinds, and after an operand that is out of range
-    ∷ integerQuotient (pos 1) (pos 0) gives noResult 12
-    ∷ decimalQuotient (pos 0) (pos 0) gives noResult 12
-    ∷ integerQuotient (pos 2000000001) (pos 0) gives noResult 13
+    ∷ integer_quotient (pos 1) (pos 0) gives no_result 12
+    ∷ decimal_quotient (pos 0) (pos 0) gives no_result 12
+    ∷ integer_quotient (pos 2000000001) (pos 0) gives no_result 13
     ∷ []
 
-pub rows-hold : map (λ (r : Row). r.computed) rows ≡ map (λ (r : Row). r.expected) rows
-unfolding rows opposed within rounded checked operands divided_by sum_of differenceOf integerProduct integerQuotient decimalProduct decimalQuotient absoluteOf inMillionths
-rows-hold = refl
+pub rows_hold : map (λ (r : Row). r.computed) rows ≡ map (λ (r : Row). r.expected) rows
+unfolding rows opposed within rounded checked operands divided_by sum_of difference_of integer_product integer_quotient decimal_product decimal_quotient absolute_of in_millionths
+rows_hold = refl

@@ -2,9 +2,9 @@
 ghost use Rattle.std.specs.Prelude.{◌≡◌, ◌≤◌, ◌<◌, ◌*◌};
 ghost use Rattle.numbers.specs.Sign.{signed};
 ghost use Rattle.numbers.specs.Rounding.{rounded};
-ghost use Rattle.numbers.specs.Range.{decimalLimit};
-ghost use Rattle.numbers.specs.Result.{resultIn};
-ghost use Rattle.numbers.specs.Arithmetic.{checked, sum_of, differenceOf, absoluteOf, decimalProduct, decimalQuotient};
+ghost use Rattle.numbers.specs.Range.{decimal_limit};
+ghost use Rattle.numbers.specs.Result.{result_in};
+ghost use Rattle.numbers.specs.Arithmetic.{checked, sum_of, difference_of, absolute_of, decimal_product, decimal_quotient};
 
 use crate::range::DECIMAL_LIMIT;
 use crate::{Number, range, sign};
@@ -12,13 +12,13 @@ use crate::{Number, range, sign};
 const SCALE: u64 = 1_000_000;
 
 pub fn add(a: i64, b: i64) -> Number
-    ensures { resultIn result ≡ sum_of decimalLimit a b }
+    ensures { result_in result ≡ sum_of decimal_limit a b }
 {
     range::sum(DECIMAL_LIMIT, a, b)
 }
 
 pub fn subtract(a: i64, b: i64) -> Number
-    ensures { resultIn result ≡ differenceOf decimalLimit a b }
+    ensures { result_in result ≡ difference_of decimal_limit a b }
 {
     range::difference(DECIMAL_LIMIT, a, b)
 }
@@ -26,8 +26,8 @@ pub fn subtract(a: i64, b: i64) -> Number
 // The rounded product of two magnitudes, with a sign. A product of the whole parts past the limit
 // is past it after rounding too; any other fits 64 bits.
 fn product(negative: bool, a: u64, b: u64) -> Number
-    requires { (a ≤ decimalLimit) × (b ≤ decimalLimit) }
-    ensures { resultIn result ≡ checked decimalLimit (signed negative (rounded (a * b) 1000000)) }
+    requires { (a ≤ decimal_limit) × (b ≤ decimal_limit) }
+    ensures { result_in result ≡ checked decimal_limit (signed negative (rounded (a * b) 1000000)) }
 {
     let ah = a / SCALE;
     let al = a % SCALE;
@@ -47,8 +47,8 @@ fn product(negative: bool, a: u64, b: u64) -> Number
 // The rounded quotient of two magnitudes, with a sign: three digits of millionths at a time, so that
 // no dividend passes 64 bits.
 fn quotient(negative: bool, a: u64, b: u64) -> Number
-    requires { (a ≤ decimalLimit) × ((b ≤ decimalLimit) × (0 < b)) }
-    ensures { resultIn result ≡ checked decimalLimit (signed negative (rounded (a * 1000000) b)) }
+    requires { (a ≤ decimal_limit) × ((b ≤ decimal_limit) × (0 < b)) }
+    ensures { result_in result ≡ checked decimal_limit (signed negative (rounded (a * 1000000) b)) }
 {
     let whole = a / b;
     let first = a % b * 1000;
@@ -65,7 +65,7 @@ fn quotient(negative: bool, a: u64, b: u64) -> Number
 }
 
 pub fn multiply(a: i64, b: i64) -> Number
-    ensures { resultIn result ≡ decimalProduct a b }
+    ensures { result_in result ≡ decimal_product a b }
 {
     if !range::both_in_range(DECIMAL_LIMIT, a, b) {
         return Number::OutOfRange;
@@ -74,7 +74,7 @@ pub fn multiply(a: i64, b: i64) -> Number
 }
 
 pub fn divide(a: i64, b: i64) -> Number
-    ensures { resultIn result ≡ decimalQuotient a b }
+    ensures { result_in result ≡ decimal_quotient a b }
 {
     if !range::both_in_range(DECIMAL_LIMIT, a, b) {
         return Number::OutOfRange;
@@ -87,7 +87,7 @@ pub fn divide(a: i64, b: i64) -> Number
 }
 
 pub fn absolute(m: i64) -> Number
-    ensures { resultIn result ≡ absoluteOf decimalLimit m }
+    ensures { result_in result ≡ absolute_of decimal_limit m }
 {
     range::absolute(DECIMAL_LIMIT, m)
 }

@@ -1,13 +1,13 @@
 // "two numbers, by value": by their whole parts and, where those are equal, by the millionths left.
 // Nothing is multiplied, so the order is exact for all numbers.
 ghost use Rattle.std.specs.Prelude.{◌≡◌};
-ghost use Rattle.numbers.specs.Order.{lessThan, at_most, equalTo, is_zero};
+ghost use Rattle.numbers.specs.Order.{less_than, at_most, equal_to, is_zero};
 
 use crate::Quantity;
 use crate::parts::{rest, whole};
 
 pub fn less(p: Quantity, q: Quantity) -> bool
-    ensures { result ≡ lessThan p q }
+    ensures { result ≡ less_than p q }
 {
     let a = whole(p);
     let b = whole(q);
@@ -24,7 +24,7 @@ pub fn at_most(p: Quantity, q: Quantity) -> bool
 }
 
 pub fn equal(p: Quantity, q: Quantity) -> bool
-    ensures { result ≡ equalTo p q }
+    ensures { result ≡ equal_to p q }
 {
     if less(p, q) {
         return false;

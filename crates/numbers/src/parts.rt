@@ -1,7 +1,7 @@
 // A quantity's whole part and what it leaves.
 ghost use Rattle.std.specs.Prelude.{◌≡◌};
 ghost use Rattle.numbers.specs.Parts.{whole_of};
-ghost use Rattle.numbers.specs.inner.Parts.{rest_of};
+ghost use Rattle.numbers.specs.Inner.Parts.{rest_of};
 
 use crate::Quantity;
 

@@ -1,7 +1,7 @@
 // "rounded to d places, halves away from zero"
 ghost use Rattle.std.specs.Prelude.{◌≡◌, ◌<◌, ◌^◌};
-ghost use Rattle.numbers.specs.Places.{roundedTo};
-ghost use Rattle.numbers.specs.inner.Places.{scale_of};
+ghost use Rattle.numbers.specs.Places.{rounded_to};
+ghost use Rattle.numbers.specs.Inner.Places.{scale_of};
 
 use crate::range::{DECIMAL_LIMIT, INTEGER_LIMIT};
 use crate::{Quantity, Rounded, sign};
@@ -27,7 +27,7 @@ pub fn scale(places: usize) -> u64
 
 // The magnitude of a quantity in millionths, which are units of 6 places.
 fn millionths(q: Quantity) -> Rounded
-    ensures { result ≡ roundedTo q 6 }
+    ensures { result ≡ rounded_to q 6 }
 {
     match q {
         Quantity::Integer(n) => {
@@ -49,7 +49,7 @@ fn millionths(q: Quantity) -> Rounded
 
 // The magnitude of a quantity, rounded, in units of the last of some places.
 pub fn rounded(q: Quantity, places: usize) -> Rounded
-    ensures { result ≡ roundedTo q places }
+    ensures { result ≡ rounded_to q places }
 {
     if places > 6 {
         return Rounded::OutOfRange;

@@ -1,9 +1,9 @@
 // "A result is out of range": sums and differences of both kinds, which have only their limit to tell them apart.
 ghost use Rattle.std.specs.Prelude.{◌≡◌, ◌&&◌, ◌≤◌};
 ghost use Rattle.numbers.specs.Sign.{signed};
-ghost use Rattle.numbers.specs.Range.{within, decimalLimit};
-ghost use Rattle.numbers.specs.Result.{resultIn};
-ghost use Rattle.numbers.specs.Arithmetic.{checked, sum_of, differenceOf, absoluteOf};
+ghost use Rattle.numbers.specs.Range.{within, decimal_limit};
+ghost use Rattle.numbers.specs.Result.{result_in};
+ghost use Rattle.numbers.specs.Arithmetic.{checked, sum_of, difference_of, absolute_of};
 
 use crate::{Number, sign};
 
@@ -29,7 +29,7 @@ pub fn both_in_range(limit: u64, a: i64, b: i64) -> bool
 
 // A result, where it is in range.
 pub fn check(limit: u64, z: i64) -> Number
-    ensures { resultIn result ≡ checked limit z }
+    ensures { result_in result ≡ checked limit z }
 {
     if in_range(limit, z) {
         Number::Computed(z)
@@ -40,8 +40,8 @@ pub fn check(limit: u64, z: i64) -> Number
 
 // The same of a result that is given by its sign and magnitude.
 pub fn check_signed(limit: u64, negative: bool, m: u64) -> Number
-    requires { limit ≤ decimalLimit }
-    ensures { resultIn result ≡ checked limit (signed negative m) }
+    requires { limit ≤ decimal_limit }
+    ensures { result_in result ≡ checked limit (signed negative m) }
 {
     if m > limit {
         return Number::OutOfRange;
@@ -55,8 +55,8 @@ pub fn check_signed(limit: u64, negative: bool, m: u64) -> Number
 }
 
 pub fn sum(limit: u64, a: i64, b: i64) -> Number
-    requires { limit ≤ decimalLimit }
-    ensures { resultIn result ≡ sum_of limit a b }
+    requires { limit ≤ decimal_limit }
+    ensures { result_in result ≡ sum_of limit a b }
 {
     if !both_in_range(limit, a, b) {
         return Number::OutOfRange;
@@ -65,8 +65,8 @@ pub fn sum(limit: u64, a: i64, b: i64) -> Number
 }
 
 pub fn difference(limit: u64, a: i64, b: i64) -> Number
-    requires { limit ≤ decimalLimit }
-    ensures { resultIn result ≡ differenceOf limit a b }
+    requires { limit ≤ decimal_limit }
+    ensures { result_in result ≡ difference_of limit a b }
 {
     if !both_in_range(limit, a, b) {
         return Number::OutOfRange;
@@ -75,8 +75,8 @@ pub fn difference(limit: u64, a: i64, b: i64) -> Number
 }
 
 pub fn absolute(limit: u64, z: i64) -> Number
-    requires { limit ≤ decimalLimit }
-    ensures { resultIn result ≡ absoluteOf limit z }
+    requires { limit ≤ decimal_limit }
+    ensures { result_in result ≡ absolute_of limit z }
 {
     check_signed(limit, false, sign::magnitude(z))
 }

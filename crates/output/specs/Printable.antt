@@ -15,7 +15,7 @@ Clean s = Each Printable s
 -- "Each printed line ends with 0x0A": its last byte, and no other
 pub record OneLine (b : List ℕ) : Type 0 where
   pub text : List ℕ
-  pub line-end : b ≡ text ++ (10 ∷ [])
+  pub a_line_end : b ≡ text ++ (10 ∷ [])
   pub clean : Clean text
 
 -- "A break writes 0x0C (nothing under $NOFF)"

@@ -9,28 +9,28 @@ use lib.Dec.{ltb}
 use lib.ListN.{length}
 use Rattle.meaning.specs.Event.{line}
 use Rattle.meaning.specs.Tree.{done, bind}
-use Rattle.meaning.specs.Rule.{Keeps, pageLimit}
-use Rattle.meaning.proofs.Keeping.{keeps-bind}
+use Rattle.meaning.specs.Rule.{Keeps, page_limit}
+use Rattle.meaning.proofs.Keeping.{keeps_bind}
 use Rattle.values.specs.Machine.{Machine}
-use Rattle.values.proofs.Giving.{Anything, gives-keeps}
+use Rattle.values.proofs.Giving.{Anything, gives_keeps}
 use Rattle.pages.specs.declared.page.Page.{Page}
 use Rattle.pages.specs.declared.heading.Heading.{Heading}
 use Rattle.texts.specs.Pieces.{pieces_of}
-use Rattle.pages.specs.Text.{fieldValues, rendered, anyWrong, printedUnlessWrong, textMeaning}
-use Rattle.pages.specs.Page.{advancedOf, on, sayMeaning, breakMeaning, turnMeaning, topMeaning, lineStep}
-use Rattle.pages.specs.inner.Listing.{Due, saysOn, textDue, linesDue}
-use Rattle.pages.proofs.Listing.{top-says, lines-few}
-use Rattle.pages.proofs.Counting.{values-give}
+use Rattle.pages.specs.Text.{field_values, rendered, any_wrong, printed_unless_wrong, text_meaning}
+use Rattle.pages.specs.Page.{advanced_of, on, say_meaning, break_meaning, turn_meaning, top_meaning, line_step}
+use Rattle.pages.specs.Inner.Listing.{Due, says_on, text_due, lines_due}
+use Rattle.pages.proofs.Listing.{top_says, lines_few}
+use Rattle.pages.proofs.Counting.{values_give}
 
 -- ---- a line is one line
 
-text-keeps : (m : Machine) (l : List ℕ) (from n c : ℕ) → c < 60 → Keeps (pageLimit 60) (textMeaning m l from n) c (λ _ c'. c' ≡ suc c)
-unfolding textMeaning
-text-keeps m l from n c h =
-    keeps-bind (pageLimit 60) (fieldValues m l n (pieces_of l from)) (λ ws. printedUnlessWrong n (anyWrong ws) (rendered (pieces_of l from) ws)) c (λ ws c'. Anything ws × (c' ≡ c)) (λ _ c'. c' ≡ suc c) (gives-keeps (pageLimit 60) (fieldValues m l n (pieces_of l from)) c Anything (values-give m l n (pieces_of l from)))
-    (λ ws c₁ e. go (anyWrong ws) (rendered (pieces_of l from) ws) c₁ e.1)
+text_keeps : (m : Machine) (l : List ℕ) (from n c : ℕ) → c < 60 → Keeps (page_limit 60) (text_meaning m l from n) c (λ _ c'. c' ≡ suc c)
+unfolding text_meaning
+text_keeps m l from n c h =
+    keeps_bind (page_limit 60) (field_values m l n (pieces_of l from)) (λ ws. printed_unless_wrong n (any_wrong ws) (rendered (pieces_of l from) ws)) c (λ ws c'. Anything ws × (c' ≡ c)) (λ _ c'. c' ≡ suc c) (gives_keeps (page_limit 60) (field_values m l n (pieces_of l from)) c Anything (values_give m l n (pieces_of l from)))
+    (λ ws c₁ e. go (any_wrong ws) (rendered (pieces_of l from) ws) c₁ e.1)
   where
-    go : (w : Bool) (b : List ℕ) (c₁ : ℕ) → c₁ ≡ c → Keeps (pageLimit 60) (printedUnlessWrong n w b) c₁ (λ _ c'. c' ≡ suc c)
+    go : (w : Bool) (b : List ℕ) (c₁ : ℕ) → c₁ ≡ c → Keeps (page_limit 60) (printed_unless_wrong n w b) c₁ (λ _ c'. c' ≡ suc c)
     go true b c₁ e = tt
     go false b c₁ e = (omega arith, ap suc e)
 
@@ -47,31 +47,31 @@ record Open (g : ℕ) (p : Page) (c : ℕ) : Type 0 where
   number : p.number ≤ g
 
 -- so many lines behind one another
-says-keep : (g : ℕ) (m : Machine) (ds : List Due) (p : Page) (c : ℕ) → p.row ≡ suc c → p.number ≤ g → c + length ds ≤ 60 → Keeps (pageLimit 60) (saysOn m ds p) c (On g)
-unfolding sayMeaning
-says-keep g m [] p c e k h = record { next = e; most = omega arith; number = k }
-says-keep g m (d ∷ ds) p c e k h =
-    keeps-bind (pageLimit 60) (sayMeaning m d.bytes d.from d.number p) (λ _. saysOn m ds (advancedOf p)) c (λ _ c'. c' ≡ suc c) (On g)
-    (keeps-bind (pageLimit 60) (textMeaning (on m p) d.bytes d.from d.number) (λ _. done (advancedOf p)) c (λ _ c'. c' ≡ suc c) (λ _ c'. c' ≡ suc c) (text-keeps (on m p) d.bytes d.from d.number c (omega arith)) (λ _ c₁ q. q))
-    (λ _ c₁ q. says-keep g m ds (advancedOf p) c₁ (omega arith) k (omega arith))
+says_keep : (g : ℕ) (m : Machine) (ds : List Due) (p : Page) (c : ℕ) → p.row ≡ suc c → p.number ≤ g → c + length ds ≤ 60 → Keeps (page_limit 60) (says_on m ds p) c (On g)
+unfolding say_meaning
+says_keep g m [] p c e k h = record { next = e; most = omega arith; number = k }
+says_keep g m (d ∷ ds) p c e k h =
+    keeps_bind (page_limit 60) (say_meaning m d.bytes d.from d.number p) (λ _. says_on m ds (advanced_of p)) c (λ _ c'. c' ≡ suc c) (On g)
+    (keeps_bind (page_limit 60) (text_meaning (on m p) d.bytes d.from d.number) (λ _. done (advanced_of p)) c (λ _ c'. c' ≡ suc c) (λ _ c'. c' ≡ suc c) (text_keeps (on m p) d.bytes d.from d.number c (omega arith)) (λ _ c₁ q. q))
+    (λ _ c₁ q. says_keep g m ds (advanced_of p) c₁ (omega arith) k (omega arith))
 
-pub break-keeps : (due g : ℕ) (feeds : Bool) (p : Page) (c : ℕ) → p.number ≤ g → Keeps (pageLimit 60) (breakMeaning due feeds p) c (On (g + 1))
-unfolding breakMeaning
-break-keeps due g feeds p c h = (tt, record { next = refl; most = omega arith; number = omega arith })
+pub break_keeps : (due g : ℕ) (feeds : Bool) (p : Page) (c : ℕ) → p.number ≤ g → Keeps (page_limit 60) (break_meaning due feeds p) c (On (g + 1))
+unfolding break_meaning
+break_keeps due g feeds p c h = (tt, record { next = refl; most = omega arith; number = omega arith })
 
-turn-keeps : (due g : ℕ) (feeds : Bool) (p : Page) (c : ℕ) → On g p c → Keeps (pageLimit 60) (turnMeaning due feeds p) c (Open (g + 1))
-unfolding turnMeaning breakMeaning
-turn-keeps due g feeds p c i = go (ltb 60 p.row) refl
+turn_keeps : (due g : ℕ) (feeds : Bool) (p : Page) (c : ℕ) → On g p c → Keeps (page_limit 60) (turn_meaning due feeds p) c (Open (g + 1))
+unfolding turn_meaning break_meaning
+turn_keeps due g feeds p c i = go (ltb 60 p.row) refl
   where
-    go : (b : Bool) → ltb 60 p.row ≡ b → Keeps (pageLimit 60) (cond b (breakMeaning due feeds p) (done p)) c (Open (g + 1))
+    go : (b : Bool) → ltb 60 p.row ≡ b → Keeps (page_limit 60) (cond b (break_meaning due feeds p) (done p)) c (Open (g + 1))
     go true q = (tt, record { next = refl; room = omega arith; number = omega (arith, i.number) })
     go false q = record { next = i.next; room = omega (arith, ltb-false 60 p.row q, i.next); number = omega (arith, i.number) }
 
 -- ---- the step
 
 -- A text line with what comes before it keeps a page within 60 lines, and raises PAGENUM by at most one.
-pub step_keeps : (m : Machine) (t : List ℕ) (due : ℕ) (feeds : Bool) (hs : List Heading) (l : List ℕ) (g : ℕ) (p : Page) (c : ℕ) → On g p c → Keeps (pageLimit 60) (lineStep m t due feeds hs l p) c (On (g + 1))
-unfolding lineStep
+pub step_keeps : (m : Machine) (t : List ℕ) (due : ℕ) (feeds : Bool) (hs : List Heading) (l : List ℕ) (g : ℕ) (p : Page) (c : ℕ) → On g p c → Keeps (page_limit 60) (line_step m t due feeds hs l p) c (On (g + 1))
+unfolding line_step
 step_keeps m t due feeds hs l g p c i =
-    keeps-bind (pageLimit 60) (turnMeaning due feeds p) (λ p₁. bind (topMeaning m t due hs p₁) (λ p₂. sayMeaning m l 0 due p₂)) c (Open (g + 1)) (On (g + 1)) (turn-keeps due g feeds p c i)
-    (λ p₁ c₁ h₁. rw (top-says m t due l hs p₁) (says-keep (g + 1) m (linesDue t due hs l p₁) p₁ c₁ h₁.next h₁.number (omega (arith, lines-few t due hs p₁ (textDue due l) 60 (omega (arith, h₁.next, h₁.room)) (omega arith), h₁.next))))
+    keeps_bind (page_limit 60) (turn_meaning due feeds p) (λ p₁. bind (top_meaning m t due hs p₁) (λ p₂. say_meaning m l 0 due p₂)) c (Open (g + 1)) (On (g + 1)) (turn_keeps due g feeds p c i)
+    (λ p₁ c₁ h₁. rw (top_says m t due l hs p₁) (says_keep (g + 1) m (lines_due t due hs l p₁) p₁ c₁ h₁.next h₁.number (omega (arith, lines_few t due hs p₁ (text_due due l) 60 (omega (arith, h₁.next, h₁.room)) (omega arith), h₁.next))))

@@ -14,50 +14,50 @@ use Rattle.meaning.specs.declared.count.Counts.{Counts}
 use Rattle.meaning.specs.declared.question.Question.{Question}
 use Rattle.meaning.specs.declared.end.Halt.{Halt}
 use Rattle.meaning.specs.declared.end.Ended.TheVariants.{Finished, Halted}
-use Rattle.meaning.proofs.Doing.{then-does, then-over, does-done}
-use Rattle.meaning.proofs.Looping.{Leads, leads-start, leads-next, leads-over, leads-end}
+use Rattle.meaning.proofs.Doing.{then_does, then_over, does_done}
+use Rattle.meaning.proofs.Looping.{Leads, leads_start, leads_next, leads_over, leads_end}
 use Rattle.values.specs.declared.scene.Scene.{Scene}
-use Rattle.values.specs.inner.Word.{questions}
+use Rattle.values.specs.Inner.Word.{questions}
 use Rattle.values.specs.Source.{answers}
-use Rattle.texts.specs.Pieces.{orNoPieces, pieces_of, fieldCount}
-use Rattle.texts.specs.Width.{totalWidth}
-use Rattle.texts.specs.readers.Text.{piecesWithin, textPieces, fitsBehind, textFits}
+use Rattle.texts.specs.Pieces.{or_no_pieces, pieces_of, field_count}
+use Rattle.texts.specs.Width.{total_width}
+use Rattle.texts.specs.Readers.Text.{pieces_within, text_pieces, fits_behind, text_fits}
 use Rattle.pages.specs.declared.text.Told.{Told}
-use Rattle.pages.specs.inner.Pass.{Lent, machine_of, Sourced, Sayable, filledTo, Tells}
+use Rattle.pages.specs.Inner.Pass.{Lent, machine_of, Sourced, Sayable, filled_to, Tells}
 use Rattle.pages.specs.declared.page.Page.{Page}
 use Rattle.pages.specs.declared.page.Turned.{Turned}
 use Rattle.pages.specs.declared.heading.Heading.{Heading}
 use Rattle.pages.specs.declared.step.Paged.{Paged}
-use Rattle.pages.specs.Page.{advancedOf, sayMeaning, topMeaning, lineStep}
-use Rattle.pages.specs.inner.Listing.{Due, saysOn, shown, textDue, linesDue, bytes_of, dueOf, linesOn, leadOf, lineDue}
-use Rattle.pages.specs.inner.Paging.{sceneOn, page_of, Turns, AllFit, fieldsIn, LinesReady, SaysLines, StepReady, Steps}
-use Rattle.pages.proofs.Listing.{lines-by, lines-few, says_same, top-says, lines-count, line_at}
+use Rattle.pages.specs.Page.{advanced_of, say_meaning, top_meaning, line_step}
+use Rattle.pages.specs.Inner.Listing.{Due, says_on, shown, text_due, lines_due, bytes_of, due_of, lines_on, lead_of, line_due}
+use Rattle.pages.specs.Inner.Paging.{scene_on, page_of, Turns, AllFit, fields_in, LinesReady, SaysLines, StepReady, Steps}
+use Rattle.pages.proofs.Listing.{lines_by, lines_few, says_same, top_says, lines_count, line_at}
 
 -- a blank line fits, and has no field
-pub blank-fits : textFits [] 0 ≡ true
-unfolding textFits fitsBehind textPieces piecesWithin totalWidth
-blank-fits = refl
+pub blank_fits : text_fits [] 0 ≡ true
+unfolding text_fits fits_behind text_pieces pieces_within total_width
+blank_fits = refl
 
-pub blank-fields : fieldCount (pieces_of [] 0) ≡ 0
-unfolding pieces_of orNoPieces textPieces piecesWithin
-blank-fields = refl
+pub blank_fields : field_count (pieces_of [] 0) ≡ 0
+unfolding pieces_of or_no_pieces text_pieces pieces_within
+blank_fields = refl
 
 -- ---- where the loop stands: the rest of the lines, from a page and what is filled there
 
 pub record InLines (x : Lent) (s : Scene) (t : List ℕ) (hs : List Heading) (line : Heading) (lead : ℕ) (text₀ log₀ : List ℕ) (c₀ : Counts) (k : ℕ) (p : Page) (text log : List ℕ) (c : Counts) : Type 0 where
-  pub here : Sourced x (λ source. Leads source (saysOn (machine_of x s source) (linesOn t hs line (page_of s)) (page_of s)) (filledTo text₀ log₀ c₀ s.page) (saysOn (machine_of x s source) (drop k (linesOn t hs line (page_of s))) p) (filledTo text log c p.number))
-  pub fit : AllFit (drop k (linesOn t hs line (page_of s)))
-  pub few : c.asked + fieldsIn (drop k (linesOn t hs line (page_of s))) ≤ c₀.asked + fieldsIn (linesOn t hs line (page_of s))
-  pub row : p.row + length (drop k (linesOn t hs line (page_of s))) ≤ 62
-  pub ready : LinesReady x s t (linesOn t hs line (page_of s)) text₀ c₀
-  pub led : lead ≡ leadOf hs (page_of s)
+  pub here : Sourced x (λ source. Leads source (says_on (machine_of x s source) (lines_on t hs line (page_of s)) (page_of s)) (filled_to text₀ log₀ c₀ s.page) (says_on (machine_of x s source) (drop k (lines_on t hs line (page_of s))) p) (filled_to text log c p.number))
+  pub fit : AllFit (drop k (lines_on t hs line (page_of s)))
+  pub few : c.asked + fields_in (drop k (lines_on t hs line (page_of s))) ≤ c₀.asked + fields_in (lines_on t hs line (page_of s))
+  pub row : p.row + length (drop k (lines_on t hs line (page_of s))) ≤ 62
+  pub ready : LinesReady x s t (lines_on t hs line (page_of s)) text₀ c₀
+  pub led : lead ≡ lead_of hs (page_of s)
   pub nine : length hs ≤ 9
   pub room : c.printed ≤ length text
   pub kept : length text ≡ length text₀
 
-pub lines-begin : (x : Lent) (s : Scene) (t : List ℕ) (hs : List Heading) (line : Heading) (lead : ℕ) (text log : List ℕ) (c : Counts) → LinesReady x s t (linesOn t hs line (page_of s)) text c → lead ≡ leadOf hs (page_of s) → length hs ≤ 9 → InLines x s t hs line lead text log c 0 (page_of s) text log c
-lines-begin x s t hs line lead text log c h e n = record {
-  here = λ b cs z. leads-start (answers x.store b) (saysOn (machine_of x s (answers x.store b)) (linesOn t hs line (page_of s)) (page_of s)) (filledTo text log c s.page);
+pub lines_begin : (x : Lent) (s : Scene) (t : List ℕ) (hs : List Heading) (line : Heading) (lead : ℕ) (text log : List ℕ) (c : Counts) → LinesReady x s t (lines_on t hs line (page_of s)) text c → lead ≡ lead_of hs (page_of s) → length hs ≤ 9 → InLines x s t hs line lead text log c 0 (page_of s) text log c
+lines_begin x s t hs line lead text log c h e n = record {
+  here = λ b cs z. leads_start (answers x.store b) (says_on (machine_of x s (answers x.store b)) (lines_on t hs line (page_of s)) (page_of s)) (filled_to text log c s.page);
   fit = h.fit;
   few = omega arith;
   row = h.row;
@@ -70,33 +70,33 @@ lines-begin x s t hs line lead text log c h e n = record {
 
 module _ {x : Lent} {s : Scene} {t : List ℕ} {hs : List Heading} {line : Heading} {lead : ℕ} {text₀ log₀ : List ℕ} {c₀ : Counts} {k : ℕ} {p : Page} {text log : List ℕ} {c : Counts} (i : InLines x s t hs line lead text₀ log₀ c₀ k p text log c) where
   abbrev ds : List Due
-  ds = linesOn t hs line (page_of s)
+  ds = lines_on t hs line (page_of s)
 
   count : length ds ≡ lead + 1
-  count = lines-count t hs line (page_of s) ∙ ap (λ (n : ℕ). n + 1) (sym i.led)
+  count = lines_count t hs line (page_of s) ∙ ap (λ (n : ℕ). n + 1) (sym i.led)
 
-  module _ (h : k ≤ lead) {next : Heading} (named : next ≡ lineDue hs lead k line) where
-    left : drop k ds ≡ dueOf t next ∷ drop (k + 1) ds
+  module _ (h : k ≤ lead) {next : Heading} (named : next ≡ line_due hs lead k line) where
+    left : drop k ds ≡ due_of t next ∷ drop (k + 1) ds
     left =
-        let e : get_or ds k (dueOf t line) ≡ dueOf t next = line_at t hs line (page_of s) i.nine k (dueOf t line) (omega (arith, i.led)) ∙ ap (dueOf t) (sym (rw i.led at named)) in
-        rw add-one (drop-cons ds k (dueOf t line) (omega (arith, count)) ∙ ap (λ (d : Due). d ∷ drop (suc k) ds) e)
+        let e : get_or ds k (due_of t line) ≡ due_of t next = line_at t hs line (page_of s) i.nine k (due_of t line) (omega (arith, i.led)) ∙ ap (due_of t) (sym (rw i.led at named)) in
+        rw add-one (drop-cons ds k (due_of t line) (omega (arith, count)) ∙ ap (λ (d : Due). d ∷ drop (suc k) ds) e)
 
-    fit' : AllFit (dueOf t next ∷ drop (k + 1) ds)
+    fit' : AllFit (due_of t next ∷ drop (k + 1) ds)
     fit' = rw left at i.fit
 
-    few' : c.asked + (fieldCount (pieces_of (bytes_of t next) next.from) + fieldsIn (drop (k + 1) ds)) ≤ c₀.asked + fieldsIn ds
+    few' : c.asked + (field_count (pieces_of (bytes_of t next) next.from) + fields_in (drop (k + 1) ds)) ≤ c₀.asked + fields_in ds
     few' = rw left at i.few
 
     pub line_row : p.row + 1 + length (drop (k + 1) ds) ≤ 62
     line_row = omega (arith, i.row, ap length left)
 
-    module _ {y : Scene} {body : List ℕ} (hy : y ≡ sceneOn s p next.number) (hb : body ≡ bytes_of t next) where
-      pub line-ready : Sayable x y.datasource body next.from c.asked × (c.printed ≤ length text)
-      line-ready = rw (hy, hb) (
+    module _ {y : Scene} {body : List ℕ} (hy : y ≡ scene_on s p next.number) (hb : body ≡ bytes_of t next) where
+      pub line_ready : Sayable x y.datasource body next.from c.asked × (c.printed ≤ length text)
+      line_ready = rw (hy, hb) (
         record {
           fits = fit'.0;
-          short-line = omega (arith, i.ready.short-template, length-take next.length (drop next.start t), length-drop next.start t);
-          short-store = i.ready.short-store;
+          short_line = omega (arith, i.ready.short_template, length-take next.length (drop next.start t), length-drop next.start t);
+          short_store = i.ready.short_store;
           datasource = i.ready.datasource;
           logged = omega (arith, few', i.ready.logged);
         },
@@ -104,36 +104,36 @@ module _ {x : Lent} {s : Scene} {t : List ℕ} {hs : List Heading} {line : Headi
       )
 
       abbrev one : (Question → Answer) → Meaning Page
-      one source = sayMeaning (machine_of x s source) (bytes_of t next) next.from next.number p
+      one source = say_meaning (machine_of x s source) (bytes_of t next) next.from next.number p
 
       abbrev rest : (Question → Answer) → Page → Meaning Page
-      rest source _ = saysOn (machine_of x s source) (drop (k + 1) ds) (advancedOf p)
+      rest source _ = says_on (machine_of x s source) (drop (k + 1) ds) (advanced_of p)
 
-      here' : Sourced x (λ source. Leads source (saysOn (machine_of x s source) ds (page_of s)) (filledTo text₀ log₀ c₀ s.page) (bind (one source) (rest source)) (filledTo text log c p.number))
+      here' : Sourced x (λ source. Leads source (says_on (machine_of x s source) ds (page_of s)) (filled_to text₀ log₀ c₀ s.page) (bind (one source) (rest source)) (filled_to text log c p.number))
       here' b cs z = rw left at (i.here b cs z)
 
       module _ {text' log' : List ℕ} {r : Told} (d : Tells x y body next.from text log c text' log' r) where
-        told : Tells x (sceneOn s p next.number) (bytes_of t next) next.from text log c text' log' r
+        told : Tells x (scene_on s p next.number) (bytes_of t next) next.from text log c text' log' r
         told = rw (hy, hb) at d
 
         pub line_same : length text' ≡ length text₀
         line_same = d.kept ∙ i.kept
 
-        pub line-over : (a : Halt) (l : ℕ) → r.end ≡ Halted a l → SaysLines x s ds text₀ log₀ c₀ text' log' (record { end = r.end; page = p; counts = r.counts })
-        unfolding sayMeaning
-        line-over a l e = record {
-          does = λ b cs z. rw e (leads-over (one (answers x.store b)) (rest (answers x.store b)) (here' b cs z) (then-over (λ _. done (advancedOf p)) (rw e at (told.does b cs z p.number))));
-          few = omega (arith, few', d.few, ap (λ (l : List ℕ). fieldCount (pieces_of l next.from)) hb);
+        pub line_over : (a : Halt) (l : ℕ) → r.end ≡ Halted a l → SaysLines x s ds text₀ log₀ c₀ text' log' (record { end = r.end; page = p; counts = r.counts })
+        unfolding say_meaning
+        line_over a l e = record {
+          does = λ b cs z. rw e (leads_over (one (answers x.store b)) (rest (answers x.store b)) (here' b cs z) (then_over (λ _. done (advanced_of p)) (rw e at (told.does b cs z p.number))));
+          few = omega (arith, few', d.few, ap (λ (l : List ℕ). field_count (pieces_of l next.from)) hb);
           kept = line_same;
           room = omega (arith, d.room, i.kept);
         }
 
-        pub line-next : (p' : Page) → r.end ≡ Finished → p' ≡ advancedOf p → InLines x s t hs line lead text₀ log₀ c₀ (k + 1) p' text' log' r.counts
-        unfolding sayMeaning
-        line-next p' e hp = rw hp (record {
-          here = λ b cs z. leads-next (one (answers x.store b)) (rest (answers x.store b)) (here' b cs z) (then-does (λ _. done (advancedOf p)) (rw e at (told.does b cs z p.number)) (does-done (answers x.store b) (filledTo text' log' r.counts p.number) (advancedOf p)));
+        pub line_next : (p' : Page) → r.end ≡ Finished → p' ≡ advanced_of p → InLines x s t hs line lead text₀ log₀ c₀ (k + 1) p' text' log' r.counts
+        unfolding say_meaning
+        line_next p' e hp = rw hp (record {
+          here = λ b cs z. leads_next (one (answers x.store b)) (rest (answers x.store b)) (here' b cs z) (then_does (λ _. done (advanced_of p)) (rw e at (told.does b cs z p.number)) (does_done (answers x.store b) (filled_to text' log' r.counts p.number) (advanced_of p)));
           fit = fit'.1;
-          few = omega (arith, few', d.few, ap (λ (l : List ℕ). fieldCount (pieces_of l next.from)) hb);
+          few = omega (arith, few', d.few, ap (λ (l : List ℕ). field_count (pieces_of l next.from)) hb);
           row = line_row;
           ready = i.ready;
           led = i.led;
@@ -142,9 +142,9 @@ module _ {x : Lent} {s : Scene} {t : List ℕ} {hs : List Heading} {line : Headi
           kept = line_same;
         })
 
-  pub lines-said : lead < k → SaysLines x s ds text₀ log₀ c₀ text log (record { end = Finished; page = p; counts = c })
-  lines-said h = record {
-    does = λ b cs z. leads-end (rw (drop_of_length-le ds {i = k} (omega (arith, count))) at (i.here b cs z));
+  pub lines_said : lead < k → SaysLines x s ds text₀ log₀ c₀ text log (record { end = Finished; page = p; counts = c })
+  lines_said h = record {
+    does = λ b cs z. leads_end (rw (drop_of_length-le ds {i = k} (omega (arith, count))) at (i.here b cs z));
     few = omega (arith, i.few);
     kept = i.kept;
     room = omega (arith, i.room, i.kept);
@@ -152,20 +152,20 @@ module _ {x : Lent} {s : Scene} {t : List ℕ} {hs : List Heading} {line : Headi
 
 -- ---- a break, then the lines
 
-fit-last : (ds : List Due) (d : Due) → AllFit ds → textFits d.bytes d.from ≡ true → AllFit (ds ++ (d ∷ []))
-fit-last [] d a b = (b, tt)
-fit-last (x ∷ ds) d a b = (a.0, fit-last ds d a.1 b)
+fit_last : (ds : List Due) (d : Due) → AllFit ds → text_fits d.bytes d.from ≡ true → AllFit (ds ++ (d ∷ []))
+fit_last [] d a b = (b, tt)
+fit_last (x ∷ ds) d a b = (a.0, fit_last ds d a.1 b)
 
-fields-last : (ds : List Due) (d : Due) → fieldsIn (ds ++ (d ∷ [])) ≡ fieldsIn ds + fieldCount (pieces_of d.bytes d.from)
-fields-last [] d = omega arith
-fields-last (x ∷ ds) d = omega (arith, fields-last ds d)
+fields_last : (ds : List Due) (d : Due) → fields_in (ds ++ (d ∷ [])) ≡ fields_in ds + field_count (pieces_of d.bytes d.from)
+fields_last [] d = omega arith
+fields_last (x ∷ ds) d = omega (arith, fields_last ds d)
 
 module _ (x : Lent) (s : Scene) (t : List ℕ) (hs : List Heading) (feeds : Bool) (line : Heading) (text log : List ℕ) (c : Counts) (h : StepReady x s t hs line text c) where
   abbrev heads : List Due
   heads = shown t line.number hs
 
   abbrev then_lines : (Question → Answer) → Page → Meaning Page
-  then_lines source p = bind (topMeaning (machine_of x s source) t line.number hs p) (λ q. sayMeaning (machine_of x s source) (bytes_of t line) 0 line.number q)
+  then_lines source p = bind (top_meaning (machine_of x s source) t line.number hs p) (λ q. say_meaning (machine_of x s source) (bytes_of t line) 0 line.number q)
 
   module _ (text₁ : List ℕ) (r₁ : Turned) (d₁ : Turns line.number feeds (page_of s) text c.printed text₁ r₁) where
     -- the break is printed
@@ -173,48 +173,48 @@ module _ (x : Lent) (s : Scene) (t : List ℕ) (hs : List Heading) (feeds : Bool
     c₁ = record { printed = r₁.printed; asked = c.asked; places = c.places }
 
     -- the break didn't fit
-    pub step-over : (a : Halt) (k : ℕ) → r₁.end ≡ Halted a k → Steps x s t hs feeds line text log c text₁ log (record { end = r₁.end; page = r₁.page; counts = c₁ })
-    unfolding lineStep
-    step-over a k e = record {
-      does = λ b cs z. rw e (then-over (then_lines (answers x.store b)) (rw e at (d₁.does (answers x.store b) (questions log) c.asked c.places)));
+    pub step_over : (a : Halt) (k : ℕ) → r₁.end ≡ Halted a k → Steps x s t hs feeds line text log c text₁ log (record { end = r₁.end; page = r₁.page; counts = c₁ })
+    unfolding line_step
+    step_over a k e = record {
+      does = λ b cs z. rw e (then_over (then_lines (answers x.store b)) (rw e at (d₁.does (answers x.store b) (questions log) c.asked c.places)));
       few = omega arith;
       kept = d₁.kept;
       room = d₁.room;
     }
 
-    few : fieldsIn (linesOn t hs line r₁.page) ≤ fieldsIn heads + fieldCount (pieces_of (bytes_of t line) line.from)
-    few = lines-by t line.number hs r₁.page (dueOf t line) (λ ds. fieldsIn ds ≤ fieldsIn heads + fieldCount (pieces_of (bytes_of t line) line.from)) (omega arith) (λ _. omega (arith, fields-last heads (dueOf t line)))
+    few : fields_in (lines_on t hs line r₁.page) ≤ fields_in heads + field_count (pieces_of (bytes_of t line) line.from)
+    few = lines_by t line.number hs r₁.page (due_of t line) (λ ds. fields_in ds ≤ fields_in heads + field_count (pieces_of (bytes_of t line) line.from)) (omega arith) (λ _. omega (arith, fields_last heads (due_of t line)))
 
-    module _ (y : Scene) (hy : y ≡ sceneOn s r₁.page line.number) where
-      pub step-lines-ready : LinesReady x y t (linesOn t hs line (page_of y)) text₁ c₁
-      step-lines-ready = rw hy (record {
-        fit = lines-by t line.number hs r₁.page (dueOf t line) AllFit (h.fits, tt) (λ _. fit-last heads (dueOf t line) h.heads h.fits);
+    module _ (y : Scene) (hy : y ≡ scene_on s r₁.page line.number) where
+      pub step_lines_ready : LinesReady x y t (lines_on t hs line (page_of y)) text₁ c₁
+      step_lines_ready = rw hy (record {
+        fit = lines_by t line.number hs r₁.page (due_of t line) AllFit (h.fits, tt) (λ _. fit_last heads (due_of t line) h.heads h.fits);
         logged = omega (arith, few, h.logged);
-        short-template = h.short-template;
-        short-store = h.short-store;
+        short_template = h.short_template;
+        short_store = h.short_store;
         datasource = h.datasource;
         room = omega (arith, d₁.room, d₁.kept);
-        row = lines-few t line.number hs r₁.page (dueOf t line) 61 d₁.row (omega arith);
+        row = lines_few t line.number hs r₁.page (due_of t line) 61 d₁.row (omega arith);
       })
 
-      module _ (e₁ : r₁.end ≡ Finished) (text₂ log₂ : List ℕ) (r₂ : Paged) (d₂ : SaysLines x y (linesOn t hs line (page_of y)) text₁ log c₁ text₂ log₂ r₂) where
-        on-page : SaysLines x (sceneOn s r₁.page line.number) (linesOn t hs line r₁.page) text₁ log c₁ text₂ log₂ r₂
-        on-page = rw hy at d₂
+      module _ (e₁ : r₁.end ≡ Finished) (text₂ log₂ : List ℕ) (r₂ : Paged) (d₂ : SaysLines x y (lines_on t hs line (page_of y)) text₁ log c₁ text₂ log₂ r₂) where
+        on_page : SaysLines x (scene_on s r₁.page line.number) (lines_on t hs line r₁.page) text₁ log c₁ text₂ log₂ r₂
+        on_page = rw hy at d₂
 
-        text-due : dueOf t line ≡ textDue line.number (bytes_of t line)
-        text-due = λ i. record { bytes = bytes_of t line; from = h.first i; number = line.number }
+        text_due_law : due_of t line ≡ text_due line.number (bytes_of t line)
+        text_due_law = λ i. record { bytes = bytes_of t line; from = h.first i; number = line.number }
 
-        said : SaysLines x (sceneOn s r₁.page line.number) (linesDue t line.number hs (bytes_of t line) r₁.page) text₁ log c₁ text₂ log₂ r₂
-        said = rw text-due at on-page
+        said : SaysLines x (scene_on s r₁.page line.number) (lines_due t line.number hs (bytes_of t line) r₁.page) text₁ log c₁ text₂ log₂ r₂
+        said = rw text_due_law at on_page
 
         pub step_same : length text₂ ≡ length text
         step_same = d₂.kept ∙ d₁.kept
 
         pub steps : Steps x s t hs feeds line text log c text₂ log₂ r₂
-        unfolding lineStep
+        unfolding line_step
         steps = record {
-          does = λ b cs z. then-does (then_lines (answers x.store b)) (rw e₁ at (d₁.does (answers x.store b) (questions log) c.asked c.places)) (rw (top-says (machine_of x s (answers x.store b)) t line.number (bytes_of t line) hs r₁.page, ← says_same (machine_of x s (answers x.store b)) r₁.page (linesDue t line.number hs (bytes_of t line) r₁.page) r₁.page) (said.does b cs z));
-          few = omega (arith, on-page.few, few);
+          does = λ b cs z. then_does (then_lines (answers x.store b)) (rw e₁ at (d₁.does (answers x.store b) (questions log) c.asked c.places)) (rw (top_says (machine_of x s (answers x.store b)) t line.number (bytes_of t line) hs r₁.page, ← says_same (machine_of x s (answers x.store b)) r₁.page (lines_due t line.number hs (bytes_of t line) r₁.page) r₁.page) (said.does b cs z));
+          few = omega (arith, on_page.few, few);
           kept = step_same;
           room = omega (arith, d₂.room, d₁.kept);
         }

@@ -9,59 +9,59 @@ use borrow.Author.Tests.{le-ltb, lt-ltb}
 use lib.ListN.{length, set, length-set}
 use Rattle.meaning.specs.Event.{break}
 use Rattle.meaning.specs.Tree.{done}
-use Rattle.meaning.specs.inner.Place.{at}
+use Rattle.meaning.specs.Inner.Place.{at}
 use Rattle.meaning.specs.declared.refusal.Refusal.{Refusal}
 use Rattle.meaning.specs.declared.refusal.Overflow.TheVariants.{Output}
 use Rattle.meaning.specs.declared.end.Halt.TheVariants.{Cut}
 use Rattle.meaning.specs.declared.end.Ended.TheVariants.{Finished, Halted}
-use Rattle.meaning.proofs.Doing.{does-done, does-print, does-print-cut}
+use Rattle.meaning.proofs.Doing.{does_done, does_print, does_print_cut}
 use Rattle.pages.specs.declared.page.Page.{Page}
 use Rattle.pages.specs.declared.page.Turned.{Turned}
-use Rattle.pages.specs.Page.{brokenOf, breakMeaning, turnMeaning}
-use Rattle.pages.specs.inner.Paging.{TurnReady, Breaks, Turns}
+use Rattle.pages.specs.Page.{broken_of, break_meaning, turn_meaning}
+use Rattle.pages.specs.Inner.Paging.{TurnReady, Breaks, Turns}
 
 -- ---- the break
 
 module _ (due : ℕ) (feeds : Bool) (p : Page) (text : List ℕ) (n : ℕ) (h : TurnReady p text n) where
-  pub turn-not : p.row ≤ 60 → Turns due feeds p text n text (record { end = Finished; page = p; printed = n })
-  unfolding turnMeaning
-  turn-not k = record {
-    does = λ o Q a l. rw (le-ltb 60 p.row k) (does-done o (at text n Q a l p.number) p);
+  pub turn_not : p.row ≤ 60 → Turns due feeds p text n text (record { end = Finished; page = p; printed = n })
+  unfolding turn_meaning
+  turn_not k = record {
+    does = λ o Q a l. rw (le-ltb 60 p.row k) (does_done o (at text n Q a l p.number) p);
     row = h.row;
     kept = refl;
     room = h.room;
   }
 
-  pub break-quiet : (p' : Page) → feeds ≡ false → p' ≡ brokenOf p → Breaks due feeds p text n text (record { end = Finished; page = p'; printed = n })
-  unfolding breakMeaning
-  break-quiet p' e hp = rw hp (record {
-    does = λ o Q a l. rw e (rw (add-zero n) at (does-print {E = Refusal} o (at text n Q a l p.number) (break []) due (brokenOf p) (omega (arith, h.room))));
+  pub break_quiet : (p' : Page) → feeds ≡ false → p' ≡ broken_of p → Breaks due feeds p text n text (record { end = Finished; page = p'; printed = n })
+  unfolding break_meaning
+  break_quiet p' e hp = rw hp (record {
+    does = λ o Q a l. rw e (rw (add-zero n) at (does_print {E = Refusal} o (at text n Q a l p.number) (break []) due (broken_of p) (omega (arith, h.room))));
     row = omega arith;
     kept = refl;
     room = h.room;
   })
 
-  pub break-feeds : (p' : Page) → feeds ≡ true → n < length text → p' ≡ brokenOf p → Breaks due feeds p text n (set text n 12) (record { end = Finished; page = p'; printed = n + 1 })
-  unfolding breakMeaning
-  break-feeds p' e f hp = rw hp (record {
-    does = λ o Q a l. rw e (does-print o (at text n Q a l p.number) (break (12 ∷ [])) due (brokenOf p) (omega arith));
+  pub break_feeds : (p' : Page) → feeds ≡ true → n < length text → p' ≡ broken_of p → Breaks due feeds p text n (set text n 12) (record { end = Finished; page = p'; printed = n + 1 })
+  unfolding break_meaning
+  break_feeds p' e f hp = rw hp (record {
+    does = λ o Q a l. rw e (does_print o (at text n Q a l p.number) (break (12 ∷ [])) due (broken_of p) (omega arith));
     row = omega arith;
     kept = length-set text n 12;
     room = omega arith;
   })
 
-  pub break-full : feeds ≡ true → length text ≤ n → Breaks due feeds p text n text (record { end = Halted (Cut Output) due; page = p; printed = n })
-  unfolding breakMeaning
-  break-full e f = record {
-    does = λ o Q a l. rw e (does-print-cut o (at text n Q a l p.number) (break (12 ∷ [])) due (done (brokenOf p)) h.room (omega arith));
+  pub break_full : feeds ≡ true → length text ≤ n → Breaks due feeds p text n text (record { end = Halted (Cut Output) due; page = p; printed = n })
+  unfolding break_meaning
+  break_full e f = record {
+    does = λ o Q a l. rw e (does_print_cut o (at text n Q a l p.number) (break (12 ∷ [])) due (done (broken_of p)) h.room (omega arith));
     row = h.row;
     kept = refl;
     room = h.room;
   }
 
-  pub turn-breaks : (text' : List ℕ) (r : Turned) → 60 < p.row → Breaks due feeds p text n text' r → Turns due feeds p text n text' r
-  unfolding turnMeaning
-  turn-breaks text' r k d = record {
+  pub turn_breaks : (text' : List ℕ) (r : Turned) → 60 < p.row → Breaks due feeds p text n text' r → Turns due feeds p text n text' r
+  unfolding turn_meaning
+  turn_breaks text' r k d = record {
     does = λ o Q a l. rw (lt-ltb 60 p.row k) (d.does o Q a l);
     row = d.row;
     kept = d.kept;

@@ -2,5 +2,5 @@
 use Rattle.pages.specs.declared.heading.Heading.{Heading}
 
 -- an undefined heading
-abbrev pub noHeading : Heading
-noHeading = record { start = 0; length = 0; from = 0; number = 0 }
+abbrev pub no_heading : Heading
+no_heading = record { start = 0; length = 0; from = 0; number = 0 }

@@ -1,6 +1,6 @@
 pub mod Shown
 pub mod Text
-pub mod inner
+pub mod Inner
 pub mod Heading
 pub mod Page
 pub mod Rows

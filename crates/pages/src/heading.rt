@@ -1,8 +1,8 @@
 // Headings: each of nine is kept as one number.
 ghost use Rattle.std.specs.Prelude.{◌≡◌, get_or};
-ghost use Rattle.values.specs.inner.State.{headingsIn};
-ghost use Rattle.pages.specs.Heading.{noHeading};
-ghost use Rattle.pages.specs.inner.Packed.{Small, headingIn, headingsOf};
+ghost use Rattle.values.specs.Inner.State.{headings_in};
+ghost use Rattle.pages.specs.Heading.{no_heading};
+ghost use Rattle.pages.specs.Inner.Packed.{Small, heading_in, headings_of};
 
 use values::registers;
 use values::registers::Words;
@@ -25,14 +25,14 @@ fn wide(n: usize) -> u64
 
 pub fn packed(heading: Heading) -> u64
     requires { Small heading }
-    ensures { headingIn result ≡ heading }
+    ensures { heading_in result ≡ heading }
 {
     let line = wide(heading.start) * 256 + wide(heading.length);
     (line * 256 + wide(heading.from)) * 65536 + heading.number as u64
 }
 
 fn unpacked(word: u64) -> Heading
-    ensures { result ≡ headingIn word }
+    ensures { result ≡ heading_in word }
 {
     Heading {
         start: (word / 4294967296) as usize,
@@ -44,7 +44,7 @@ fn unpacked(word: u64) -> Heading
 
 // Heading k, counted from 0; an undefined one behind the last.
 pub fn heading_at(words: &Words, k: usize) -> Heading
-    ensures { result ≡ get_or (headingsOf (headingsIn words.now)) k noHeading }
+    ensures { result ≡ get_or (headings_of (headings_in words.now)) k no_heading }
 {
     if k < 9 {
         let word = registers::heading_word(words, k + 1);

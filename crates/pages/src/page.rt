@@ -1,7 +1,7 @@
 // The page and its break.
 ghost use Rattle.std.specs.Prelude.{◌≡◌, ◌≤◌, ◌<◌};
-ghost use Rattle.pages.specs.Page.{newPage, brokenOf, advancedOf};
-ghost use Rattle.pages.specs.inner.Paging.{TurnReady, Breaks, Turns};
+ghost use Rattle.pages.specs.Page.{new_page, broken_of, advanced_of};
+ghost use Rattle.pages.specs.Inner.Paging.{TurnReady, Breaks, Turns};
 
 use meaning::end::{Ended, Halt};
 use meaning::refusal::Overflow;
@@ -18,14 +18,14 @@ impl Page {
     pub const LIMIT: u32 = 60;
 
     pub fn new() -> Self
-        ensures { result ≡ newPage }
+        ensures { result ≡ new_page }
     {
         Self { number: 1, row: 1 }
     }
 
     pub fn broken(self) -> Self
         requires { self.number < 4294967295 }
-        ensures { result ≡ brokenOf self }
+        ensures { result ≡ broken_of self }
     {
         Self {
             number: self.number + 1,
@@ -35,7 +35,7 @@ impl Page {
 
     pub fn advanced(self) -> Self
         requires { self.row ≤ 61 }
-        ensures { result ≡ advancedOf self }
+        ensures { result ≡ advanced_of self }
     {
         Self {
             number: self.number,

@@ -1,10 +1,10 @@
 // Headings, and all that a text line does.
 ghost use Rattle.std.specs.Prelude.{◌≡◌, ◌≤◌};
-ghost use Rattle.values.specs.inner.State.{headingsIn};
-ghost use Rattle.pages.specs.inner.Packed.{headingsOf};
-ghost use Rattle.pages.specs.inner.Pass.{lent};
-ghost use Rattle.pages.specs.inner.Listing.{leadOf, lineDue, linesOn};
-ghost use Rattle.pages.specs.inner.Paging.{page_of, sceneOn, LinesReady, SaysLines, StepReady, Steps};
+ghost use Rattle.values.specs.Inner.State.{headings_in};
+ghost use Rattle.pages.specs.Inner.Packed.{headings_of};
+ghost use Rattle.pages.specs.Inner.Pass.{lent};
+ghost use Rattle.pages.specs.Inner.Listing.{lead_of, line_due, lines_on};
+ghost use Rattle.pages.specs.Inner.Paging.{page_of, scene_on, LinesReady, SaysLines, StepReady, Steps};
 
 use crate::heading::Heading;
 use crate::page::Page;
@@ -18,7 +18,7 @@ use values::scene::Scene;
 // How many lines come before a text line: on a page that has no line yet the headings up to the highest defined, and the blank
 // line below them.
 fn leading(words: &Words, page: Page) -> usize
-    ensures { (result ≡ leadOf (headingsOf (headingsIn words.now)) page) × (result ≤ 10) }
+    ensures { (result ≡ lead_of (headings_of (headings_in words.now)) page) × (result ≤ 10) }
 {
     if page.row != 1 {
         return 0;
@@ -36,7 +36,7 @@ fn leading(words: &Words, page: Page) -> usize
 
 // The k-th line due, where so many come before the text line. An undefined heading is blank, as the one above the highest is.
 fn line_due(words: &Words, lead: usize, k: usize, line: Heading) -> Heading
-    ensures { result ≡ lineDue (headingsOf (headingsIn words.now)) lead k line }
+    ensures { result ≡ line_due (headings_of (headings_in words.now)) lead k line }
 {
     if lead <= k {
         return line;
@@ -62,7 +62,7 @@ pub struct Paged {
 
 // What a line is executed in on a page, where it names the line `number`.
 fn scene_on(scene: Scene, page: Page, number: u32) -> Scene
-    ensures { result ≡ sceneOn scene page number }
+    ensures { result ≡ scene_on scene page number }
 {
     Scene {
         datasource: scene.datasource,
@@ -87,8 +87,8 @@ fn say_lines<'a>(
     line: Heading,
     counts: Counts,
 ) -> Paged
-    requires { LinesReady (lent store.now index.now numbers.now strings.now words.now) scene template.now (linesOn template.now (headingsOf (headingsIn words.now)) line (page_of scene)) text.old counts }
-    ensures { SaysLines (lent store.now index.now numbers.now strings.now words.now) scene (linesOn template.now (headingsOf (headingsIn words.now)) line (page_of scene)) text.old log.old counts text.new log.new result }
+    requires { LinesReady (lent store.now index.now numbers.now strings.now words.now) scene template.now (lines_on template.now (headings_of (headings_in words.now)) line (page_of scene)) text.old counts }
+    ensures { SaysLines (lent store.now index.now numbers.now strings.now words.now) scene (lines_on template.now (headings_of (headings_in words.now)) line (page_of scene)) text.old log.old counts text.new log.new result }
 {
     let mut top = Page {
         number: scene.page,
@@ -138,8 +138,8 @@ pub fn step<'a>(
     line: Heading,
     counts: Counts,
 ) -> Paged
-    requires { StepReady (lent store.now index.now numbers.now strings.now words.now) scene template.now (headingsOf (headingsIn words.now)) line text.old counts }
-    ensures { Steps (lent store.now index.now numbers.now strings.now words.now) scene template.now (headingsOf (headingsIn words.now)) feeds line text.old log.old counts text.new log.new result }
+    requires { StepReady (lent store.now index.now numbers.now strings.now words.now) scene template.now (headings_of (headings_in words.now)) line text.old counts }
+    ensures { Steps (lent store.now index.now numbers.now strings.now words.now) scene template.now (headings_of (headings_in words.now)) feeds line text.old log.old counts text.new log.new result }
 {
     let page = Page {
         number: scene.page,

@@ -10,7 +10,7 @@ use denote.Array.{array_val}
 use lib.ListN.{length, get_or, set, take, drop, length-set}
 use lib.Seq.{sets}
 use Rattle.meaning.specs.declared.question.Question.{Question}
-use Rattle.values.specs.inner.Word.{unpacked, questions}
+use Rattle.values.specs.Inner.Word.{unpacked, questions}
 use Rattle.report.specs.declared.state.Log.{Log}
 
 -- with i questions of the log added, zs is the list: what the rest adds to it is what the whole adds to ys
@@ -28,11 +28,11 @@ first_of (w ∷ ws) (suc i) k h = first_of ws i k (le_of_suc-le-suc h)
 plus_none : (p : ℕ) → p + 0 ≡ p
 plus_none p = omega arith
 
-minus-none : (p : ℕ) → p - 0 ≡ p
-minus-none p = omega arith
+minus_none : (p : ℕ) → p - 0 ≡ p
+minus_none p = omega arith
 
-plus-next : (p i : ℕ) → p + (i + 1) ≡ suc (p + i)
-plus-next p i = omega arith
+plus_next : (p i : ℕ) → p + (i + 1) ≡ suc (p + i)
+plus_next p i = omega arith
 
 next : (i : ℕ) → i + 1 ≡ suc i
 next i = omega arith
@@ -43,7 +43,7 @@ module _ (ys : List Question) (l : Log) where
 
   pub none : Added ys l 0 ys
   none = record {
-    rest = ap (λ (p : ℕ). sets ys p (take (l.n - 0) qs)) (plus_none l.at) ∙ ap (λ (k : ℕ). sets ys l.at (take k qs)) (minus-none l.n);
+    rest = ap (λ (p : ℕ). sets ys p (take (l.n - 0) qs)) (plus_none l.at) ∙ ap (λ (k : ℕ). sets ys l.at (take k qs)) (minus_none l.n);
     same = refl;
     most = omega arith;
   }
@@ -54,7 +54,7 @@ module _ (ys : List Question) (l : Log) where
 
   pub more : (i : ℕ) (zs : List Question) → i < l.n → i < length l.words → Added ys l i zs → Added ys l (i + 1) (set zs (l.at + i) (unpacked (get_or l.words i 0)))
   more i zs h g a = record {
-    rest = ap (λ (p : ℕ). sets zs' p (take (l.n - (i + 1)) (drop (i + 1) qs))) (plus-next l.at i)
+    rest = ap (λ (p : ℕ). sets zs' p (take (l.n - (i + 1)) (drop (i + 1) qs))) (plus_next l.at i)
         ∙ ap (λ (j : ℕ). sets zs' (suc (l.at + i)) (take (l.n - (i + 1)) (drop j qs))) (next i)
         ∙ one (l.at + i) i (l.n - (i + 1)) (l.n - i) zs g (omega (arith, h)) ∙ a.rest;
     same = length-set zs (l.at + i) (unpacked (get_or l.words i 0)) ∙ a.same;
@@ -81,8 +81,8 @@ pub fits_next : (i n : ℕ) → i < n → n < 2 ^ 64 → (i < 2 ^ 64) × (i + 1 
 fits_next i n l g = (omega (arith, l, g), omega (arith, l, g))
 
 -- a place of the log, and what stands there
-pub small-place : (i n : ℕ) → i < n → n ≤ 512 → (i < 512) × (i * 8 < 2 ^ 64)
-small-place i n l g = (omega (arith, l, g), omega (arith, l, g))
+pub small_place : (i n : ℕ) → i < n → n ≤ 512 → (i < 512) × (i * 8 < 2 ^ 64)
+small_place i n l g = (omega (arith, l, g), omega (arith, l, g))
 
 pub word_fits : (ws : List ℕ) (i : ℕ) → i < length ws → WT (array_val (map (vint w64) ws)) → get_or ws i 0 < 2 ^ 64
 word_fits [] i l g = absurd (not-suc-le-zero l)

@@ -7,28 +7,28 @@ use lib.ListN.{length}
 use Rattle.template.specs.declared.Extent.{Extent}
 use Rattle.template.specs.declared.Checked.{Checked}
 use Rattle.template.specs.declared.Checked.TheVariants.{Accepted, Refused}
-use Rattle.template.specs.Order.{templateChecked}
-use Rattle.cells.specs.Store.{cellsHeld, holdsCells}
-use Rattle.cells.specs.inner.Index.{Indexes}
+use Rattle.template.specs.Order.{template_checked}
+use Rattle.cells.specs.Store.{cells_held, holds_cells}
+use Rattle.cells.specs.Inner.Index.{Indexes}
 use Rattle.cells.specs.declared.index.Indexed.{Indexed}
 use Rattle.cells.specs.declared.index.Indexed.TheVariants.{Count, BadStore}
-use Rattle.cells.proofs.Replies.{not-held}
+use Rattle.cells.proofs.Replies.{not_held}
 use Rattle.meaning.specs.Event.{joined}
 use Rattle.meaning.specs.declared.refusal.Refusal.{Refusal}
 use Rattle.meaning.specs.declared.refusal.Refusal.TheVariants as refusal
 use Rattle.report.specs.declared.state.Stretch.{Stretch}
-use Rattle.report.specs.Report.{refusedReport, checkedOutcome, reportOf}
-use Rattle.report.specs.inner.Start.{startFlow, startSaved, refusedAt, startedAt}
-use Rattle.report.specs.inner.Begun.{Begun}
-use Rattle.report.proofs.Starting.{starts-at, none-remembered}
-use Rattle.report.proofs.Stored.{Serving, part-kept}
+use Rattle.report.specs.Report.{refused_report, checked_outcome, report_of}
+use Rattle.report.specs.Inner.Start.{start_flow, start_saved, refused_at, started_at}
+use Rattle.report.specs.Inner.Begun.{Begun}
+use Rattle.report.proofs.Starting.{starts_at, none_remembered}
+use Rattle.report.proofs.Stored.{Serving, part_kept}
 
-module _ (t name b : List ℕ) (n places : ℕ) (p p' : List ℕ) (x : Indexed) (y : Indexes p (cellsHeld b n) p' x) (r : Stretch) where
-  refused-begun : (e : Refusal) (l : ℕ) → ((room : ℕ) → reportOf t name b n places room ≡ refusedReport e l) → r ≡ refusedAt e l → Begun t name b n places p' r
-  unfolding refusedAt joined
-  refused-begun e l i j = subst (Begun t name b n places p') (sym j) begun
+module _ (t name b : List ℕ) (n places : ℕ) (p p' : List ℕ) (x : Indexed) (y : Indexes p (cells_held b n) p' x) (r : Stretch) where
+  refused_begun : (e : Refusal) (l : ℕ) → ((room : ℕ) → report_of t name b n places room ≡ refused_report e l) → r ≡ refused_at e l → Begun t name b n places p' r
+  unfolding refused_at joined
+  refused_begun e l i j = subst (Begun t name b n places p') (sym j) begun
     where
-      begun : Begun t name b n places p' (refusedAt e l)
+      begun : Begun t name b n places p' (refused_at e l)
       begun = record {
         refused = λ _ room. rw (i room) (record { result = refl; text = refl; questions = refl });
         run = λ m. absurd (false≢true m);
@@ -49,30 +49,30 @@ module _ (t name b : List ℕ) (n places : ℕ) (p p' : List ℕ) (x : Indexed) 
       }
 
   -- 1
-  pub bad-store : x ≡ BadStore → r ≡ refusedAt refusal.BadStore 0 → Begun t name b n places p' r
-  unfolding reportOf holdsCells
-  bad-store e j = refused-begun refusal.BadStore 0 (λ room. rw (not-held b n p p' x y e)) j
+  pub bad_store : x ≡ BadStore → r ≡ refused_at refusal.BadStore 0 → Begun t name b n places p' r
+  unfolding report_of holds_cells
+  bad_store e j = refused_begun refusal.BadStore 0 (λ room. rw (not_held b n p p' x y e)) j
 
-  module _ (count : ℕ) (e : x ≡ Count count) (l : 5461 ≤ length p) (k : Checked) (c : k ≡ templateChecked t name) where
+  module _ (count : ℕ) (e : x ≡ Count count) (l : 5461 ≤ length p) (k : Checked) (c : k ≡ template_checked t name) where
     indexed : Serving b n p' count
-    indexed = part-kept b n p p' x y count e l
+    indexed = part_kept b n p p' x y count e l
 
     -- 2 to 6
-    pub template-refused : (f : Refusal) (line : ℕ) → k ≡ Refused f line → r ≡ refusedAt f line → Begun t name b n places p' r
-    unfolding reportOf holdsCells checkedOutcome
-    template-refused f line i j = refused-begun f line (λ room. rw (indexed.holds, sym c ∙ i)) j
+    pub template_refused : (f : Refusal) (line : ℕ) → k ≡ Refused f line → r ≡ refused_at f line → Begun t name b n places p' r
+    unfolding report_of holds_cells checked_outcome
+    template_refused f line i j = refused_begun f line (λ room. rw (indexed.holds, sym c ∙ i)) j
 
-    pub may-start : (s : Extent) → k ≡ Accepted s → r ≡ startedAt s n count places → Begun t name b n places p' r
-    unfolding startedAt startSaved startFlow
-    may-start s i j = subst (Begun t name b n places p') (sym j) begun
+    pub may_start : (s : Extent) → k ≡ Accepted s → r ≡ started_at s n count places → Begun t name b n places p' r
+    unfolding started_at start_saved start_flow
+    may_start s i j = subst (Begun t name b n places p') (sym j) begun
       where
-        begun : Begun t name b n places p' (startedAt s n count places)
+        begun : Begun t name b n places p' (started_at s n count places)
         begun = record {
           refused = λ m. absurd (false≢true (sym m));
           run = λ _. s;
           accepted = λ _. sym c ∙ i;
-          start = λ _ rows source. starts-at s n count places rows source;
-          remembered = λ _. none-remembered t;
+          start = λ _ rows source. starts_at s n count places rows source;
+          remembered = λ _. none_remembered t;
           end = λ _. refl;
           left = λ _. refl;
           page = λ _. refl;

@@ -6,22 +6,22 @@ use lib.ListN.{replicate}
 use Rattle.template.specs.declared.Extent.{Extent}
 use Rattle.meaning.specs.Answer.{Answer}
 use Rattle.meaning.specs.declared.question.Question.{Question}
-use Rattle.values.specs.inner.State.{texts, wordsFrom, fetched, bank}
-use Rattle.commands.specs.inner.Open.{opened}
-use Rattle.pages.specs.inner.Packed.{headingIn}
-use Rattle.control.specs.inner.Held.{state_of}
-use Rattle.control.specs.inner.Remembering.{RightJump, Remembered}
+use Rattle.values.specs.Inner.State.{texts, words_from, fetched, bank}
+use Rattle.commands.specs.Inner.Open.{opened}
+use Rattle.pages.specs.Inner.Packed.{heading_in}
+use Rattle.control.specs.Inner.Held.{state_of}
+use Rattle.control.specs.Inner.Remembering.{RightJump, Remembered}
 use Rattle.control.proofs.Remembering.{no_jump}
 use Rattle.executed_line.proofs.Sounds.{each_same}
 use Rattle.report.specs.Report.{start_of}
-use Rattle.report.specs.inner.Start.{startFlow, startSaved}
-use Rattle.report.specs.inner.Begun.{heldIn}
+use Rattle.report.specs.Inner.Start.{start_flow, start_saved}
+use Rattle.report.specs.Inner.Begun.{held_in}
 
-pub starts-at : (run : Extent) (len count places : ℕ) (rows : List (List ℕ)) (source : Question → Answer) → state_of source (heldIn (startSaved run len count places) rows) (startFlow run) ≡ start_of run
-unfolding startSaved startFlow bank texts wordsFrom fetched opened headingIn
-starts-at run len count places rows source = refl
+pub starts_at : (run : Extent) (len count places : ℕ) (rows : List (List ℕ)) (source : Question → Answer) → state_of source (held_in (start_saved run len count places) rows) (start_flow run) ≡ start_of run
+unfolding start_saved start_flow bank texts words_from fetched opened heading_in
+starts_at run len count places rows source = refl
 
 -- No jump is remembered yet.
-pub none-remembered : (t : List ℕ) → Remembered t (replicate 212 0)
+pub none_remembered : (t : List ℕ) → Remembered t (replicate 212 0)
 unfolding bank
-none-remembered t = record { jumps = each_same (RightJump t) 64 0 (no_jump t) }
+none_remembered t = record { jumps = each_same (RightJump t) 64 0 (no_jump t) }

@@ -8,29 +8,29 @@ use borrow.Author.Tests.{le-leb}
 use lib.ListN.{length, take}
 use lib.Seq.{take_all, length-take-le, get_or-take}
 use Rattle.cells.specs.Cell.{Cell}
-use Rattle.cells.specs.Store.{cellsHeld, cells}
-use Rattle.cells.specs.Asking.{replied, askOf}
-use Rattle.cells.specs.inner.Index as I
+use Rattle.cells.specs.Store.{cells_held, cells}
+use Rattle.cells.specs.Asking.{replied, ask_of}
+use Rattle.cells.specs.Inner.Index as I
 use Rattle.cells.specs.declared.index.Indexed.{Indexed}
 use Rattle.cells.specs.declared.index.Indexed.TheVariants.{Count}
-use Rattle.cells.proofs.Locating.{held-some}
-use Rattle.cells.proofs.Replies.{index-ready}
+use Rattle.cells.proofs.Locating.{held_some}
+use Rattle.cells.proofs.Replies.{index_ready}
 use Rattle.meaning.specs.Answer.{Answer}
 use Rattle.meaning.specs.declared.question.Question.{Question}
 use Rattle.values.specs.Source.{answers}
-use Rattle.control.specs.inner.Executing.{source_of, Kept}
+use Rattle.control.specs.Inner.Executing.{source_of, Kept}
 
 module _ (b : List ℕ) (n : ℕ) (h : n ≤ length b) where
-  part-long : length (take n b) ≡ n
-  part-long = length-take-le n b h
+  part_long : length (take n b) ≡ n
+  part_long = length-take-le n b h
 
-  pub part_held : cellsHeld (take n b) (length (take n b)) ≡ cellsHeld b n
-  unfolding cellsHeld
-  part_held = rw (part-long, take_all n (take n b) (omega (arith, part-long)), le-leb n n (omega arith), le-leb n (length b) h)
+  pub part_held : cells_held (take n b) (length (take n b)) ≡ cells_held b n
+  unfolding cells_held
+  part_held = rw (part_long, take_all n (take n b) (omega (arith, part_long)), le-leb n n (omega arith), le-leb n (length b) h)
 
-  pub part-answers : ◌≡◌ {A = Question → Answer} (source_of (take n b)) (answers b n)
-  unfolding askOf
-  part-answers = ap {B = Question → Answer} (λ (o : Option (List Cell)). λ (q : Question). (replied q o).answer) part_held
+  pub part_answers : ◌≡◌ {A = Question → Answer} (source_of (take n b)) (answers b n)
+  unfolding ask_of
+  part_answers = ap {B = Question → Answer} (λ (o : Option (List Cell)). λ (q : Question). (replied q o).answer) part_held
 
 -- the index that was built serves the part
 pub record Serving (b : List ℕ) (n : ℕ) (index : List ℕ) (count : ℕ) : Type 0 where
@@ -39,12 +39,12 @@ pub record Serving (b : List ℕ) (n : ℕ) (index : List ℕ) (count : ℕ) : T
   pub stored : n ≤ length b
   pub short : n ≤ 65536
   pub cells : List Cell
-  pub holds : cellsHeld b n ≡ some cells
+  pub holds : cells_held b n ≡ some cells
 
-pub part-kept : (b : List ℕ) (n : ℕ) (p p' : List ℕ) (r : Indexed) → I.Indexes p (cellsHeld b n) p' r → (count : ℕ) → r ≡ Count count → 5461 ≤ length p → Serving b n p' count
-part-kept b n p p' r i count e l =
-    let g = index-ready b n p p' r i count e l in
-    let x = held-some b n g.0 g.1.holds in
+pub part_kept : (b : List ℕ) (n : ℕ) (p p' : List ℕ) (r : Indexed) → I.Indexes p (cells_held b n) p' r → (count : ℕ) → r ≡ Count count → 5461 ≤ length p → Serving b n p' count
+part_kept b n p p' r i count e l =
+    let g = index_ready b n p p' r i count e l in
+    let x = held_some b n g.0 g.1.holds in
     let m : length (take count p') ≡ count = length-take-le count p' g.1.room in
     record {
       kept = record { cells = g.0; ready = record { holds = part_held b n x.inside ∙ g.1.holds; tally = m ∙ g.1.tally; room = omega arith; starts = λ j q. let w : j < count = omega (arith, m) in get_or-take count p' j 0 w ∙ g.1.starts j w } };

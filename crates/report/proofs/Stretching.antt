@@ -11,8 +11,8 @@ use lib.ListN.{length, take, drop, replicate, length-take, length-drop}
 use lib.Seq.{length-take-le}
 use Rattle.meaning.specs.Answer.{Answer}
 use Rattle.meaning.specs.Tree.{done, stop, bind, End, finished}
-use Rattle.meaning.specs.inner.Place.{Place, at, Does, from}
-use Rattle.meaning.specs.Rule.{pageLimit}
+use Rattle.meaning.specs.Inner.Place.{Place, at, Does, from}
+use Rattle.meaning.specs.Rule.{page_limit}
 use Rattle.meaning.specs.Number.{end_of}
 use Rattle.meaning.specs.Meaning.{Meaning}
 use Rattle.meaning.specs.declared.question.Question.{Question}
@@ -22,51 +22,51 @@ use Rattle.meaning.specs.declared.end.Halt.{Halt}
 use Rattle.meaning.specs.declared.end.Halt.TheVariants.{Refused}
 use Rattle.meaning.specs.declared.end.Ended.{Ended}
 use Rattle.meaning.specs.declared.end.Ended.TheVariants.{Finished, Halted}
-use Rattle.meaning.proofs.Doing.{then-does, then-over, does-done, does-stop, room-kept, left-kept, text-kept}
-use Rattle.meaning.proofs.Looping.{Leads, leads-start, leads-next, leads-end}
+use Rattle.meaning.proofs.Doing.{then_does, then_over, does_done, does_stop, room_kept, left_kept, text_kept}
+use Rattle.meaning.proofs.Looping.{Leads, leads_start, leads_next, leads_end}
 use Rattle.meaning.proofs.Keeping.{yields}
-use Rattle.values.specs.inner.Word.{questions}
-use Rattle.values.specs.inner.State.{bank, tablesIn, Held, held}
+use Rattle.values.specs.Inner.Word.{questions}
+use Rattle.values.specs.Inner.State.{bank, tables_in, Held, held}
 use Rattle.control.specs.declared.state.Flow.{Flow}
 use Rattle.control.specs.declared.state.Lined.{Lined}
 use Rattle.control.specs.State.{State}
-use Rattle.control.specs.Line.{lineMeaning}
-use Rattle.control.specs.inner.Executing.{source_of, Kept, stateAt, LineReady, Executes}
-use Rattle.control.specs.inner.Remembering.{Remembered}
-use Rattle.executed_line.proofs.Sounds.{On, sound_more, line-keeps}
+use Rattle.control.specs.Line.{line_meaning}
+use Rattle.control.specs.Inner.Executing.{source_of, Kept, state_at, LineReady, Executes}
+use Rattle.control.specs.Inner.Remembering.{Remembered}
+use Rattle.executed_line.proofs.Sounds.{On, sound_more, line_keeps}
 use Rattle.report.specs.declared.state.Saved.{Saved}
 use Rattle.report.specs.declared.state.Stretch.{Stretch}
 use Rattle.report.specs.Report.{run_from}
-use Rattle.report.specs.inner.Start.{overAt, fullAt}
-use Rattle.report.specs.inner.Begun.{heldIn}
-use Rattle.report.specs.inner.Stretch.{stretch, store_of, stateIn, Standing, RunReady, fresh, Ran}
-use Rattle.report.proofs.Splitting.{run-split}
+use Rattle.report.specs.Inner.Start.{over_at, full_at}
+use Rattle.report.specs.Inner.Begun.{held_in}
+use Rattle.report.specs.Inner.Stretch.{stretch, store_of, state_in, Standing, RunReady, fresh, Ran}
+use Rattle.report.proofs.Splitting.{run_split}
 
 module _ (t : List ℕ) (end : ℕ) where
   -- ---- the clauses
-  stretch-more : (k : ℕ) (s : State) → s.position.at < end → stretch (suc k) t end s ≡ bind (lineMeaning t s) (stretch k t end)
+  stretch_more : (k : ℕ) (s : State) → s.position.at < end → stretch (suc k) t end s ≡ bind (line_meaning t s) (stretch k t end)
   unfolding stretch
-  stretch-more k s h = rw (lt-ltb s.position.at end h)
+  stretch_more k s h = rw (lt-ltb s.position.at end h)
 
-  run_more : (f : ℕ) (s : State) → 0 < f → s.position.at < end → run_from f t end s ≡ bind (lineMeaning t s) (run_from (f - 1) t end)
+  run_more : (f : ℕ) (s : State) → 0 < f → s.position.at < end → run_from f t end s ≡ bind (line_meaning t s) (run_from (f - 1) t end)
   unfolding run_from
   run_more zero s z h = absurd (omega arith)
   run_more (suc f) s z h = let e : suc f - 1 ≡ f = omega arith in rw (lt-ltb s.position.at end h, e)
 
-  run-done : (f : ℕ) (s : State) → end ≤ s.position.at → run_from f t end s ≡ done s
+  run_done : (f : ℕ) (s : State) → end ≤ s.position.at → run_from f t end s ≡ done s
   unfolding run_from
-  run-done zero s h = rw (le-ltb s.position.at end h)
-  run-done (suc f) s h = rw (le-ltb s.position.at end h)
+  run_done zero s h = rw (le-ltb s.position.at end h)
+  run_done (suc f) s h = rw (le-ltb s.position.at end h)
 
-  run-late : (f : ℕ) (s : State) → f ≤ 0 → s.position.at < end → run_from f t end s ≡ stop TooManyLines s.position.line
+  run_late : (f : ℕ) (s : State) → f ≤ 0 → s.position.at < end → run_from f t end s ≡ stop TooManyLines s.position.line
   unfolding run_from
-  run-late zero s z h = rw (lt-ltb s.position.at end h)
-  run-late (suc f) s z h = absurd (omega arith)
+  run_late zero s z h = rw (lt-ltb s.position.at end h)
+  run_late (suc f) s z h = absurd (omega arith)
 
 -- ---- where the loop stands
 
-abbrev pub savedIn : Saved → List ℤ → List ℕ → Flow → ℕ → ℕ → ℕ → Saved
-savedIn v numbers words f left printed logged =
+abbrev pub saved_in : Saved → List ℤ → List ℕ → Flow → ℕ → ℕ → ℕ → Saved
+saved_in v numbers words f left printed logged =
     record {
       flow = f;
       left = left;
@@ -82,21 +82,21 @@ savedIn v numbers words f left printed logged =
 
 -- from what v says, the lines so far led here
 pub record Going (t b : List ℕ) (v : Saved) (rows : List (List ℕ)) (T₀ : List ℕ) (h : Held) (f : Flow) (T Q : List ℕ) (left printed logged : ℕ) : Type 0 where
-  pub leads : (j : ℕ) → Leads (source_of (store_of v b)) (stretch (v.left - left + j) t v.end (stateIn v rows b)) (fresh T₀ v) (stretch j t v.end (stateAt (store_of v b) h f)) (at T printed (questions Q) logged (v.places - v.asked) f.page.number)
-  pub standing : Standing t left (stateAt (store_of v b) h f)
-  pub rows-held : length h.rows ≡ 99
-  pub table-words : length (tablesIn h.words) ≡ 20
+  pub leads : (j : ℕ) → Leads (source_of (store_of v b)) (stretch (v.left - left + j) t v.end (state_in v rows b)) (fresh T₀ v) (stretch j t v.end (state_at (store_of v b) h f)) (at T printed (questions Q) logged (v.places - v.asked) f.page.number)
+  pub standing : Standing t left (state_at (store_of v b) h f)
+  pub rows_held : length h.rows ≡ 99
+  pub table_words : length (tables_in h.words) ≡ 20
   pub remembered : Remembered t h.words
   pub text_same : length T ≡ length T₀
   pub room : printed ≤ length T
   pub spent : left ≤ v.left
-  pub logged-most : logged ≤ 512
-  pub places-left : logged ≤ v.places - v.asked
+  pub logged_most : logged ≤ 512
+  pub places_left_law : logged ≤ v.places - v.asked
   pub begun : 0 < logged → left < v.left
 
-words-tables : (words : List ℕ) → length words ≡ 212 → length (tablesIn words) ≡ 20
+words_tables : (words : List ℕ) → length words ≡ 212 → length (tables_in words) ≡ 20
 unfolding bank
-words-tables words e = omega (arith, e, length-take 20 (drop 128 words), length-drop 128 words)
+words_tables words e = omega (arith, e, length-take 20 (drop 128 words), length-drop 128 words)
 
 module _ (t b index T : List ℕ) (rows : List (List ℕ)) (s : Stretch) (r : RunReady t b index T rows s.saved) where
   abbrev v : Saved
@@ -109,8 +109,8 @@ module _ (t b index T : List ℕ) (rows : List (List ℕ)) (s : Stretch) (r : Ru
   abbrev part : List ℕ
   part = take (v.len - 0) b
 
-  part-is : part ≡ store_of v b
-  part-is = ap (λ (n : ℕ). take n b) (sub-zero v.len)
+  part_is : part ≡ store_of v b
+  part_is = ap (λ (n : ℕ). take n b) (sub-zero v.len)
 
   -- the part of the index that has its cells
   abbrev cells : List ℕ
@@ -119,18 +119,18 @@ module _ (t b index T : List ℕ) (rows : List (List ℕ)) (s : Stretch) (r : Ru
   cells_is : cells ≡ take v.count index
   cells_is = ap (λ (n : ℕ). take n index) (sub-zero v.count)
 
-  pub going_start : length v.words ≡ 212 → Going t b v rows T (heldIn v rows) v.flow T (replicate 512 0) v.left v.printed 0
+  pub going_start : length v.words ≡ 212 → Going t b v rows T (held_in v rows) v.flow T (replicate 512 0) v.left v.printed 0
   going_start e = record {
-    leads = λ j. let z : v.left - v.left + j ≡ j = omega arith in rw z (leads-start source (stretch j t v.end (stateIn v rows b)) (fresh T v));
+    leads = λ j. let z : v.left - v.left + j ≡ j = omega arith in rw z (leads_start source (stretch j t v.end (state_in v rows b)) (fresh T v));
     standing = r.standing;
-    rows-held = r.rows-held;
-    table-words = words-tables v.words e;
+    rows_held = r.rows_held;
+    table_words = words_tables v.words e;
     remembered = r.remembered;
     text_same = refl;
     room = r.room;
     spent = omega arith;
-    logged-most = omega arith;
-    places-left = omega arith;
+    logged_most = omega arith;
+    places_left_law = omega arith;
     begun = λ z. absurd (omega arith);
   }
 
@@ -139,25 +139,25 @@ module _ (t b index T : List ℕ) (rows : List (List ℕ)) (s : Stretch) (r : Ru
     here = at T₁ printed (questions Q₁) logged (v.places - v.asked) f.page.number
 
     -- the questions fit the read list
-    pub asked-fit : v.asked + logged ≤ v.places
-    asked-fit = omega (arith, g.places-left, r.asked)
+    pub asked_fit : v.asked + logged ≤ v.places
+    asked_fit = omega (arith, g.places_left_law, r.asked)
 
     -- the stretch so far
-    so_far : Does source (stretch (v.left - left) t v.end (stateIn v rows b)) (fresh T v) here (finished (stateAt (store_of v b) h f))
+    so_far : Does source (stretch (v.left - left) t v.end (state_in v rows b)) (fresh T v) here (finished (state_at (store_of v b) h f))
     unfolding stretch
-    so_far = let z : v.left - left + 0 ≡ v.left - left = omega arith in rw z at (leads-end (g.leads 0))
+    so_far = let z : v.left - left + 0 ≡ v.left - left = omega arith in rw z at (leads_end (g.leads 0))
 
     -- what the run does from here, it does from the start
-    finish : (P' : Place Question) (e : End Refusal ℕ State) → Does source (run_from left t v.end (stateAt (store_of v b) h f)) here P' e → Does source (run_from v.left t v.end (stateIn v rows b)) (fresh T v) P' e
+    finish : (P' : Place Question) (e : End Refusal ℕ State) → Does source (run_from left t v.end (state_at (store_of v b) h f)) here P' e → Does source (run_from v.left t v.end (state_in v rows b)) (fresh T v) P' e
     finish P' e d =
         let z : v.left ≡ v.left - left + left = omega (arith, g.spent) in
-        subst (λ (tree : Meaning State). Does source tree (fresh T v) P' e) (sym (ap (λ (k : ℕ). run_from k t v.end (stateIn v rows b)) z ∙ run-split t v.end (v.left - left) left (stateIn v rows b)))
-        (then-does (run_from left t v.end) so_far d)
+        subst (λ (tree : Meaning State). Does source tree (fresh T v) P' e) (sym (ap (λ (k : ℕ). run_from k t v.end (state_in v rows b)) z ∙ run_split t v.end (v.left - left) left (state_in v rows b)))
+        (then_does (run_from left t v.end) so_far d)
 
-    module _ (f' : Flow) (T' : List ℕ) (rows' : List (List ℕ)) (Q' : List ℕ) (printed' logged' : ℕ) (last : State) (e : Ended) (x : Stretch) (few : logged' ≤ 512) (i : x ≡ overAt e f'.page.number printed' v.asked Q' logged') where
+    module _ (f' : Flow) (T' : List ℕ) (rows' : List (List ℕ)) (Q' : List ℕ) (printed' logged' : ℕ) (last : State) (e : Ended) (x : Stretch) (few : logged' ≤ 512) (i : x ≡ over_at e f'.page.number printed' v.asked Q' logged') where
       -- the run is over
-      ran_over : Does source (run_from v.left t v.end (stateIn v rows b)) (fresh T v) (at T' printed' (questions Q') logged' (v.places - v.asked) f'.page.number) (end_of last e) → Ran t b index T rows s T' rows' x
-      unfolding overAt
+      ran_over : Does source (run_from v.left t v.end (state_in v rows b)) (fresh T v) (at T' printed' (questions Q') logged' (v.places - v.asked) f'.page.number) (end_of last e) → Ran t b index T rows s T' rows' x
+      unfolding over_at
       ran_over d = subst (Ran t b index T rows s T' rows') (sym i) (record {
         few = few;
         place = refl;
@@ -167,40 +167,40 @@ module _ (t b index T : List ℕ) (rows : List (List ℕ)) (s : Stretch) (r : Ru
         asked = λ y. absurd (false≢true y);
         same_end = λ y. absurd (false≢true y);
         same_store = λ y. absurd (false≢true y);
-        same-places = λ y. absurd (false≢true y);
+        same_places = λ y. absurd (false≢true y);
         over = λ _. record { ended = e; last = last; does = d; number = refl; line = refl; questions = refl };
       })
 
     module _ (x : Stretch) where
       -- no line is due
-      pub run_ends : v.end ≤ f.at → x ≡ overAt Finished f.page.number printed v.asked Q₁ logged → Ran t b index T rows s T₁ h.rows x
+      pub run_ends : v.end ≤ f.at → x ≡ over_at Finished f.page.number printed v.asked Q₁ logged → Ran t b index T rows s T₁ h.rows x
       run_ends k i =
-          ran_over f T₁ h.rows Q₁ printed logged (stateAt (store_of v b) h f) Finished x g.logged-most i
-          (finish here (finished (stateAt (store_of v b) h f)) (rw (run-done t v.end left (stateAt (store_of v b) h f) k) (does-done source here (stateAt (store_of v b) h f))))
+          ran_over f T₁ h.rows Q₁ printed logged (state_at (store_of v b) h f) Finished x g.logged_most i
+          (finish here (finished (state_at (store_of v b) h f)) (rw (run_done t v.end left (state_at (store_of v b) h f) k) (does_done source here (state_at (store_of v b) h f))))
 
       -- 7: "50,000 lines were executed and another is due, which is named."
-      pub run-exceeds : left ≤ 0 → f.at < v.end → x ≡ overAt (Halted (Refused TooManyLines) f.line) f.page.number printed v.asked Q₁ logged → Ran t b index T rows s T₁ h.rows x
-      run-exceeds z k i =
-          ran_over f T₁ h.rows Q₁ printed logged (stateAt (store_of v b) h f) (Halted (Refused TooManyLines) f.line) x g.logged-most i
-          (finish here (end_of (stateAt (store_of v b) h f) (Halted (Refused TooManyLines) f.line)) (rw (run-late t v.end left (stateAt (store_of v b) h f) z k) (does-stop source here TooManyLines f.line)))
+      pub run_exceeds : left ≤ 0 → f.at < v.end → x ≡ over_at (Halted (Refused TooManyLines) f.line) f.page.number printed v.asked Q₁ logged → Ran t b index T rows s T₁ h.rows x
+      run_exceeds z k i =
+          ran_over f T₁ h.rows Q₁ printed logged (state_at (store_of v b) h f) (Halted (Refused TooManyLines) f.line) x g.logged_most i
+          (finish here (end_of (state_at (store_of v b) h f) (Halted (Refused TooManyLines) f.line)) (rw (run_late t v.end left (state_at (store_of v b) h f) z k) (does_stop source here TooManyLines f.line)))
 
       -- the log is full
-      pub run-full : (numbers : List ℤ) (words : List ℕ) → h ≡ held numbers h.rows words → 180 < logged → x ≡ fullAt v.asked Q₁ logged (savedIn v numbers words f left printed logged) → Ran t b index T rows s T₁ h.rows x
-      unfolding fullAt
-      run-full numbers words q k i = subst (Ran t b index T rows s T₁ h.rows) (sym i) (record {
-        few = g.logged-most;
+      pub run_full : (numbers : List ℤ) (words : List ℕ) → h ≡ held numbers h.rows words → 180 < logged → x ≡ full_at v.asked Q₁ logged (saved_in v numbers words f left printed logged) → Ran t b index T rows s T₁ h.rows x
+      unfolding full_at
+      run_full numbers words q k i = subst (Ran t b index T rows s T₁ h.rows) (sym i) (record {
+        few = g.logged_most;
         place = refl;
-        on = λ _. subst (λ (y : Held). Does source (stretch (v.left - left) t v.end (stateIn v rows b)) (fresh T v) here (finished (stateAt (store_of v b) y f))) q so_far;
+        on = λ _. subst (λ (y : Held). Does source (stretch (v.left - left) t v.end (state_in v rows b)) (fresh T v) here (finished (state_at (store_of v b) y f))) q so_far;
         ready = λ _. record {
           stored = r.stored;
           short = r.short;
           kept = r.kept;
           counted = r.counted;
           inside = r.inside;
-          standing = subst (λ (y : Held). Standing t left (stateAt (store_of v b) y f)) q g.standing;
+          standing = subst (λ (y : Held). Standing t left (state_at (store_of v b) y f)) q g.standing;
           room = g.room;
-          asked = asked-fit;
-          rows-held = g.rows-held;
+          asked = asked_fit;
+          rows_held = g.rows_held;
           remembered = subst (λ (y : Held). Remembered t y.words) q g.remembered;
           indexed = r.indexed;
         };
@@ -208,7 +208,7 @@ module _ (t b index T : List ℕ) (rows : List (List ℕ)) (s : Stretch) (r : Ru
         asked = λ _. refl;
         same_end = λ _. refl;
         same_store = λ _. refl;
-        same-places = λ _. refl;
+        same_places = λ _. refl;
         over = λ y. absurd (false≢true (sym y));
       })
 
@@ -216,72 +216,72 @@ module _ (t b index T : List ℕ) (rows : List (List ℕ)) (s : Stretch) (r : Ru
       within : f.at < length t
       within = omega (arith, k, r.inside)
 
-      pub line-ready : LineReady part cells t h f T₁ printed logged
-      line-ready = subst (λ (q : List ℕ). LineReady q cells t h f T₁ printed logged) (sym part-is) (record {
+      pub line_ready : LineReady part cells t h f T₁ printed logged
+      line_ready = subst (λ (q : List ℕ). LineReady q cells t h f T₁ printed logged) (sym part_is) (record {
         kept = subst (Kept (store_of v b)) (sym cells_is) r.kept;
         stored = omega (arith, length-take-le v.len b r.stored, r.short);
         sound = sound_more 50001 (omega (arith, g.standing.most)) g.standing.sound;
         inside = within;
-        rows = g.rows-held;
-        table-words = g.table-words;
+        rows = g.rows_held;
+        table_words = g.table_words;
         remembered = g.remembered;
         room = g.room;
         places = omega (arith, few);
       })
 
-      module _ (h' : Held) (T₂ Q₂ : List ℕ) (o : Lined) (d' : (Executes 332 (lineMeaning t (stateAt part h f)) part h f T₁ printed Q₁ logged (v.places - v.asked) h' T₂ Q₂ o) × Remembered t h'.words) where
-        d : Executes 332 (lineMeaning t (stateAt (store_of v b) h f)) (store_of v b) h f T₁ printed Q₁ logged (v.places - v.asked) h' T₂ Q₂ o
-        d = subst (λ (q : List ℕ). Executes 332 (lineMeaning t (stateAt q h f)) q h f T₁ printed Q₁ logged (v.places - v.asked) h' T₂ Q₂ o) part-is d'.0
+      module _ (h' : Held) (T₂ Q₂ : List ℕ) (o : Lined) (d' : (Executes 332 (line_meaning t (state_at part h f)) part h f T₁ printed Q₁ logged (v.places - v.asked) h' T₂ Q₂ o) × Remembered t h'.words) where
+        d : Executes 332 (line_meaning t (state_at (store_of v b) h f)) (store_of v b) h f T₁ printed Q₁ logged (v.places - v.asked) h' T₂ Q₂ o
+        d = subst (λ (q : List ℕ). Executes 332 (line_meaning t (state_at q h f)) q h f T₁ printed Q₁ logged (v.places - v.asked) h' T₂ Q₂ o) part_is d'.0
 
         abbrev there : Place Question
         there = at T₂ o.printed (questions Q₂) o.asked (v.places - v.asked) o.flow.page.number
 
-        logged-next : o.asked ≤ 512
-        logged-next = omega (arith, d.few, few)
+        logged_next : o.asked ≤ 512
+        logged_next = omega (arith, d.few, few)
 
-        pub places-next : o.asked ≤ v.places - v.asked
-        places-next = left-kept d.does g.places-left
+        pub places_next : o.asked ≤ v.places - v.asked
+        places_next = left_kept d.does g.places_left_law
 
-        pub asked-next : v.asked + o.asked ≤ v.places
-        asked-next = omega (arith, places-next, r.asked)
+        pub asked_next : v.asked + o.asked ≤ v.places
+        asked_next = omega (arith, places_next, r.asked)
 
-        pub text-next : length T₂ ≡ length T
-        text-next = text-kept d.does ∙ g.text_same
+        pub text_next : length T₂ ≡ length T
+        text_next = text_kept d.does ∙ g.text_same
 
         -- the line ended the run
-        pub run-halts : (c : Halt) (l : ℕ) → o.end ≡ Halted c l → (x : Stretch) → x ≡ overAt o.end o.flow.page.number o.printed v.asked Q₂ o.asked → Ran t b index T rows s T₂ h'.rows x
-        run-halts c l y x i =
-            ran_over o.flow T₂ h'.rows Q₂ o.printed o.asked (stateAt (store_of v b) h' o.flow) o.end x logged-next i
-            (finish there (end_of (stateAt (store_of v b) h' o.flow) o.end) (rw (run_more t v.end left (stateAt (store_of v b) h f) z k, y) (then-over (run_from (left - 1) t v.end) (rw y at d.does))))
+        pub run_halts : (c : Halt) (l : ℕ) → o.end ≡ Halted c l → (x : Stretch) → x ≡ over_at o.end o.flow.page.number o.printed v.asked Q₂ o.asked → Ran t b index T rows s T₂ h'.rows x
+        run_halts c l y x i =
+            ran_over o.flow T₂ h'.rows Q₂ o.printed o.asked (state_at (store_of v b) h' o.flow) o.end x logged_next i
+            (finish there (end_of (state_at (store_of v b) h' o.flow) o.end) (rw (run_more t v.end left (state_at (store_of v b) h f) z k, y) (then_over (run_from (left - 1) t v.end) (rw y at d.does))))
 
         module _ (y : o.end ≡ Finished) where
-          line-done : Does source (lineMeaning t (stateAt (store_of v b) h f)) here there (finished (stateAt (store_of v b) h' o.flow))
-          line-done = rw y at d.does
+          line_done : Does source (line_meaning t (state_at (store_of v b) h f)) here there (finished (state_at (store_of v b) h' o.flow))
+          line_done = rw y at d.does
 
-          on-now : On t (50001 - left) (stateAt (store_of v b) h f) (f.page.row - 1)
-          on-now = record { sound = g.standing.sound; next = omega (arith, g.standing.sound.first-row) }
+          on_now : On t (50001 - left) (state_at (store_of v b) h f) (f.page.row - 1)
+          on_now = record { sound = g.standing.sound; next = omega (arith, g.standing.sound.first_row) }
 
-          on-next : (c : ℕ) × On t (50001 - left + 1) (stateAt (store_of v b) h' o.flow) c
-          on-next = yields (pageLimit 60) (f.page.row - 1) (On t (50001 - left + 1)) line-done (line-keeps on-now within)
+          on_next_law : (c : ℕ) × On t (50001 - left + 1) (state_at (store_of v b) h' o.flow) c
+          on_next_law = yields (page_limit 60) (f.page.row - 1) (On t (50001 - left + 1)) line_done (line_keeps on_now within)
 
-          stands : Standing t (left - 1) (stateAt (store_of v b) h' o.flow)
+          stands : Standing t (left - 1) (state_at (store_of v b) h' o.flow)
           stands =
               let w : 50001 - left + 1 ≡ 50001 - (left - 1) = omega (arith, z, g.standing.most) in
-              record { most = omega (arith, g.standing.most); sound = rw w at on-next.1.sound }
+              record { most = omega (arith, g.standing.most); sound = rw w at on_next_law.1.sound }
 
           pub going_next : Going t b v rows T h' o.flow T₂ Q₂ (left - 1) o.printed o.asked
           going_next = record {
             leads = λ j.
                 let w : v.left - left + suc j ≡ v.left - (left - 1) + j = omega (arith, z, g.spent) in
-                leads-next (lineMeaning t (stateAt (store_of v b) h f)) (stretch j t v.end) (rw (w, stretch-more t v.end j (stateAt (store_of v b) h f) k) at (g.leads (suc j))) line-done;
+                leads_next (line_meaning t (state_at (store_of v b) h f)) (stretch j t v.end) (rw (w, stretch_more t v.end j (state_at (store_of v b) h f) k) at (g.leads (suc j))) line_done;
             standing = stands;
-            rows-held = d.rows.0 ∙ g.rows-held;
-            table-words = d.rows.1 ∙ g.table-words;
+            rows_held = d.rows.0 ∙ g.rows_held;
+            table_words = d.rows.1 ∙ g.table_words;
             remembered = d'.1;
-            text_same = text-next;
-            room = room-kept line-done g.room;
+            text_same = text_next;
+            room = room_kept line_done g.room;
             spent = omega (arith, g.spent);
-            logged-most = logged-next;
-            places-left = places-next;
+            logged_most = logged_next;
+            places_left_law = places_next;
             begun = λ _. omega (arith, z, g.spent);
           }

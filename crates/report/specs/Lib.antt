@@ -1,4 +1,4 @@
 pub mod Report
-pub mod inner
+pub mod Inner
 pub mod Reported
 pub mod Rows

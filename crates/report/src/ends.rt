@@ -1,6 +1,6 @@
 // How a stretch ends: the run is over, or the log is full.
 ghost use Rattle.std.specs.Prelude.{◌≡◌, ◌+◌, ◌<◌, ◌^◌};
-ghost use Rattle.report.specs.inner.Start.{overAt, fullAt};
+ghost use Rattle.report.specs.Inner.Start.{over_at, full_at};
 
 use crate::state::{Log, Saved, Stretch};
 use crate::{Report, start};
@@ -16,7 +16,7 @@ pub fn over(
     logged: usize,
 ) -> Stretch
     requires { at + logged < 2 ^ 64 }
-    ensures { result ≡ overAt end page printed at words.now logged }
+    ensures { result ≡ over_at end page printed at words.now logged }
 {
     let saved = start::nothing();
     let words = *words;
@@ -41,7 +41,7 @@ pub fn over(
 
 // The log is full: its questions stand on the read list from a place on, and the run goes on as saved.
 pub fn full(at: usize, words: &[u64; 512], logged: usize, saved: Saved) -> Stretch
-    ensures { result ≡ fullAt at words.now logged saved }
+    ensures { result ≡ full_at at words.now logged saved }
 {
     let words = *words;
     Stretch {

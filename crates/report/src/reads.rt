@@ -1,7 +1,7 @@
 // The read list.
 ghost use Rattle.std.specs.Prelude.{◌≡◌, ◌+◌, ◌≤◌, length, take};
 ghost use Rattle.std.proofs.lemmas.List.Edits.{sets};
-ghost use Rattle.values.specs.inner.Word.{questions};
+ghost use Rattle.values.specs.Inner.Word.{questions};
 
 use crate::state::Log;
 use meaning::question::Question;

@@ -1,7 +1,7 @@
 // The checks, and what the first stretch of a run starts from.
 ghost use Rattle.std.specs.Prelude.{◌≡◌, ◌≤◌, length};
-ghost use Rattle.report.specs.inner.Start.{noLog, startFlow, startSaved, nothingSaved, refusedAt, startedAt};
-ghost use Rattle.report.specs.inner.Begun.{Begun};
+ghost use Rattle.report.specs.Inner.Start.{no_log, start_flow, start_saved, nothing_saved, refused_at, started_at};
+ghost use Rattle.report.specs.Inner.Begun.{Begun};
 
 use crate::Report;
 use crate::state::{Log, Saved, Stretch};
@@ -14,7 +14,7 @@ use template::{Checked, Extent};
 
 // A log without questions.
 fn no_log() -> Log
-    ensures { result ≡ noLog }
+    ensures { result ≡ no_log }
 {
     Log {
         at: 0,
@@ -25,7 +25,7 @@ fn no_log() -> Log
 
 // Where the lines of a run start: "Cells ask in the selected datasource, 1 at the start"; "PAGENUM starts at 1".
 fn flow(run: Extent) -> Flow
-    ensures { result ≡ startFlow run }
+    ensures { result ≡ start_flow run }
 {
     let page = Page::new();
     Flow {
@@ -39,7 +39,7 @@ fn flow(run: Extent) -> Flow
 }
 
 fn saved(run: Extent, len: usize, count: usize, places: usize) -> Saved
-    ensures { result ≡ startSaved run len count places }
+    ensures { result ≡ start_saved run len count places }
 {
     let f = flow(run);
     Saved {
@@ -58,7 +58,7 @@ fn saved(run: Extent, len: usize, count: usize, places: usize) -> Saved
 
 // Nothing is saved: there is no next stretch.
 pub fn nothing() -> Saved
-    ensures { result ≡ nothingSaved }
+    ensures { result ≡ nothing_saved }
 {
     let none = Extent {
         start: 0,
@@ -70,7 +70,7 @@ pub fn nothing() -> Saved
 
 // The call is refused: "A report ending in 1–6 gives pages, text bytes and questions 0".
 fn refused(refusal: Refusal, line: u32) -> Stretch
-    ensures { result ≡ refusedAt refusal line }
+    ensures { result ≡ refused_at refusal line }
 {
     let v = nothing();
     let log = no_log();
@@ -90,7 +90,7 @@ fn refused(refusal: Refusal, line: u32) -> Stretch
 
 // The run may start.
 fn started(run: Extent, len: usize, count: usize, places: usize) -> Stretch
-    ensures { result ≡ startedAt run len count places }
+    ensures { result ≡ started_at run len count places }
 {
     let v = saved(run, len, count, places);
     let log = no_log();

@@ -1,6 +1,6 @@
 // A stretch of lines: as many as the log has places for.
 ghost use Rattle.std.specs.Prelude.{◌≡◌};
-ghost use Rattle.report.specs.inner.Stretch.{RunReady, Ran};
+ghost use Rattle.report.specs.Inner.Stretch.{RunReady, Ran};
 
 use crate::ends;
 use crate::state::{Saved, Stretch};

@@ -14,23 +14,23 @@ use Rattle.scan.specs.declared.digits.Numeral.TheVariants.{Value, NoNumeral}
 use Rattle.scan.specs.declared.run.Class.TheVariants.{Digit}
 use Rattle.scan.specs.Run.{belongs, span}
 use Rattle.scan.specs.Line.{byte_at}
-use Rattle.scan.specs.Value.{valueFrom, value_of}
-use Rattle.scan.specs.readers.Digits.{digitsAt, number_at}
-use Rattle.scan.proofs.DigitLaws.{digit-bounds}
+use Rattle.scan.specs.Value.{value_from, value_of}
+use Rattle.scan.specs.Readers.Digits.{digits_at, number_at}
+use Rattle.scan.proofs.DigitLaws.{digit_bounds}
 
-value_grows : (s : List ℕ) (v : ℕ) → v ≤ valueFrom v s
-unfolding valueFrom
+value_grows : (s : List ℕ) (v : ℕ) → v ≤ value_from v s
+unfolding value_from
 value_grows [] v = omega arith
 value_grows (d ∷ s) v = let h = value_grows s (v * 10 + (d - 48)) in omega (arith, h)
 
 -- a number without a leading zero is at least 1
-first-digit : (s : List ℕ) → (length (span Digit s) ≡ 0 → ⊥) → (get_or s 0 0 ≡ 48 → ⊥) → 1 ≤ value_of (span Digit s)
-unfolding span valueFrom
-first-digit [] c z = absurd (c refl)
-first-digit (b ∷ s) c z = go (belongs Digit b) refl c
+first_digit : (s : List ℕ) → (length (span Digit s) ≡ 0 → ⊥) → (get_or s 0 0 ≡ 48 → ⊥) → 1 ≤ value_of (span Digit s)
+unfolding span value_from
+first_digit [] c z = absurd (c refl)
+first_digit (b ∷ s) c z = go (belongs Digit b) refl c
   where
     go : (t : Bool) → belongs Digit b ≡ t → (length (cond t (b ∷ span Digit s) []) ≡ 0 → ⊥) → 1 ≤ value_of (cond t (b ∷ span Digit s) [])
-    go true e c = let h = value_grows (span Digit s) (0 * 10 + (b - 48)) in omega (arith, h, digit-bounds b e, z)
+    go true e c = let h = value_grows (span Digit s) (0 * 10 + (b - 48)) in omega (arith, h, digit_bounds b e, z)
     go false e c = absurd (c refl)
 
 -- n was read from `at` up to `next`
@@ -43,9 +43,9 @@ abbrev pub Within : ℕ → ℕ → Numeral → Type 0
 Within limit at (Value n next) = Counts limit at n next
 Within limit at NoNumeral = Unit {0}
 
-pub number-within : (l : List ℕ) (at limit : ℕ) → Within limit at (number_at l at limit)
-unfolding number_at digitsAt byte_at
-number-within l at limit = go (eqb (get_or l at 0) 48) refl (eqb (length (span Digit (take 5 (drop at l)))) 0) refl (leb (value_of (span Digit (take 5 (drop at l)))) limit) refl
+pub number_within : (l : List ℕ) (at limit : ℕ) → Within limit at (number_at l at limit)
+unfolding number_at digits_at byte_at
+number_within l at limit = go (eqb (get_or l at 0) 48) refl (eqb (length (span Digit (take 5 (drop at l)))) 0) refl (leb (value_of (span Digit (take 5 (drop at l)))) limit) refl
   where
     front : get_or (take 5 (drop at l)) 0 0 ≡ get_or l at 0
     front = get_or-take 5 (drop at l) 0 0 (omega arith) ∙ get_or-drop at l 0 0 ∙ ap (λ k. get_or l k 0) (add-zero at)
@@ -57,7 +57,7 @@ number-within l at limit = go (eqb (get_or l at 0) 48) refl (eqb (length (span D
     go false x false y true z =
         let some : length (span Digit (take 5 (drop at l))) ≡ 0 → ⊥ = eqb-false (length (span Digit (take 5 (drop at l)))) 0 y in
         record {
-          least = first-digit (take 5 (drop at l)) some (λ e. eqb-false (get_or l at 0) 48 x (subst (λ k. k ≡ 48) front e));
+          least = first_digit (take 5 (drop at l)) some (λ e. eqb-false (get_or l at 0) 48 x (subst (λ k. k ≡ 48) front e));
           most = leb-true (value_of (span Digit (take 5 (drop at l)))) limit z;
           onward = omega (arith, some);
         }

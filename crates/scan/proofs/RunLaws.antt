@@ -12,65 +12,65 @@ use Rattle.scan.specs.Run.{belongs, span}
 use Rattle.scan.specs.Line.{byte_at}
 
 module _ (class : Class) (l : List ℕ) (i : ℕ) where
-  pub span-end : length l ≤ i → span class (drop i l) ≡ []
+  pub span_end : length l ≤ i → span class (drop i l) ≡ []
   unfolding span
-  span-end h = rw (drop_of_length-le l h)
+  span_end h = rw (drop_of_length-le l h)
 
-  pub span-stop : i < length l → belongs class (get_or l i 0) ≡ false → span class (drop i l) ≡ []
+  pub span_stop : i < length l → belongs class (get_or l i 0) ≡ false → span class (drop i l) ≡ []
   unfolding span
-  span-stop h e = rw (drop-cons l i 0 h, e)
+  span_stop h e = rw (drop-cons l i 0 h, e)
 
   pub span_more : i < length l → belongs class (get_or l i 0) ≡ true → span class (drop i l) ≡ get_or l i 0 ∷ span class (drop (i + 1) l)
   unfolding span
   span_more h e = rw (drop-cons l i 0 h, e, add-one)
 
   -- counting: from i on, what the whole has
-  pub counted-end : i + length (span class (drop i l)) ≡ length (span class l) → length l ≤ i → i ≡ length (span class l)
-  counted-end inv h = omega (arith, ap length (span-end h))
+  pub counted_end : i + length (span class (drop i l)) ≡ length (span class l) → length l ≤ i → i ≡ length (span class l)
+  counted_end inv h = omega (arith, ap length (span_end h))
 
   pub counted_stop : i + length (span class (drop i l)) ≡ length (span class l) → i < length l → belongs class (get_or l i 0) ≡ false → i ≡ length (span class l)
-  counted_stop inv h e = omega (arith, ap length (span-stop h e))
+  counted_stop inv h e = omega (arith, ap length (span_stop h e))
 
-  pub counted-more : i + length (span class (drop i l)) ≡ length (span class l) → i < length l → belongs class (get_or l i 0) ≡ true → i + 1 + length (span class (drop (i + 1) l)) ≡ length (span class l)
-  counted-more inv h e = omega (arith, ap length (span_more h e))
+  pub counted_more : i + length (span class (drop i l)) ≡ length (span class l) → i < length l → belongs class (get_or l i 0) ≡ true → i + 1 + length (span class (drop (i + 1) l)) ≡ length (span class l)
+  counted_more inv h e = omega (arith, ap length (span_more h e))
 
 -- a run is the front of its list
-span-front : (class : Class) (s : List ℕ) → (length (span class s) ≤ length s) × (take (length (span class s)) s ≡ span class s)
+span_front : (class : Class) (s : List ℕ) → (length (span class s) ≤ length s) × (take (length (span class s)) s ≡ span class s)
 unfolding span
-span-front class [] = (zero-le, refl)
-span-front class (b ∷ s) = go (belongs class b) refl (span-front class s)
+span_front class [] = (zero-le, refl)
+span_front class (b ∷ s) = go (belongs class b) refl (span_front class s)
   where
     go : (t : Bool) → belongs class b ≡ t → (length (span class s) ≤ length s) × (take (length (span class s)) s ≡ span class s) → (length (span class (b ∷ s)) ≤ length (b ∷ s)) × (take (length (span class (b ∷ s))) (b ∷ s) ≡ span class (b ∷ s))
     go true e (h, q) = rw e (omega arith, ap (λ (r : List ℕ). b ∷ r) q)
     go false e h = rw e (zero-le, refl)
 
-pub length-span : (class : Class) (s : List ℕ) → length (span class s) ≤ length s
-length-span class s = (span-front class s).0
+pub length_span : (class : Class) (s : List ℕ) → length (span class s) ≤ length s
+length_span class s = (span_front class s).0
 
-pub take-span : (class : Class) (s : List ℕ) → take (length (span class s)) s ≡ span class s
-take-span class s = (span-front class s).1
+pub take_span : (class : Class) (s : List ℕ) → take (length (span class s)) s ≡ span class s
+take_span class s = (span_front class s).1
 
 -- a part of a line from its end on is empty
-pub window-end : (l : List ℕ) (n at : ℕ) → length l ≤ at → take n (drop at l) ≡ []
-window-end l n at h = rw (drop_of_length-le l h) (take-nil n)
+pub window_end : (l : List ℕ) (n at : ℕ) → length l ≤ at → take n (drop at l) ≡ []
+window_end l n at h = rw (drop_of_length-le l h) (take-nil n)
 
 -- a run from a place on ends within the line
-pub run-within : (class : Class) (l : List ℕ) (at n : ℕ) → 0 < length (span class (take n (drop at l))) → at + length (span class (take n (drop at l))) ≤ length l
-run-within class l at n h =
-    omega (arith, length-span class (take n (drop at l)), length-take n (drop at l), length-drop at l)
+pub run_within : (class : Class) (l : List ℕ) (at n : ℕ) → 0 < length (span class (take n (drop at l))) → at + length (span class (take n (drop at l))) ≤ length l
+run_within class l at n h =
+    omega (arith, length_span class (take n (drop at l)), length-take n (drop at l), length-drop at l)
 
 -- a byte other than 0 lies in its line
-in-line : (l : List ℕ) (i : ℕ) → 0 < get_or l i 0 → i < length l
-in-line [] zero h = absurd (omega arith)
-in-line [] (suc i) h = absurd (omega arith)
-in-line (a ∷ l) zero h = omega arith
-in-line (a ∷ l) (suc i) h = omega (arith, in-line l i h)
+in_line : (l : List ℕ) (i : ℕ) → 0 < get_or l i 0 → i < length l
+in_line [] zero h = absurd (omega arith)
+in_line [] (suc i) h = absurd (omega arith)
+in_line (a ∷ l) zero h = omega arith
+in_line (a ∷ l) (suc i) h = omega (arith, in_line l i h)
 
-pub byte-within : (l : List ℕ) (i b v : ℕ) → b ≡ byte_at l i → b ≡ v → 0 < v → i < length l
+pub byte_within : (l : List ℕ) (i b v : ℕ) → b ≡ byte_at l i → b ≡ v → 0 < v → i < length l
 unfolding byte_at
-byte-within l i b v e q h = in-line l i (omega arith)
+byte_within l i b v e q h = in_line l i (omega arith)
 
 -- a run in a part of a line is no longer than the line from there on
 pub run_room : (class : Class) (l s : List ℕ) (at n k : ℕ) → k ≡ length (span class s) → s ≡ take n (drop at l) → k ≤ length l - at
 run_room class l s at n k e q =
-    omega (arith, length-span class s, ap length q, length-take n (drop at l), length-drop at l)
+    omega (arith, length_span class s, ap length q, length-take n (drop at l), length-drop at l)

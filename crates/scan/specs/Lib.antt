@@ -2,6 +2,6 @@ pub mod Value
 pub mod Ascii
 pub mod Run
 pub mod Line
-pub mod readers
+pub mod Readers
 pub mod Words
-pub mod inner
+pub mod Inner

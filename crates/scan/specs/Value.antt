@@ -3,9 +3,9 @@ use Rattle.std.specs.Prelude.{List, [], ◌∷◌, ℕ, ◌+◌, ◌-◌, ◌*�
 use Prim.Native.Char.{code}
 
 -- the value of a row of digits behind a value read so far
-unfoldable pub valueFrom : ℕ → List ℕ → ℕ
-valueFrom v [] = v
-valueFrom v (d ∷ s) = valueFrom (v * 10 + (d - code "0")) s
+unfoldable pub value_from : ℕ → List ℕ → ℕ
+value_from v [] = v
+value_from v (d ∷ s) = value_from (v * 10 + (d - code "0")) s
 
 abbrev pub value_of : List ℕ → ℕ
-value_of s = valueFrom 0 s
+value_of s = value_from 0 s

@@ -10,8 +10,8 @@ begins (a ∷ w) [] = false
 begins (a ∷ w) (b ∷ s) = cond (eqb a b) (begins w s) false
 
 -- whether the word w stands in a line at a place
-unfoldable pub standsAt : List ℕ → List ℕ → ℕ → Bool
-standsAt w l at = begins w (drop at l)
+unfoldable pub stands_at : List ℕ → List ℕ → ℕ → Bool
+stands_at w l at = begins w (drop at l)
 
 -- a word, and what it begins, by the line and the place behind the word
 pub record Spelled (A : Type 0) : Type 0 where
@@ -25,4 +25,4 @@ w takes f = record { word = ascii w; form = f }
 -- what the first of some words begins that a line has at a place
 unfoldable pub first_of : {A : Type 0} → A → List (Spelled A) → List ℕ → ℕ → A
 first_of none [] l at = none
-first_of none (e ∷ es) l at = cond (standsAt e.word l at) (e.form l (at + length e.word)) (first_of none es l at)
+first_of none (e ∷ es) l at = cond (stands_at e.word l at) (e.form l (at + length e.word)) (first_of none es l at)

@@ -1,14 +1,14 @@
 // The bytes and lines of a template.
 ghost use Rattle.std.specs.Prelude.{◌≡◌, length};
 ghost use Rattle.scan.specs.Line.{line_of, byte_at, window};
-ghost use Rattle.scan.specs.inner.Bytes.{firstRefused};
+ghost use Rattle.scan.specs.Inner.Bytes.{first_refused};
 
 use crate::run;
 use crate::run::Class;
 
 // Where the first byte is that a template may not have, or the template's length.
 pub fn first_refused(template: &[u8]) -> usize
-    ensures { result ≡ firstRefused template.now }
+    ensures { result ≡ first_refused template.now }
 {
     run::count(template, Class::Allowed)
 }

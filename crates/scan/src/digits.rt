@@ -1,6 +1,6 @@
 // Digits and numbers in a line.
 ghost use Rattle.std.specs.Prelude.{◌≡◌, ◌≤◌, length};
-ghost use Rattle.scan.specs.readers.Digits.{digitsOf, digitsAt, number_at};
+ghost use Rattle.scan.specs.Readers.Digits.{digits_of, digits_at, number_at};
 
 use crate::run::Class;
 use crate::{bytes, run};
@@ -14,7 +14,7 @@ pub struct Digits {
 // The digits at the front: how many, and their value.
 fn digits_of(s: &[u8]) -> Digits
     requires { length s.now ≤ 10 }
-    ensures { result ≡ digitsOf s.now }
+    ensures { result ≡ digits_of s.now }
 {
     let mut count: usize = 0;
     let mut value: usize = 0;
@@ -31,7 +31,7 @@ fn digits_of(s: &[u8]) -> Digits
 
 // The digits at a place, at most `most` and at most ten, which no form exceeds.
 pub fn digits_at(line: &[u8], at: usize, most: usize) -> Digits
-    ensures { result ≡ digitsAt line.now at most }
+    ensures { result ≡ digits_at line.now at most }
 {
     if 10 < most {
         return digits_of(bytes::part(line, at, 10));

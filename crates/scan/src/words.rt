@@ -2,15 +2,15 @@
 ghost use Rattle.std.specs.Prelude.{◌≡◌, ◌*◌, ◌≤◌, length};
 ghost use Rattle.scan.specs.declared.run.Class.TheVariants.{InName};
 ghost use Rattle.scan.specs.Run.{span};
-ghost use Rattle.scan.specs.Words.{standsAt};
-ghost use Rattle.scan.specs.inner.Tables.{word_in, word_at, wordElse};
+ghost use Rattle.scan.specs.Words.{stands_at};
+ghost use Rattle.scan.specs.Inner.Tables.{word_in, word_at, word_else};
 
 use crate::run::Class;
 use crate::{bytes, run};
 
 // Whether the word stands in the line at a place.
 pub fn begins_with(line: &[u8], at: usize, word: &[u8]) -> bool
-    ensures { result ≡ standsAt word.now line.now at }
+    ensures { result ≡ stands_at word.now line.now at }
 {
     let mut j = 0;
     let mut i = at;
@@ -36,7 +36,7 @@ pub enum WordRead {
 
 // Whether the word at the front of a table's row stands in the line at a place.
 fn row_stands(line: &[u8], at: usize, row: &[u8]) -> bool
-    ensures { result ≡ standsAt (span InName row.now) line.now at }
+    ensures { result ≡ stands_at (span InName row.now) line.now at }
 {
     let mut j = 0;
     let mut i = at;
@@ -85,7 +85,7 @@ pub fn word_at(line: &[u8], at: usize, table: &[u8]) -> WordRead
 
 // The word with a number where it stands in the line at a place, else what another search gave.
 pub fn word_or(line: &[u8], at: usize, word: &[u8], k: usize, other: WordRead) -> WordRead
-    ensures { result ≡ wordElse word.now line.now at k other }
+    ensures { result ≡ word_else word.now line.now at k other }
 {
     if begins_with(line, at, word) {
         return WordRead::Word(k, at + word.len());

@@ -1,7 +1,7 @@
 // The report, with a read list of its own.
 ghost use Rattle.std.specs.Prelude.{◌≡◌, length};
 ghost use Rattle.sheet.specs.Sheet.{Sheet};
-ghost use Rattle.sheet.specs.inner.Printed.{Fits, Printed};
+ghost use Rattle.sheet.specs.Inner.Printed.{Fits, Printed};
 
 use meaning::question::Question;
 use report::{Report, reporting};

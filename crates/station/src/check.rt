@@ -1,21 +1,21 @@
 // The checks of a template.
 ghost use Rattle.std.specs.Prelude.{◌≡◌};
-ghost use Rattle.meaning.specs.Number.{refusalNumber};
-ghost use Rattle.template.specs.Order.{templateChecked};
+ghost use Rattle.meaning.specs.Number.{refusal_number};
+ghost use Rattle.template.specs.Order.{template_checked};
 ghost use Rattle.station.specs.Checks.{ToldCheck};
 
 use meaning::refusal::Refusal;
 use template::Checked;
 
 fn refusal_number(refusal: Refusal) -> u32
-    ensures { result ≡ refusalNumber refusal }
+    ensures { result ≡ refusal_number refusal }
 {
     refusal.number() as u32
 }
 
 #[unsafe(no_mangle)]
 pub extern "C" fn station_check(text: &[u8], section: &[u8], line: &mut u32, start: &mut u32) -> u32
-    ensures { ToldCheck (templateChecked text.now section.now) line.new start.new result }
+    ensures { ToldCheck (template_checked text.now section.now) line.new start.new result }
 {
     let checked = template::check(text, section);
     match checked {

@@ -1,7 +1,7 @@
 // Puts and removes.
 ghost use Rattle.std.specs.Prelude.{◌≡◌};
 ghost use Rattle.meaning.specs.Number.{number_of, end_of};
-ghost use Rattle.store.specs.Edit.{put_of, removeOf};
+ghost use Rattle.store.specs.Edit.{put_of, remove_of};
 ghost use Rattle.station.specs.Answers.{ToldEdit};
 
 use meaning::end::Ended;
@@ -35,7 +35,7 @@ pub extern "C" fn station_remove(
     key: &[u8],
     left: &mut usize,
 ) -> u32
-    ensures { ToldEdit (removeOf buffer.old length key.now) buffer.new left.new result }
+    ensures { ToldEdit (remove_of buffer.old length key.now) buffer.new left.new result }
 {
     let edited = store::remove(buffer, length, key);
     *left = edited.length;

@@ -1,6 +1,6 @@
 // Questions to a store.
 ghost use Rattle.cells.specs.Asking.{asked_of};
-ghost use Rattle.station.specs.Answers.{questionOf, ToldParts, ToldAnswer};
+ghost use Rattle.station.specs.Answers.{question_of, ToldParts, ToldAnswer};
 
 use crate::edit;
 use cells::Answered;
@@ -58,7 +58,7 @@ pub extern "C" fn station_ask(
     place: &mut usize,
     count: &mut usize,
 ) -> u32
-    ensures { ToldAnswer (asked_of buffer.now length (questionOf kind datasource parameter item entry)) answered.new value.new place.new count.new result }
+    ensures { ToldAnswer (asked_of buffer.now length (question_of kind datasource parameter item entry)) answered.new value.new place.new count.new result }
 {
     let question = Question {
         kind: kind,

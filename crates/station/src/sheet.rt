@@ -1,7 +1,7 @@
 // A report.
 ghost use Rattle.std.specs.Prelude.{◌≡◌};
 ghost use Rattle.report.specs.Reported.{Reported};
-ghost use Rattle.station.specs.Reports.{reportFrom};
+ghost use Rattle.station.specs.Reports.{report_from};
 
 use meaning::question::Question;
 use report::{Report, reporting};
@@ -14,7 +14,7 @@ fn hand_report<'b>(
     bytes: &'b mut usize,
     questions: &'b mut usize,
 ) -> u32
-    ensures { reportFrom result line.new pages.new bytes.new questions.new ≡ made }
+    ensures { report_from result line.new pages.new bytes.new questions.new ≡ made }
 {
     *line = made.line;
     *pages = made.pages;
@@ -36,7 +36,7 @@ pub extern "C" fn station_report<'a, 'b>(
     bytes: &'b mut usize,
     questions: &'b mut usize,
 ) -> u32
-    ensures { Reported template.now section.now buffer.now length text.old reads.old text.new reads.new (reportFrom result line.new pages.new bytes.new questions.new) }
+    ensures { Reported template.now section.now buffer.now length text.old reads.old text.new reads.new (report_from result line.new pages.new bytes.new questions.new) }
 {
     let made = reporting::report(template, section, buffer, length, text, reads);
     hand_report(made, line, pages, bytes, questions)

@@ -12,7 +12,7 @@ use lib.ListN.{length, get_or, take, drop, get_or-append}
 use lib.Seq.{sets, sets-eq, length-sets, take_at}
 use Rattle.numbers.specs.declared.Number.{Number}
 use Rattle.numbers.specs.declared.Number.TheVariants.{Computed}
-use Rattle.numbers.specs.Result.{Result, resultIn}
+use Rattle.numbers.specs.Result.{Result, result_in}
 use Rattle.numbers.specs.declared.Rounded.{Rounded}
 use Rattle.numbers.specs.declared.Rounded.TheVariants.{Units, OutOfRange}
 use Rattle.meaning.specs.declared.question.Question.{Question}
@@ -20,10 +20,10 @@ use Rattle.cells.specs.declared.Answered.{Answered}
 use Rattle.cells.specs.declared.index.Indexed.{Indexed}
 use Rattle.cells.specs.declared.index.Indexed.TheVariants.{Count, BadStore}
 use Rattle.cells.specs.Cell.{Cell}
-use Rattle.cells.specs.Store.{cellsHeld}
-use Rattle.cells.specs.inner.Index.{Indexes, Answers, Ready, offsets}
-use Rattle.cells.proofs.Replies.{answer-handed, built, not-held, index-ready}
-use Rattle.cells.proofs.Walking.{length-offsets}
+use Rattle.cells.specs.Store.{cells_held}
+use Rattle.cells.specs.Inner.Index.{Indexes, Answers, Ready, offsets}
+use Rattle.cells.proofs.Replies.{answer_handed, built, not_held, index_ready}
+use Rattle.cells.proofs.Walking.{length_offsets}
 use Rattle.template.specs.declared.seek.Skip.{Skip}
 use Rattle.station.specs.Answers.{ToldParts}
 use Rattle.station_testing.specs.Codes.{ToldResult, ToldUnits}
@@ -33,59 +33,59 @@ use Rattle.station_testing.specs.Jumps.{ToldSkip}
 pub told_of : {o o' : Result} {v v' : ℤ} {r : ℕ} → o ≡ o' → ToldResult o v v' r → ToldResult o' v v' r
 told_of e t = rw e at t
 
-pub told-value : {n : Number} {z v v' : ℤ} → n ≡ Computed z → v' ≡ z → ToldResult (resultIn n) v v' 0
-told-value e h = record { number = rw e; value = rw e h }
+pub told_value : {n : Number} {z v v' : ℤ} → n ≡ Computed z → v' ≡ z → ToldResult (result_in n) v v' 0
+told_value e h = record { number = rw e; value = rw e h }
 
-pub units-none : {o : Rounded} {n : ℕ} → o ≡ OutOfRange → ToldUnits o n n false
-units-none e = record { told = rw e; units = rw e }
+pub units_none : {o : Rounded} {n : ℕ} → o ≡ OutOfRange → ToldUnits o n n false
+units_none e = record { told = rw e; units = rw e }
 
-pub units-some : {o : Rounded} {u n : ℕ} → o ≡ Units u → ToldUnits o n u true
-units-some e = record { told = rw e; units = rw e }
+pub units_some : {o : Rounded} {u n : ℕ} → o ≡ Units u → ToldUnits o n u true
+units_some e = record { told = rw e; units = rw e }
 
-pub told-skip : {x : Skip} (s : Skip) → s ≡ x → ToldSkip x s.bytes s.lines
-told-skip s e = record { bytes = ap (λ (y : Skip). y.bytes) e; lines = ap (λ (y : Skip). y.lines) e }
+pub told_skip : {x : Skip} (s : Skip) → s ≡ x → ToldSkip x s.bytes s.lines
+told_skip s e = record { bytes = ap (λ (y : Skip). y.bytes) e; lines = ap (λ (y : Skip). y.lines) e }
 
 -- ---- the index
 
 -- an index of 5,461 places was built
-module _ (b : List ℕ) (len : ℕ) (p p' : List ℕ) (r : Indexed) (x : Indexes p (cellsHeld b len) p' r) where
-  pub index-few : (k : ℕ) → r ≡ Count k → 5461 ≤ length p → k ≤ length p'
-  index-few k e l = (index-ready b len p p' r x k e l).1.room
+module _ (b : List ℕ) (len : ℕ) (p p' : List ℕ) (r : Indexed) (x : Indexes p (cells_held b len) p' r) where
+  pub index_few : (k : ℕ) → r ≡ Count k → 5461 ≤ length p → k ≤ length p'
+  index_few k e l = (index_ready b len p p' r x k e l).1.room
 
   -- n and i are the count and the places that were lent
   module _ (n : ℕ) (i : List ℕ) where
-    pub index-refused : r ≡ BadStore → listing 1 n i ≡ listed i n (cellsHeld b len)
+    pub index_refused : r ≡ BadStore → listing 1 n i ≡ listed i n (cells_held b len)
     unfolding listed
-    index-refused e = rw (not-held b len p p' r x e)
+    index_refused e = rw (not_held b len p p' r x e)
 
     module _ (k : ℕ) (e : r ≡ Count k) where
-      pub index_short : length i < k → listing 16 n i ≡ listed i n (cellsHeld b len)
+      pub index_short : length i < k → listing 16 n i ≡ listed i n (cells_held b len)
       unfolding listed
       index_short h =
           let f = built b len p p' r x k e in
           rw (f.held, lt-ltb (length i) (length f.cells) (omega (arith, f.tally)))
 
-      pub index_listed : 5461 ≤ length p → k ≤ length i → (j : List ℕ) → j ≡ sets i 0 (take (k - 0) (drop 0 p')) → listing 0 k j ≡ listed i n (cellsHeld b len)
+      pub index_listed : 5461 ≤ length p → k ≤ length i → (j : List ℕ) → j ≡ sets i 0 (take (k - 0) (drop 0 p')) → listing 0 k j ≡ listed i n (cells_held b len)
       unfolding listed
       index_listed l h j s =
           let f = built b len p p' r x k e in
           let o : List ℕ = offsets 0 f.cells in
-          let m : length o ≡ length f.cells = length-offsets f.cells 0 in
-          let w : 0 + length o ≤ length p = omega (arith, m, f.tally, index-few k e l, ap length f.filled, length-sets p 0 o) in
+          let m : length o ≡ length f.cells = length_offsets f.cells 0 in
+          let w : 0 + length o ≤ length p = omega (arith, m, f.tally, index_few k e l, ap length f.filled, length-sets p 0 o) in
           let t : take (k - 0) (drop 0 p') ≡ o = ap (take (k - 0)) (f.filled ∙ sets-eq o p 0 w) ∙ take_at o (drop (0 + length o) p) (k - 0) (omega (arith, m, f.tally)) in
           rw (f.held, le-ltb (length i) (length f.cells) (omega (arith, f.tally))) (ap₂ (listing 0) f.tally (s ∙ ap (sets i 0) t))
 
 -- ---- a question over an index
 
-pub told-look-up : {b starts : List ℕ} {count : ℕ} {q : Question} (a : Answered) {k : ℕ} {v : ℤ} {i n : ℕ} → Answers b starts count q a → ToldParts a k v i n → ToldLookUp b starts count q k v i n
-told-look-up {q = q} a {k = k} {v = v} {i = i} {n = n} s h = record { answer = λ len cs ready. subst (λ (x : Answered). ToldParts x k v i n) (answer-handed q a s ready) h }
+pub told_look_up : {b starts : List ℕ} {count : ℕ} {q : Question} (a : Answered) {k : ℕ} {v : ℤ} {i n : ℕ} → Answers b starts count q a → ToldParts a k v i n → ToldLookUp b starts count q k v i n
+told_look_up {q = q} a {k = k} {v = v} {i = i} {n = n} s h = record { answer = λ len cs ready. subst (λ (x : Answered). ToldParts x k v i n) (answer_handed q a s ready) h }
 
 -- where station_index ends with 0, the places are such an index
-pub listed-ready : (b : List ℕ) (len n n' : ℕ) (i j : List ℕ) → listing 0 n' j ≡ listed i n (cellsHeld b len) → (cs : List Cell) × Ready b len j n' cs
+pub listed_ready : (b : List ℕ) (len n n' : ℕ) (i j : List ℕ) → listing 0 n' j ≡ listed i n (cells_held b len) → (cs : List Cell) × Ready b len j n' cs
 unfolding listed
-listed-ready b len n n' i j e = go (cellsHeld b len) refl e
+listed_ready b len n n' i j e = go (cells_held b len) refl e
   where
-    go : (o : Option (List Cell)) → cellsHeld b len ≡ o → listing 0 n' j ≡ listed i n o → (cs : List Cell) × Ready b len j n' cs
+    go : (o : Option (List Cell)) → cells_held b len ≡ o → listing 0 n' j ≡ listed i n o → (cs : List Cell) × Ready b len j n' cs
     go none h e = let z : ◌≡◌ {A = ℕ} 0 1 = ap (λ (x : Listing). x.number) e in absurd (omega arith)
     go (some cs) h e = (cs, fits (ltb (length i) (length cs)) refl e)
       where
@@ -96,12 +96,12 @@ listed-ready b len n n' i j e = go (cellsHeld b len) refl e
         fits true u e = let z : ◌≡◌ {A = ℕ} 0 16 = ap (λ (x : Listing). x.number) e in absurd (omega arith)
         fits false u e =
             let m : n' ≡ length cs = ap (λ (x : Listing). x.count) e in
-            let w : 0 + length o ≤ length i = omega (arith, ltb-false (length i) (length cs) u, length-offsets cs 0) in
+            let w : 0 + length o ≤ length i = omega (arith, ltb-false (length i) (length cs) u, length_offsets cs 0) in
             let s : j ≡ sets i 0 o = ap (λ (x : Listing). x.starts) e in
             let q : j ≡ o ++ drop (0 + length o) i = s ∙ sets-eq o i 0 w in
             record {
               holds = h;
               tally = m;
-              room = omega (arith, m, w, length-offsets cs 0, ap length s, length-sets i 0 o);
-              starts = λ k u. ap (λ (x : List ℕ). get_or x k 0) q ∙ get_or-append o (drop (0 + length o) i) 0 k (omega (arith, m, length-offsets cs 0));
+              room = omega (arith, m, w, length_offsets cs 0, ap length s, length-sets i 0 o);
+              starts = λ k u. ap (λ (x : List ℕ). get_or x k 0) q ∙ get_or-append o (drop (0 + length o) i) 0 k (omega (arith, m, length_offsets cs 0));
             }

@@ -5,8 +5,8 @@ use Rattle.std.proofs.lemmas.List.Edits.{sets}
 use Rattle.meaning.specs.Answer.{missing}
 use Rattle.meaning.specs.declared.question.Question.{Question}
 use Rattle.cells.specs.Cell.{Cell}
-use Rattle.cells.specs.Asking.{questionAllowed, answer, stringStart, handed}
-use Rattle.cells.specs.inner.Index.{Ready, offsets}
+use Rattle.cells.specs.Asking.{question_allowed, answer, string_start, handed}
+use Rattle.cells.specs.Inner.Index.{Ready, offsets}
 use Rattle.station.specs.Answers.{ToldParts}
 
 -- what station_index hands back: its number, the count and the places, whole
@@ -26,4 +26,4 @@ listed i n (some cs) = cond (ltb (length i) (length cs)) (listing 16 n i) (listi
 
 -- over the index of a store in form, the answer of its cells
 pub record ToldLookUp (b starts : List ℕ) (count : ℕ) (q : Question) (k : ℕ) (v : ℤ) (i n : ℕ) : Type 0 where
-  pub answer : (len : ℕ) (cs : List Cell) → Ready b len starts count cs → ToldParts (handed (stringStart q (some cs)) (cond (questionAllowed q) (answer q cs) missing)) k v i n
+  pub answer : (len : ℕ) (cs : List Cell) → Ready b len starts count cs → ToldParts (handed (string_start q (some cs)) (cond (question_allowed q) (answer q cs) missing)) k v i n

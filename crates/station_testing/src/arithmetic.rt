@@ -1,15 +1,15 @@
 // Calculations on integers and decimals.
 ghost use Rattle.std.specs.Prelude.{◌≡◌};
-ghost use Rattle.numbers.specs.Result.{resultIn};
+ghost use Rattle.numbers.specs.Result.{result_in};
 ghost use Rattle.numbers.specs.Parts.{whole_of};
-ghost use Rattle.numbers.specs.Places.{roundedTo};
-ghost use Rattle.station_testing.specs.Codes.{onIntegers, onDecimals, onOne, quantityOf, comparedBy, ToldResult, ToldUnits};
+ghost use Rattle.numbers.specs.Places.{rounded_to};
+ghost use Rattle.station_testing.specs.Codes.{on_integers, on_decimals, on_one, quantity_of, compared_by, ToldResult, ToldUnits};
 
 use numbers::{Number, Quantity, Rounded};
 
 // The number of a calculation; its value, where there is one, goes to `result`.
 fn hand_back(n: Number, res: &mut i64) -> u32
-    ensures { ToldResult (resultIn n) res.old res.new result }
+    ensures { ToldResult (result_in n) res.old res.new result }
 {
     match n {
         Number::Computed(z) => {
@@ -22,7 +22,7 @@ fn hand_back(n: Number, res: &mut i64) -> u32
 }
 
 fn of_integers(operation: u32, a: i64, b: i64) -> Number
-    ensures { resultIn result ≡ onIntegers operation a b }
+    ensures { result_in result ≡ on_integers operation a b }
 {
     if operation == 0 {
         return numbers::integer::add(a, b);
@@ -37,7 +37,7 @@ fn of_integers(operation: u32, a: i64, b: i64) -> Number
 }
 
 fn of_decimals(operation: u32, a: i64, b: i64) -> Number
-    ensures { resultIn result ≡ onDecimals operation a b }
+    ensures { result_in result ≡ on_decimals operation a b }
 {
     if operation == 0 {
         return numbers::decimal::add(a, b);
@@ -52,7 +52,7 @@ fn of_decimals(operation: u32, a: i64, b: i64) -> Number
 }
 
 fn of_one(operation: u32, a: i64) -> Number
-    ensures { resultIn result ≡ onOne operation a }
+    ensures { result_in result ≡ on_one operation a }
 {
     if operation == 0 {
         return numbers::integer::absolute(a);
@@ -65,28 +65,28 @@ fn of_one(operation: u32, a: i64) -> Number
 
 #[unsafe(no_mangle)]
 pub extern "C" fn station_integers(operation: u32, a: i64, b: i64, res: &mut i64) -> u32
-    ensures { ToldResult (onIntegers operation a b) res.old res.new result }
+    ensures { ToldResult (on_integers operation a b) res.old res.new result }
 {
     hand_back(of_integers(operation, a, b), res)
 }
 
 #[unsafe(no_mangle)]
 pub extern "C" fn station_decimals(operation: u32, a: i64, b: i64, res: &mut i64) -> u32
-    ensures { ToldResult (onDecimals operation a b) res.old res.new result }
+    ensures { ToldResult (on_decimals operation a b) res.old res.new result }
 {
     hand_back(of_decimals(operation, a, b), res)
 }
 
 #[unsafe(no_mangle)]
 pub extern "C" fn station_one(operation: u32, a: i64, res: &mut i64) -> u32
-    ensures { ToldResult (onOne operation a) res.old res.new result }
+    ensures { ToldResult (on_one operation a) res.old res.new result }
 {
     hand_back(of_one(operation, a), res)
 }
 
 // A number of the kind that the byte of a cell names.
 pub fn quantity(kind: u8, n: i64) -> Quantity
-    ensures { result ≡ quantityOf kind n }
+    ensures { result ≡ quantity_of kind n }
 {
     if kind == 0x49 {
         return Quantity::Integer(n);
@@ -95,7 +95,7 @@ pub fn quantity(kind: u8, n: i64) -> Quantity
 }
 
 fn compare(test: u32, p: Quantity, q: Quantity) -> bool
-    ensures { result ≡ comparedBy test p q }
+    ensures { result ≡ compared_by test p q }
 {
     if test == 0 {
         return numbers::order::less(p, q);
@@ -108,7 +108,7 @@ fn compare(test: u32, p: Quantity, q: Quantity) -> bool
 
 #[unsafe(no_mangle)]
 pub extern "C" fn station_compare(test: u32, kind: u8, a: i64, other: u8, b: i64) -> bool
-    ensures { result ≡ comparedBy test (quantityOf kind a) (quantityOf other b) }
+    ensures { result ≡ compared_by test (quantity_of kind a) (quantity_of other b) }
 {
     compare(test, quantity(kind, a), quantity(other, b))
 }
@@ -116,7 +116,7 @@ pub extern "C" fn station_compare(test: u32, kind: u8, a: i64, other: u8, b: i64
 // The integer next to a number, toward zero.
 #[unsafe(no_mangle)]
 pub extern "C" fn station_whole(kind: u8, n: i64) -> i64
-    ensures { result ≡ whole_of (quantityOf kind n) }
+    ensures { result ≡ whole_of (quantity_of kind n) }
 {
     numbers::parts::whole(quantity(kind, n))
 }
@@ -124,7 +124,7 @@ pub extern "C" fn station_whole(kind: u8, n: i64) -> i64
 // Whether there is a rounded magnitude; it goes to `units`.
 #[unsafe(no_mangle)]
 pub extern "C" fn station_rounded(kind: u8, n: i64, places: usize, units: &mut u64) -> bool
-    ensures { ToldUnits (roundedTo (quantityOf kind n) places) units.old units.new result }
+    ensures { ToldUnits (rounded_to (quantity_of kind n) places) units.old units.new result }
 {
     let Rounded::Units(u) = numbers::places::rounded(quantity(kind, n), places) else {
         return false;

@@ -2,15 +2,15 @@
 ghost use Rattle.std.specs.Prelude.{◌≡◌, false};
 ghost use Rattle.std.proofs.Math.Option.{none, some};
 ghost use Rattle.fields.specs.Field.{field_of};
-ghost use Rattle.fields.specs.inner.Putting.{Put};
+ghost use Rattle.fields.specs.Inner.Putting.{Put};
 ghost use Rattle.meaning.specs.Answer as G;
-ghost use Rattle.station_testing.specs.Codes.{quantityOf, placesSaid};
+ghost use Rattle.station_testing.specs.Codes.{quantity_of, places_said};
 
 use crate::arithmetic;
 use fields::Places;
 
 fn places_of(said: bool, places: usize) -> Places
-    ensures { result ≡ placesSaid said places }
+    ensures { result ≡ places_said said places }
 {
     if said {
         return Places::Said(places);
@@ -28,7 +28,7 @@ pub extern "C" fn station_number_field(
     kind: u8,
     n: i64,
 ) -> bool
-    ensures { Put buffer.old at (field_of width (placesSaid said places) (some (G.number (quantityOf kind n)))) buffer.new result }
+    ensures { Put buffer.old at (field_of width (places_said said places) (some (G.number (quantity_of kind n)))) buffer.new result }
 {
     let d = places_of(said, places);
     let q = arithmetic::quantity(kind, n);
@@ -42,14 +42,14 @@ pub extern "C" fn station_string_field(
     width: usize,
     bytes: &[u8],
 ) -> bool
-    ensures { Put buffer.old at (field_of width (placesSaid false 0) (some (G.string bytes.now))) buffer.new result }
+    ensures { Put buffer.old at (field_of width (places_said false 0) (some (G.string bytes.now))) buffer.new result }
 {
     fields::string(buffer, at, width, bytes)
 }
 
 #[unsafe(no_mangle)]
 pub extern "C" fn station_missing_field(buffer: &mut [u8], at: usize, width: usize) -> bool
-    ensures { Put buffer.old at (field_of width (placesSaid false 0) none) buffer.new result }
+    ensures { Put buffer.old at (field_of width (places_said false 0) none) buffer.new result }
 {
     fields::missing(buffer, at, width)
 }

@@ -1,8 +1,8 @@
 // The index of a store, and questions over it.
 ghost use Rattle.std.specs.Prelude.{◌≡◌, ◌≤◌, length};
 ghost use Rattle.std.proofs.lemmas.List.Edits.{sets};
-ghost use Rattle.cells.specs.Store.{cellsHeld};
-ghost use Rattle.station.specs.Answers.{questionOf};
+ghost use Rattle.cells.specs.Store.{cells_held};
+ghost use Rattle.station.specs.Answers.{question_of};
 ghost use Rattle.station_testing.specs.Index.{listing, listed, ToldLookUp};
 
 use cells::index::Indexed;
@@ -28,7 +28,7 @@ pub extern "C" fn station_index(
     starts: &mut [u16],
     count: &mut usize,
 ) -> u32
-    ensures { listing result count.new starts.new ≡ listed starts.old count.old (cellsHeld buffer.now length) }
+    ensures { listing result count.new starts.new ≡ listed starts.old count.old (cells_held buffer.now length) }
 {
     let mut found = [0u16; 5461];
     let Indexed::Count(n) = cells::index::build(buffer, length, &mut found) else {
@@ -58,7 +58,7 @@ pub extern "C" fn station_look_up(
     place: &mut usize,
     count: &mut usize,
 )
-    ensures { ToldLookUp buffer.now starts.now known (questionOf kind datasource parameter item entry) answered.new value.new place.new count.new }
+    ensures { ToldLookUp buffer.now starts.now known (question_of kind datasource parameter item entry) answered.new value.new place.new count.new }
 {
     let question = Question {
         kind: kind,
@@ -89,7 +89,7 @@ pub extern "C" fn station_look_up_near(
     count: &mut usize,
     ended: &mut usize,
 )
-    ensures { ToldLookUp buffer.now starts.now known (questionOf kind datasource parameter item entry) answered.new value.new place.new count.new }
+    ensures { ToldLookUp buffer.now starts.now known (question_of kind datasource parameter item entry) answered.new value.new place.new count.new }
 {
     let question = Question {
         kind: kind,

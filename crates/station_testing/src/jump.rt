@@ -1,12 +1,12 @@
 // Where a failed test, an executed $ELSE and a skipped table go on.
 ghost use Rattle.std.specs.Prelude.{◌≡◌};
 ghost use Rattle.template.specs.Seek.{skipped};
-ghost use Rattle.station_testing.specs.Jumps.{soughtOf, ToldSkip};
+ghost use Rattle.station_testing.specs.Jumps.{sought_of, ToldSkip};
 
 use template::seek::Sought;
 
 fn sought_of(code: u32) -> Sought
-    ensures { result ≡ soughtOf code }
+    ensures { result ≡ sought_of code }
 {
     if code == 0 {
         return Sought::Branch;
@@ -20,7 +20,7 @@ fn sought_of(code: u32) -> Sought
 // How many bytes and lines of a part of a template are passed over.
 #[unsafe(no_mangle)]
 pub extern "C" fn station_skip(rest: &[u8], code: u32, bytes: &mut usize, lines: &mut u32)
-    ensures { ToldSkip (skipped rest.now (soughtOf code)) bytes.new lines.new }
+    ensures { ToldSkip (skipped rest.now (sought_of code)) bytes.new lines.new }
 {
     let sought = sought_of(code);
     let skip = template::seek::skip_lines(rest, sought);

@@ -15,43 +15,43 @@ use Rattle.cells.specs.declared.index.Indexed.{Indexed}
 use Rattle.cells.specs.declared.index.Indexed.TheVariants.{Count, BadStore}
 use Rattle.cells.specs.declared.request.Request.{Request}
 use Rattle.cells.specs.declared.request.Request.TheVariants as R
-use Rattle.cells.specs.Cell.{Key, Cell, keyAsNumber, keyNumber, cellBytes, wholeCell, wholeKey}
-use Rattle.cells.specs.Store.{encode, cellsHeld}
+use Rattle.cells.specs.Cell.{Key, Cell, key_as_number, key_number, cell_bytes, whole_cell, whole_key}
+use Rattle.cells.specs.Store.{encode, cells_held}
 use Rattle.cells.specs.Asking.{lookup}
-use Rattle.cells.specs.inner.Index.{Indexes}
-use Rattle.cells.specs.inner.Request.{requested, requestedKey, CellAsked, KeyAsked}
-use Rattle.cells.proofs.Walking.{encode-append}
-use Rattle.cells.proofs.Locating.{HeldAs, held-some}
-use Rattle.cells.proofs.Requests.{whole-some}
-use Rattle.cells.proofs.Replies.{not-held, index-ready, built}
+use Rattle.cells.specs.Inner.Index.{Indexes}
+use Rattle.cells.specs.Inner.Request.{requested, requested_key, CellAsked, KeyAsked}
+use Rattle.cells.proofs.Walking.{encode_append}
+use Rattle.cells.proofs.Locating.{HeldAs, held_some}
+use Rattle.cells.proofs.Requests.{whole_some}
+use Rattle.cells.proofs.Replies.{not_held, index_ready, built}
 use Rattle.store.specs.declared.Slot.{Slot}
-use Rattle.store.specs.Edit.{lower, higher, with, without, refusedEdit, refusedOn, doneOn, written, written_by, writtenOut, fits, putOn, takenOut, removeOn, checkedEdit, put_of, removeOf}
-use Rattle.store.specs.inner.Slot.{replaced, Stretch, SlotOf}
+use Rattle.store.specs.Edit.{lower, higher, with, without, refused_edit, refused_on, done_on, written, written_by, written_out, fits, put_on, taken_out, remove_on, checked_edit, put_of, remove_of}
+use Rattle.store.specs.Inner.Slot.{replaced, Stretch, SlotOf}
 
 -- ---- what the request tells
 
 apart : {k : ℕ} → R.Bad ≡ R.Key k → ⊥
 apart e = let z : ◌≡◌ {A = ℕ} 0 1 = cc in omega arith
 
-bad-cell : (o : Option Cell) → R.Bad ≡ requested o → o ≡ none
+bad_cell : (o : Option Cell) → R.Bad ≡ requested o → o ≡ none
 unfolding requested
-bad-cell none e = refl
-bad-cell (some c) e = absurd (apart e)
+bad_cell none e = refl
+bad_cell (some c) e = absurd (apart e)
 
-good-cell : (k : ℕ) (o : Option Cell) → R.Key k ≡ requested o → (c : Cell) × (o ≡ some c) × (k ≡ keyNumber c)
+good_cell : (k : ℕ) (o : Option Cell) → R.Key k ≡ requested o → (c : Cell) × (o ≡ some c) × (k ≡ key_number c)
 unfolding requested
-good-cell k none e = absurd (apart (sym e))
-good-cell k (some c) e = (c, refl, cc)
+good_cell k none e = absurd (apart (sym e))
+good_cell k (some c) e = (c, refl, cc)
 
-bad-key : (o : Option Key) → R.Bad ≡ requestedKey o → o ≡ none
-unfolding requestedKey
-bad-key none e = refl
-bad-key (some k) e = absurd (apart e)
+bad_key : (o : Option Key) → R.Bad ≡ requested_key o → o ≡ none
+unfolding requested_key
+bad_key none e = refl
+bad_key (some k) e = absurd (apart e)
 
-good-key : (n : ℕ) (o : Option Key) → R.Key n ≡ requestedKey o → (k : Key) × (o ≡ some k) × (n ≡ keyAsNumber k)
-unfolding requestedKey
-good-key n none e = absurd (apart (sym e))
-good-key n (some k) e = (k, refl, cc)
+good_key : (n : ℕ) (o : Option Key) → R.Key n ≡ requested_key o → (k : Key) × (o ≡ some k) × (n ≡ key_as_number k)
+unfolding requested_key
+good_key n none e = absurd (apart (sym e))
+good_key n (some k) e = (k, refl, cc)
 
 -- ---- the bytes of the new store
 
@@ -60,17 +60,17 @@ module _ (b : List ℕ) (n : ℕ) (cs : List Cell) (k at size : ℕ) (t : Stretc
   abbrev right : List ℕ
   right = take (n - (at + size)) (drop (at + size) b)
 
-  left-length : length (encode (lower k cs)) ≡ at
-  left-length = ap length (sym t.left) ∙ length-take-le at b (omega (arith, t.inside, h.inside))
+  left_length : length (encode (lower k cs)) ≡ at
+  left_length = ap length (sym t.left) ∙ length-take-le at b (omega (arith, t.inside, h.inside))
 
-  right-length : length (encode (higher k cs)) ≡ n - (at + size)
-  right-length = ap length (sym t.right) ∙ length-take-le (n - (at + size)) (drop (at + size) b) (omega (arith, length-drop (at + size) b, h.inside))
+  right_length : length (encode (higher k cs)) ≡ n - (at + size)
+  right_length = ap length (sym t.right) ∙ length-take-le (n - (at + size)) (drop (at + size) b) (omega (arith, length-drop (at + size) b, h.inside))
 
   between : (s : List ℕ) (ds : List Cell) → encode ds ≡ encode (lower k cs) ++ (s ++ encode (higher k cs)) → (length (encode ds) ≡ n - size + length s) × (replaced b n at size s ≡ sets b 0 (encode ds ++ replicate (n - length (encode ds)) 0))
   unfolding replaced
   between s ds e =
       let l : length (encode ds) ≡ at + length s + (n - (at + size)) =
-      ap length e ∙ length-append (encode (lower k cs)) (s ++ encode (higher k cs)) ∙ omega (arith, length-append s (encode (higher k cs)), left-length, right-length) in
+      ap length e ∙ length-append (encode (lower k cs)) (s ++ encode (higher k cs)) ∙ omega (arith, length-append s (encode (higher k cs)), left_length, right_length) in
       let z : List ℕ = replicate (n - (at + length s + (n - (at + size)))) 0 in
       let w : take at b ++ (s ++ (right ++ z)) ≡ encode ds ++ z =
       ap₂ (λ (x y : List ℕ). x ++ (s ++ (y ++ z))) t.left t.right
@@ -79,21 +79,21 @@ module _ (b : List ℕ) (n : ℕ) (cs : List Cell) (k at size : ℕ) (t : Stretc
       ∙ ap (λ (x : List ℕ). x ++ z) (sym e) in
       (l ∙ omega (arith, t.inside), ap (sets b 0) w ∙ ap (λ (m : ℕ). sets b 0 (encode ds ++ replicate (n - m) 0)) (sym l))
 
-encode-with : (c : Cell) (cs : List Cell) → encode (with c cs) ≡ encode (lower (keyNumber c) cs) ++ (cellBytes c ++ encode (higher (keyNumber c) cs))
+encode_with : (c : Cell) (cs : List Cell) → encode (with c cs) ≡ encode (lower (key_number c) cs) ++ (cell_bytes c ++ encode (higher (key_number c) cs))
 unfolding with encode
-encode-with c cs = encode-append (lower (keyNumber c) cs) (c ∷ higher (keyNumber c) cs)
+encode_with c cs = encode_append (lower (key_number c) cs) (c ∷ higher (key_number c) cs)
 
-encode-without : (k : ℕ) (cs : List Cell) → encode (without k cs) ≡ encode (lower k cs) ++ ([] ++ encode (higher k cs))
+encode_without : (k : ℕ) (cs : List Cell) → encode (without k cs) ≡ encode (lower k cs) ++ ([] ++ encode (higher k cs))
 unfolding without
-encode-without k cs = encode-append (lower k cs) (higher k cs)
+encode_without k cs = encode_append (lower k cs) (higher k cs)
 
 -- ---- put
 
 pub record Putting (b : List ℕ) (n : ℕ) (s : List ℕ) (at size : ℕ) : Type 0 where
   pub cells : List Cell
   pub cell : Cell
-  pub holds : cellsHeld b n ≡ some cells
-  pub whole : wholeCell s ≡ some cell
+  pub holds : cells_held b n ≡ some cells
+  pub whole : whole_cell s ≡ some cell
   pub inside : at + size ≤ n
   pub short : length s ≤ 25
   pub most : n ≤ 65536
@@ -101,33 +101,33 @@ pub record Putting (b : List ℕ) (n : ℕ) (s : List ℕ) (at size : ℕ) : Typ
   pub size_is : length (encode (with cell cells)) ≡ n - size + length s
   pub bytes : replaced b n at size s ≡ sets b 0 (encode (with cell cells) ++ replicate (n - length (encode (with cell cells))) 0)
 
-module _ (b : List ℕ) (n : ℕ) (p p' : List ℕ) (r : Indexed) (i : Indexes p (cellsHeld b n) p' r) (s : List ℕ) where
-  pub put-bad-store : r ≡ BadStore → refusedEdit b n F.BadStore ≡ put_of b n s
-  unfolding put_of checkedEdit
-  put-bad-store e = rw (not-held b n p p' r i e)
+module _ (b : List ℕ) (n : ℕ) (p p' : List ℕ) (r : Indexed) (i : Indexes p (cells_held b n) p' r) (s : List ℕ) where
+  pub put_bad_store : r ≡ BadStore → refused_edit b n F.BadStore ≡ put_of b n s
+  unfolding put_of checked_edit
+  put_bad_store e = rw (not_held b n p p' r i e)
 
-  pub remove-bad-store : r ≡ BadStore → refusedEdit b n F.BadStore ≡ removeOf b n s
-  unfolding removeOf checkedEdit
-  remove-bad-store e = rw (not-held b n p p' r i e)
+  pub remove_bad_store : r ≡ BadStore → refused_edit b n F.BadStore ≡ remove_of b n s
+  unfolding remove_of checked_edit
+  remove_bad_store e = rw (not_held b n p p' r i e)
 
   module _ (count : ℕ) (e : r ≡ Count count) (q : Request) where
-    pub put-bad-request : CellAsked s (wholeCell s) q → q ≡ R.Bad → refusedEdit b n F.BadRequest ≡ put_of b n s
-    unfolding put_of checkedEdit putOn written_by
-    put-bad-request a u = rw ((built b n p p' r i count e).held, bad-cell (wholeCell s) (sym u ∙ a.told))
+    pub put_bad_request : CellAsked s (whole_cell s) q → q ≡ R.Bad → refused_edit b n F.BadRequest ≡ put_of b n s
+    unfolding put_of checked_edit put_on written_by
+    put_bad_request a u = rw ((built b n p p' r i count e).held, bad_cell (whole_cell s) (sym u ∙ a.told))
 
-    pub remove-bad-request : KeyAsked (wholeKey s) q → q ≡ R.Bad → refusedEdit b n F.BadRequest ≡ removeOf b n s
-    unfolding removeOf checkedEdit removeOn written_by
-    remove-bad-request a u = rw ((built b n p p' r i count e).held, bad-key (wholeKey s) (sym u ∙ a.told))
+    pub remove_bad_request : KeyAsked (whole_key s) q → q ≡ R.Bad → refused_edit b n F.BadRequest ≡ remove_of b n s
+    unfolding remove_of checked_edit remove_on written_by
+    remove_bad_request a u = rw ((built b n p p' r i count e).held, bad_key (whole_key s) (sym u ∙ a.told))
 
     module _ (l : 5461 ≤ length p) (k : ℕ) (u : q ≡ R.Key k) (t : Slot) (o : SlotOf b n p' count k t) where
-      pub putting : CellAsked s (wholeCell s) q → Putting b n s t.at t.size
+      pub putting : CellAsked s (whole_cell s) q → Putting b n s t.at t.size
       putting a =
-          let g = index-ready b n p p' r i count e l in
-          let c = good-cell k (wholeCell s) (sym u ∙ a.told) in
-          let h = held-some b n g.0 g.1.holds in
-          let w = whole-some s c.0 c.1 in
-          let f : Stretch b n g.0 (keyNumber c.0) t.at t.size = subst (λ (x : ℕ). Stretch b n g.0 x t.at t.size) c.2 (o.stretch g.0 g.1) in
-          let m = between b n g.0 (keyNumber c.0) t.at t.size f h s (with c.0 g.0) (encode-with c.0 g.0 ∙ ap (λ (x : List ℕ). encode (lower (keyNumber c.0) g.0) ++ (x ++ encode (higher (keyNumber c.0) g.0))) (sym w.bytes)) in
+          let g = index_ready b n p p' r i count e l in
+          let c = good_cell k (whole_cell s) (sym u ∙ a.told) in
+          let h = held_some b n g.0 g.1.holds in
+          let w = whole_some s c.0 c.1 in
+          let f : Stretch b n g.0 (key_number c.0) t.at t.size = subst (λ (x : ℕ). Stretch b n g.0 x t.at t.size) c.2 (o.stretch g.0 g.1) in
+          let m = between b n g.0 (key_number c.0) t.at t.size f h s (with c.0 g.0) (encode_with c.0 g.0 ∙ ap (λ (x : List ℕ). encode (lower (key_number c.0) g.0) ++ (x ++ encode (higher (key_number c.0) g.0))) (sym w.bytes)) in
           record {
             cells = g.0;
             cell = c.0;
@@ -141,46 +141,46 @@ module _ (b : List ℕ) (n : ℕ) (p p' : List ℕ) (r : Indexed) (i : Indexes p
             bytes = m.1;
           }
 
-      pub remove-none : KeyAsked (wholeKey s) q → t.size < 1 → refusedEdit b n F.NoCell ≡ removeOf b n s
-      unfolding removeOf checkedEdit removeOn takenOut written_by
-      remove-none a z =
-          let g = index-ready b n p p' r i count e l in
-          let c = good-key k (wholeKey s) (sym u ∙ a.told) in
+      pub remove_none : KeyAsked (whole_key s) q → t.size < 1 → refused_edit b n F.NoCell ≡ remove_of b n s
+      unfolding remove_of checked_edit remove_on taken_out written_by
+      remove_none a z =
+          let g = index_ready b n p p' r i count e l in
+          let c = good_key k (whole_key s) (sym u ∙ a.told) in
           let f = o.stretch g.0 g.1 in
-          let y : lookup (keyAsNumber c.0) g.0 ≡ none = ap (λ (x : ℕ). lookup x g.0) (sym c.2) ∙ f.missing (omega arith) in
+          let y : lookup (key_as_number c.0) g.0 ≡ none = ap (λ (x : ℕ). lookup x g.0) (sym c.2) ∙ f.missing (omega arith) in
           rw (g.1.holds, c.1, y)
 
-      pub slot-inside : (t.at + t.size ≤ n) × (n ≤ length b)
-      slot-inside =
-          let g = index-ready b n p p' r i count e l in
-          ((o.stretch g.0 g.1).inside, (held-some b n g.0 g.1.holds).inside)
+      pub slot_inside : (t.at + t.size ≤ n) × (n ≤ length b)
+      slot_inside =
+          let g = index_ready b n p p' r i count e l in
+          ((o.stretch g.0 g.1).inside, (held_some b n g.0 g.1.holds).inside)
 
-      pub remove-done : KeyAsked (wholeKey s) q → 1 ≤ t.size → (b' : List ℕ) → b' ≡ replaced b n t.at t.size [] → record { end = Finished; length = n - t.size; buffer = b' } ≡ removeOf b n s
-      unfolding removeOf checkedEdit removeOn takenOut written_by written
-      remove-done a z b' y =
-          let g = index-ready b n p p' r i count e l in
-          let c = good-key k (wholeKey s) (sym u ∙ a.told) in
-          let f : Stretch b n g.0 (keyAsNumber c.0) t.at t.size = subst (λ (x : ℕ). Stretch b n g.0 x t.at t.size) c.2 (o.stretch g.0 g.1) in
+      pub remove_done : KeyAsked (whole_key s) q → 1 ≤ t.size → (b' : List ℕ) → b' ≡ replaced b n t.at t.size [] → record { end = Finished; length = n - t.size; buffer = b' } ≡ remove_of b n s
+      unfolding remove_of checked_edit remove_on taken_out written_by written
+      remove_done a z b' y =
+          let g = index_ready b n p p' r i count e l in
+          let c = good_key k (whole_key s) (sym u ∙ a.told) in
+          let f : Stretch b n g.0 (key_as_number c.0) t.at t.size = subst (λ (x : ℕ). Stretch b n g.0 x t.at t.size) c.2 (o.stretch g.0 g.1) in
           let v = f.found z in
-          let m = between b n g.0 (keyAsNumber c.0) t.at t.size f (held-some b n g.0 g.1.holds) [] (without (keyAsNumber c.0) g.0) (encode-without (keyAsNumber c.0) g.0) in
-          let x : n - t.size ≡ length (encode (without (keyAsNumber c.0) g.0)) = omega (arith, m.0) in
+          let m = between b n g.0 (key_as_number c.0) t.at t.size f (held_some b n g.0 g.1.holds) [] (without (key_as_number c.0) g.0) (encode_without (key_as_number c.0) g.0) in
+          let x : n - t.size ≡ length (encode (without (key_as_number c.0) g.0)) = omega (arith, m.0) in
           rw (g.1.holds, c.1, v.1) (λ j. record { end = Finished; length = x j; buffer = (y ∙ m.1) j })
 
 module _ (b : List ℕ) (n : ℕ) (s : List ℕ) (at size : ℕ) (w : Putting b n s at size) where
-  pub put_full : length b < n - size + length s → refusedEdit b n F.StoreFull ≡ put_of b n s
-  unfolding put_of checkedEdit putOn fits written_by
+  pub put_full : length b < n - size + length s → refused_edit b n F.StoreFull ≡ put_of b n s
+  unfolding put_of checked_edit put_on fits written_by
   put_full h = rw (w.holds, w.whole, w.size_is, lt-leb (n - size + length s) (length b) h)
 
-  pub put-over : 65536 < n - size + length s → refusedEdit b n F.StoreFull ≡ put_of b n s
-  unfolding put_of checkedEdit putOn fits written_by
-  put-over h = rw (w.holds, w.whole, w.size_is, lt-leb (n - size + length s) 65536 h) (go (leb (n - size + length s) (length b)))
+  pub put_over : 65536 < n - size + length s → refused_edit b n F.StoreFull ≡ put_of b n s
+  unfolding put_of checked_edit put_on fits written_by
+  put_over h = rw (w.holds, w.whole, w.size_is, lt-leb (n - size + length s) 65536 h) (go (leb (n - size + length s) (length b)))
     where
-      go : (t : Bool) → refusedEdit b n F.StoreFull ≡ writtenOut b n (cond (t && false) (doneOn (with w.cell w.cells)) (refusedOn F.StoreFull w.cells))
+      go : (t : Bool) → refused_edit b n F.StoreFull ≡ written_out b n (cond (t && false) (done_on (with w.cell w.cells)) (refused_on F.StoreFull w.cells))
       go true = refl
       go false = refl
 
-  pub put-done : n - size + length s ≤ length b → n - size + length s ≤ 65536 → (b' : List ℕ) → b' ≡ replaced b n at size s → record { end = Finished; length = n - size + length s; buffer = b' } ≡ put_of b n s
-  unfolding put_of checkedEdit putOn fits written_by written
-  put-done h k b' e =
+  pub put_done : n - size + length s ≤ length b → n - size + length s ≤ 65536 → (b' : List ℕ) → b' ≡ replaced b n at size s → record { end = Finished; length = n - size + length s; buffer = b' } ≡ put_of b n s
+  unfolding put_of checked_edit put_on fits written_by written
+  put_done h k b' e =
       rw (w.holds, w.whole, le-leb (length (encode (with w.cell w.cells))) (length b) (omega (arith, w.size_is)), le-leb (length (encode (with w.cell w.cells))) 65536 (omega (arith, w.size_is)))
       (λ j. record { end = Finished; length = sym w.size_is j; buffer = (e ∙ w.bytes) j })

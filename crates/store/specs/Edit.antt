@@ -6,22 +6,22 @@ use Rattle.meaning.specs.declared.refusal.Refusal.{Refusal}
 use Rattle.meaning.specs.declared.refusal.Refusal.TheVariants.{BadStore, BadRequest, StoreFull, NoCell}
 use Rattle.meaning.specs.declared.end.Ended.{Ended}
 use Rattle.meaning.specs.declared.end.Ended.TheVariants.{Finished, Halted}
-use Rattle.cells.specs.Cell.{Key, Cell, keyAsNumber, keyNumber, wholeCell, wholeKey}
-use Rattle.cells.specs.Store.{capacity, encode, cellsHeld}
-use Rattle.cells.specs.Asking.{refusedWith, lookup}
+use Rattle.cells.specs.Cell.{Key, Cell, key_as_number, key_number, whole_cell, whole_key}
+use Rattle.cells.specs.Store.{capacity, encode, cells_held}
+use Rattle.cells.specs.Asking.{refused_with, lookup}
 use Rattle.store.specs.declared.Edited.{Edited}
 
 -- the cells whose keys are below n, and above n
 unfoldable pub lower : ℕ → List Cell → List Cell
 lower n [] = []
-lower n (c ∷ cs) = cond (ltb (keyNumber c) n) (c ∷ lower n cs) (lower n cs)
+lower n (c ∷ cs) = cond (ltb (key_number c) n) (c ∷ lower n cs) (lower n cs)
 
 unfoldable pub higher : ℕ → List Cell → List Cell
 higher n [] = []
-higher n (c ∷ cs) = cond (ltb n (keyNumber c)) (c ∷ higher n cs) (higher n cs)
+higher n (c ∷ cs) = cond (ltb n (key_number c)) (c ∷ higher n cs) (higher n cs)
 
 unfoldable pub with : Cell → List Cell → List Cell
-with c cs = lower (keyNumber c) cs ++ (c ∷ higher (keyNumber c) cs)
+with c cs = lower (key_number c) cs ++ (c ∷ higher (key_number c) cs)
 
 unfoldable pub without : ℕ → List Cell → List Cell
 without n cs = lower n cs ++ higher n cs
@@ -32,30 +32,30 @@ pub record CellEdit : Type 0 where
   pub left : List Cell
 
 -- "Refused edits change nothing"
-abbrev pub refusedOn : Refusal → List Cell → CellEdit
-refusedOn e cs = record { end = refusedWith e; left = cs }
+abbrev pub refused_on : Refusal → List Cell → CellEdit
+refused_on e cs = record { end = refused_with e; left = cs }
 
-abbrev pub doneOn : List Cell → CellEdit
-doneOn cs = record { end = Finished; left = cs }
+abbrev pub done_on : List Cell → CellEdit
+done_on cs = record { end = Finished; left = cs }
 
 -- 16: "A put would pass the buffer or 65,536 bytes." The buffer has `size` bytes.
 unfoldable pub fits : ℕ → List Cell → Bool
 fits size cs = leb (length (encode cs)) size && leb (length (encode cs)) capacity
 
 -- 15, then 16
-unfoldable pub putOn : ℕ → Option Cell → List Cell → CellEdit
-putOn size none cs = refusedOn BadRequest cs
-putOn size (some c) cs = cond (fits size (with c cs)) (doneOn (with c cs)) (refusedOn StoreFull cs)
+unfoldable pub put_on : ℕ → Option Cell → List Cell → CellEdit
+put_on size none cs = refused_on BadRequest cs
+put_on size (some c) cs = cond (fits size (with c cs)) (done_on (with c cs)) (refused_on StoreFull cs)
 
 -- 17: "The key to remove has no cell."
-unfoldable pub takenOut : ℕ → List Cell → Option Cell → CellEdit
-takenOut k cs none = refusedOn NoCell cs
-takenOut k cs (some c) = doneOn (without k cs)
+unfoldable pub taken_out : ℕ → List Cell → Option Cell → CellEdit
+taken_out k cs none = refused_on NoCell cs
+taken_out k cs (some c) = done_on (without k cs)
 
 -- 15, then 17
-unfoldable pub removeOn : Option Key → List Cell → CellEdit
-removeOn none cs = refusedOn BadRequest cs
-removeOn (some k) cs = takenOut (keyAsNumber k) cs (lookup (keyAsNumber k) cs)
+unfoldable pub remove_on : Option Key → List Cell → CellEdit
+remove_on none cs = refused_on BadRequest cs
+remove_on (some k) cs = taken_out (key_as_number k) cs (lookup (key_as_number k) cs)
 
 -- What an edit hands back: how it ended, the length, and the buffer.
 pub record Edit : Type 0 where
@@ -64,8 +64,8 @@ pub record Edit : Type 0 where
   pub buffer : List ℕ
 
 -- "hand back the old length"
-abbrev pub refusedEdit : List ℕ → ℕ → Refusal → Edit
-refusedEdit b n e = record { end = refusedWith e; length = n; buffer = b }
+abbrev pub refused_edit : List ℕ → ℕ → Refusal → Edit
+refused_edit b n e = record { end = refused_with e; length = n; buffer = b }
 
 -- "Where either shortens the store, bytes from the new length to the old become zero. Bytes past both lengths stay."
 unfoldable pub written : List ℕ → ℕ → List Cell → Edit
@@ -81,20 +81,20 @@ unfoldable pub written_by : List ℕ → ℕ → List Cell → Ended → Edit
 written_by b n cs Finished = written b n cs
 written_by b n cs (Halted h l) = record { end = Halted h l; length = n; buffer = b }
 
-abbrev pub writtenOut : List ℕ → ℕ → CellEdit → Edit
-writtenOut b n x = written_by b n x.left x.end
+abbrev pub written_out : List ℕ → ℕ → CellEdit → Edit
+written_out b n x = written_by b n x.left x.end
 
 -- 1, before the others: "Ask, put and remove check 1, 15, 16, 17."
-unfoldable pub checkedEdit : List ℕ → ℕ → (List Cell → CellEdit) → Option (List Cell) → Edit
-checkedEdit b n f none = refusedEdit b n BadStore
-checkedEdit b n f (some cs) = writtenOut b n (f cs)
+unfoldable pub checked_edit : List ℕ → ℕ → (List Cell → CellEdit) → Option (List Cell) → Edit
+checked_edit b n f none = refused_edit b n BadStore
+checked_edit b n f (some cs) = written_out b n (f cs)
 
 -- put and remove, on a buffer and a length, with the bytes of a cell or a key
 unfoldable pub put_of : List ℕ → ℕ → List ℕ → Edit
-put_of b n s = checkedEdit b n (putOn (length b) (wholeCell s)) (cellsHeld b n)
+put_of b n s = checked_edit b n (put_on (length b) (whole_cell s)) (cells_held b n)
 
-unfoldable pub removeOf : List ℕ → ℕ → List ℕ → Edit
-removeOf b n s = checkedEdit b n (removeOn (wholeKey s)) (cellsHeld b n)
+unfoldable pub remove_of : List ℕ → ℕ → List ℕ → Edit
+remove_of b n s = checked_edit b n (remove_on (whole_key s)) (cells_held b n)
 
 -- what a call handed back, as an edit
 abbrev pub edit : Edited → List ℕ → Edit

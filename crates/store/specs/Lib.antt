@@ -1,3 +1,3 @@
 pub mod Edit
-pub mod inner
+pub mod Inner
 pub mod Rows

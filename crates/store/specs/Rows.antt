@@ -3,41 +3,41 @@ use Rattle.std.specs.Prelude.{◌≡◌, refl, List, [], ◌∷◌, ◌++◌, �
 use Rattle.meaning.specs.declared.refusal.Refusal.TheVariants.{BadStore, BadRequest, StoreFull, NoCell}
 use Rattle.meaning.specs.declared.end.Ended.TheVariants.{Finished}
 use Rattle.numbers.specs.Range.{within}
-use Rattle.cells.specs.Bytes.{pair, quad, octet, pair_at, quadAt, octetAt, inComplement, fromComplement, begins, equalBytes}
-use Rattle.cells.specs.Cell.{between, keyAllowed, keyBytes, keyAsNumber, each, valueAllowed, cellAllowed, kindByte, valueBytes, cellBytes, key_at, cellBy, cell_of, passing, front, wholeCell, wholeKey}
-use Rattle.cells.specs.Store.{encode, above, rising, withFirst, cellRun, ordered, cells, cellsHeld}
+use Rattle.cells.specs.Bytes.{pair, quad, octet, pair_at, quad_from, octet_at, in_complement, from_complement, begins, equal_bytes}
+use Rattle.cells.specs.Cell.{between, key_allowed, key_bytes, key_as_number, each, value_allowed, cell_allowed, kind_byte, value_bytes, cell_bytes, key_at, cell_by, cell_of, passing, front, whole_cell, whole_key}
+use Rattle.cells.specs.Store.{encode, above, rising, with_first, cell_run, ordered, cells, cells_held}
 use Rattle.cells.specs.Asking.{lookup}
-use Rattle.store.specs.Edit.{lower, higher, with, without, refusedEdit, written, fits, putOn, takenOut, removeOn, written_by, checkedEdit, put_of, removeOf}
+use Rattle.store.specs.Edit.{lower, higher, with, without, refused_edit, written, fits, put_on, taken_out, remove_on, written_by, checked_edit, put_of, remove_of}
 
 -- two integers, and a string with the first one's key
-abbrev firstCell : List ℕ
-firstCell = 73 ∷ 1 ∷ 0 ∷ 1 ∷ 0 ∷ 0 ∷ 0 ∷ 0 ∷ 0 ∷ 0 ∷ 0 ∷ 5 ∷ []
+abbrev first_cell : List ℕ
+first_cell = 73 ∷ 1 ∷ 0 ∷ 1 ∷ 0 ∷ 0 ∷ 0 ∷ 0 ∷ 0 ∷ 0 ∷ 0 ∷ 5 ∷ []
 
-abbrev secondCell : List ℕ
-secondCell = 73 ∷ 1 ∷ 0 ∷ 2 ∷ 0 ∷ 0 ∷ 0 ∷ 0 ∷ 0 ∷ 0 ∷ 0 ∷ 6 ∷ []
+abbrev second_cell : List ℕ
+second_cell = 73 ∷ 1 ∷ 0 ∷ 2 ∷ 0 ∷ 0 ∷ 0 ∷ 0 ∷ 0 ∷ 0 ∷ 0 ∷ 6 ∷ []
 
-abbrev stringCell : List ℕ
-stringCell = 83 ∷ 1 ∷ 0 ∷ 1 ∷ 0 ∷ 0 ∷ 0 ∷ 0 ∷ 1 ∷ 65 ∷ replicate 15 0
+abbrev string_cell : List ℕ
+string_cell = 83 ∷ 1 ∷ 0 ∷ 1 ∷ 0 ∷ 0 ∷ 0 ∷ 0 ∷ 1 ∷ 65 ∷ replicate 15 0
 
-abbrev firstKey : List ℕ
-firstKey = 1 ∷ 0 ∷ 1 ∷ 0 ∷ 0 ∷ 0 ∷ 0 ∷ []
+abbrev first_key : List ℕ
+first_key = 1 ∷ 0 ∷ 1 ∷ 0 ∷ 0 ∷ 0 ∷ 0 ∷ []
 
 abbrev Rows : Type 0
 Rows =
     -- into an empty store; before a cell; in place of one, with a longer and a shorter value
-    (put_of (replicate 14 9) 0 secondCell ≡ record { end = Finished; length = 12; buffer = secondCell ++ (9 ∷ 9 ∷ []) })
-    × (put_of (secondCell ++ replicate 12 9) 12 firstCell ≡ record { end = Finished; length = 24; buffer = firstCell ++ secondCell })
-    × (put_of (firstCell ++ replicate 14 9) 12 stringCell ≡ record { end = Finished; length = 25; buffer = stringCell ++ (9 ∷ []) })
-    × (put_of (stringCell ++ (9 ∷ [])) 25 firstCell ≡ record { end = Finished; length = 12; buffer = firstCell ++ (replicate 13 0 ++ (9 ∷ [])) })
+    (put_of (replicate 14 9) 0 second_cell ≡ record { end = Finished; length = 12; buffer = second_cell ++ (9 ∷ 9 ∷ []) })
+    × (put_of (second_cell ++ replicate 12 9) 12 first_cell ≡ record { end = Finished; length = 24; buffer = first_cell ++ second_cell })
+    × (put_of (first_cell ++ replicate 14 9) 12 string_cell ≡ record { end = Finished; length = 25; buffer = string_cell ++ (9 ∷ []) })
+    × (put_of (string_cell ++ (9 ∷ [])) 25 first_cell ≡ record { end = Finished; length = 12; buffer = first_cell ++ (replicate 13 0 ++ (9 ∷ [])) })
     -- 1, 15, 16
-    × (put_of (firstCell ++ secondCell) 11 firstCell ≡ refusedEdit (firstCell ++ secondCell) 11 BadStore)
-    × (put_of firstCell 13 firstCell ≡ refusedEdit firstCell 13 BadStore)
-    × (put_of firstCell 12 (secondCell ++ (0 ∷ [])) ≡ refusedEdit firstCell 12 BadRequest)
-    × (put_of (firstCell ++ replicate 11 9) 12 secondCell ≡ refusedEdit (firstCell ++ replicate 11 9) 12 StoreFull)
+    × (put_of (first_cell ++ second_cell) 11 first_cell ≡ refused_edit (first_cell ++ second_cell) 11 BadStore)
+    × (put_of first_cell 13 first_cell ≡ refused_edit first_cell 13 BadStore)
+    × (put_of first_cell 12 (second_cell ++ (0 ∷ [])) ≡ refused_edit first_cell 12 BadRequest)
+    × (put_of (first_cell ++ replicate 11 9) 12 second_cell ≡ refused_edit (first_cell ++ replicate 11 9) 12 StoreFull)
     -- removes, and 17
-    × (removeOf (firstCell ++ secondCell) 24 firstKey ≡ record { end = Finished; length = 12; buffer = secondCell ++ replicate 12 0 })
-    × (removeOf secondCell 12 firstKey ≡ refusedEdit secondCell 12 NoCell)
-    × (removeOf secondCell 12 [] ≡ refusedEdit secondCell 12 BadRequest)
+    × (remove_of (first_cell ++ second_cell) 24 first_key ≡ record { end = Finished; length = 12; buffer = second_cell ++ replicate 12 0 })
+    × (remove_of second_cell 12 first_key ≡ refused_edit second_cell 12 NoCell)
+    × (remove_of second_cell 12 [] ≡ refused_edit second_cell 12 BadRequest)
 
 -- The rows hold.
 pub rows : Rows
@@ -46,37 +46,37 @@ unfolding
     quad
     octet
     pair_at
-    quadAt
-    octetAt
-    inComplement
-    fromComplement
+    quad_from
+    octet_at
+    in_complement
+    from_complement
     begins
-    equalBytes
+    equal_bytes
     between
-    keyAllowed
-    keyBytes
-    keyAsNumber
+    key_allowed
+    key_bytes
+    key_as_number
     each
-    valueAllowed
-    cellAllowed
-    kindByte
-    valueBytes
-    cellBytes
+    value_allowed
+    cell_allowed
+    kind_byte
+    value_bytes
+    cell_bytes
     key_at
-    cellBy
+    cell_by
     cell_of
     passing
     front
-    wholeCell
-    wholeKey
+    whole_cell
+    whole_key
     encode
     above
     rising
-    withFirst
-    cellRun
+    with_first
+    cell_run
     ordered
     cells
-    cellsHeld
+    cells_held
     lookup
     lower
     higher
@@ -84,12 +84,12 @@ unfolding
     without
     written
     fits
-    putOn
-    takenOut
-    removeOn
+    put_on
+    taken_out
+    remove_on
     written_by
-    checkedEdit
+    checked_edit
     put_of
-    removeOf
+    remove_of
     within
 rows = (refl, refl, refl, refl, refl, refl, refl, refl, refl, refl, refl)

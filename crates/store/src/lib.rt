@@ -6,8 +6,8 @@
 mod replace; // replace.rt: one stretch of the store in place of another
 
 ghost use Rattle.std.specs.Prelude.{◌≡◌, ◌+◌, ◌<◌, length};
-ghost use Rattle.store.specs.Edit.{put_of, removeOf, edit};
-ghost use Rattle.store.specs.inner.Slot.{SlotOf};
+ghost use Rattle.store.specs.Edit.{put_of, remove_of, edit};
+ghost use Rattle.store.specs.Inner.Slot.{SlotOf};
 
 use cells::index::Indexed;
 use cells::request::Request;
@@ -88,7 +88,7 @@ pub fn put(store: &mut [u8], len: usize, cell: &[u8]) -> Edited
 
 // 1, 15 and 17 are refused: the store stays, with its length.
 pub fn remove(store: &mut [u8], len: usize, key: &[u8]) -> Edited
-    ensures { edit result store.new ≡ removeOf store.old len key.now }
+    ensures { edit result store.new ≡ remove_of store.old len key.now }
 {
     let mut starts = [0u16; 5461];
     let Indexed::Count(count) = index::build(store, len, &mut starts) else {

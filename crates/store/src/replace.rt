@@ -1,6 +1,6 @@
 // One stretch of the store in place of another, with the bytes behind it moved once.
 ghost use Rattle.std.specs.Prelude.{◌≡◌, ◌+◌, ◌-◌, ◌≤◌, length};
-ghost use Rattle.store.specs.inner.Slot.{replaced};
+ghost use Rattle.store.specs.Inner.Slot.{replaced};
 
 // How far `end` lies before `len`, 0 where it doesn't.
 fn excess(len: usize, end: usize) -> usize

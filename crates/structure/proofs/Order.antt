@@ -7,18 +7,18 @@ use Rattle.meaning.specs.declared.refusal.Refusal.TheVariants.{BadTemplate, BadL
 use Rattle.template.specs.declared.Verdict.{Verdict}
 use Rattle.template.specs.declared.Verdict.TheVariants.{Fine, Fault}
 use Rattle.template.specs.Lines.{lines_of}
-use Rattle.template.specs.Verdicts.{bytesCheck}
-use Rattle.template.specs.Checks.{formCheck, nestCheck}
-use Rattle.template.specs.Order.{unlessFault, acceptedRun, sectionChecked, namesChecked, nestingChecked, formsChecked, templateChecked}
-use Rattle.structure.specs.Sections.{repeatedFrom, chosenRun}
-use Rattle.structure.specs.Order.{checkedInOrder}
-use Rattle.structure.proofs.Names.{names-by-form, run-by-form}
+use Rattle.template.specs.Verdicts.{bytes_check}
+use Rattle.template.specs.Checks.{form_check, nest_check}
+use Rattle.template.specs.Order.{unless_fault, accepted_run, section_checked, names_checked, nesting_checked, forms_checked, template_checked}
+use Rattle.structure.specs.Sections.{repeated_from, chosen_run}
+use Rattle.structure.specs.Order.{checked_in_order}
+use Rattle.structure.proofs.Names.{names_by_form, run_by_form}
 
 -- The checks of every template, for every name that a caller gives.
-pub checked-in-order : (t caller : List ℕ) → templateChecked t caller ≡ checkedInOrder t caller
-unfolding templateChecked formsChecked nestingChecked namesChecked sectionChecked checkedInOrder unlessFault
-checked-in-order t caller = ap (unlessFault BadTemplate (bytesCheck t)) (by (formCheck t) refl)
+pub checked_in_order_law : (t caller : List ℕ) → template_checked t caller ≡ checked_in_order t caller
+unfolding template_checked forms_checked nesting_checked names_checked section_checked checked_in_order unless_fault
+checked_in_order_law t caller = ap (unless_fault BadTemplate (bytes_check t)) (by (form_check t) refl)
   where
-    by : (v : Verdict) → formCheck t ≡ v → unlessFault BadLine v (nestingChecked t caller) ≡ unlessFault BadLine v (unlessFault BadNesting (nestCheck t) (unlessFault RepeatedSection (repeatedFrom 1 [] (lines_of t)) (acceptedRun (chosenRun t caller))))
-    by Fine e = rw (names-by-form t e, run-by-form caller t e)
+    by : (v : Verdict) → form_check t ≡ v → unless_fault BadLine v (nesting_checked t caller) ≡ unless_fault BadLine v (unless_fault BadNesting (nest_check t) (unless_fault RepeatedSection (repeated_from 1 [] (lines_of t)) (accepted_run (chosen_run t caller))))
+    by Fine e = rw (names_by_form t e, run_by_form caller t e)
     by (Fault n) e = refl

@@ -3,16 +3,16 @@ use Rattle.std.specs.Prelude.{List, [], ℕ}
 use Rattle.meaning.specs.declared.refusal.Refusal.TheVariants.{BadTemplate, BadLine, BadNesting, RepeatedSection}
 use Rattle.template.specs.declared.Checked.{Checked}
 use Rattle.template.specs.Lines.{lines_of}
-use Rattle.template.specs.Verdicts.{bytesCheck}
-use Rattle.template.specs.Checks.{formCheck, nestCheck}
-use Rattle.template.specs.Order.{unlessFault, acceptedRun}
-use Rattle.structure.specs.Sections.{repeatedFrom, chosenRun}
+use Rattle.template.specs.Verdicts.{bytes_check}
+use Rattle.template.specs.Checks.{form_check, nest_check}
+use Rattle.template.specs.Order.{unless_fault, accepted_run}
+use Rattle.structure.specs.Sections.{repeated_from, chosen_run}
 
 -- 2 to 5, each with its number where it is at fault, then 6 or the run
-unfoldable pub checkedInOrder : List ℕ → List ℕ → Checked
-checkedInOrder t caller =
-    unlessFault BadTemplate (bytesCheck t)
-    (unlessFault BadLine (formCheck t)
-    (unlessFault BadNesting (nestCheck t)
-    (unlessFault RepeatedSection (repeatedFrom 1 [] (lines_of t))
-    (acceptedRun (chosenRun t caller)))))
+unfoldable pub checked_in_order : List ℕ → List ℕ → Checked
+checked_in_order t caller =
+    unless_fault BadTemplate (bytes_check t)
+    (unless_fault BadLine (form_check t)
+    (unless_fault BadNesting (nest_check t)
+    (unless_fault RepeatedSection (repeated_from 1 [] (lines_of t))
+    (accepted_run (chosen_run t caller)))))

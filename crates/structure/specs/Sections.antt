@@ -3,9 +3,9 @@ use Rattle.std.specs.Prelude.{Bool, true, false, cond, List, [], ◌∷◌, ℕ,
 use Rattle.std.proofs.Math.Option.{Option, none, some}
 use Rattle.lines.specs.declared.command.Line.{Line}
 use Rattle.lines.specs.declared.command.Line.TheVariants.{NoForm, Text, Section, Set, IfNot, If, Compare, Else, EndIf, BeginTable, EndTable, Records, Entries, Datasource, NoFormFeed, NewPage, Heading, NoHeading, Remark}
-use Rattle.lines.specs.readers.Command.{parseLine}
-use Rattle.scan.specs.Line.{nextLine}
-use Rattle.template.specs.Name.{sameBytes}
+use Rattle.lines.specs.Readers.Command.{parse_line}
+use Rattle.scan.specs.Line.{next_line}
+use Rattle.template.specs.Name.{same_bytes}
 use Rattle.template.specs.declared.Verdict.{Verdict}
 use Rattle.template.specs.declared.Verdict.TheVariants.{Fine, Fault}
 use Rattle.template.specs.declared.sections.Found.{Found}
@@ -16,69 +16,69 @@ use Rattle.template.specs.Lines.{lines_of}
 use Rattle.template.specs.Sections.{end_at}
 
 -- the name that a form of the line l has, by its first eight characters: "Names are compared by their first eight characters"
-unfoldable pub nameIn : List ℕ → Line → Option (List ℕ)
-nameIn l (Section start end) = some (take 8 (take (end - start) (drop start l)))
-nameIn l NoForm = none
-nameIn l Text = none
-nameIn l (Set o t a) = none
-nameIn l (IfNot a) = none
-nameIn l (If a) = none
-nameIn l (Compare c a b) = none
-nameIn l Else = none
-nameIn l EndIf = none
-nameIn l (BeginTable a) = none
-nameIn l (EndTable k) = none
-nameIn l (Records f) = none
-nameIn l (Entries f) = none
-nameIn l (Datasource i) = none
-nameIn l NoFormFeed = none
-nameIn l (NewPage n) = none
-nameIn l (Heading n at) = none
-nameIn l (NoHeading n) = none
-nameIn l Remark = none
+unfoldable pub name_in : List ℕ → Line → Option (List ℕ)
+name_in l (Section start end) = some (take 8 (take (end - start) (drop start l)))
+name_in l NoForm = none
+name_in l Text = none
+name_in l (Set o t a) = none
+name_in l (IfNot a) = none
+name_in l (If a) = none
+name_in l (Compare c a b) = none
+name_in l Else = none
+name_in l EndIf = none
+name_in l (BeginTable a) = none
+name_in l (EndTable k) = none
+name_in l (Records f) = none
+name_in l (Entries f) = none
+name_in l (Datasource i) = none
+name_in l NoFormFeed = none
+name_in l (NewPage n) = none
+name_in l (Heading n at) = none
+name_in l (NoHeading n) = none
+name_in l Remark = none
 
-abbrev pub nameSpelled : List ℕ → Option (List ℕ)
-nameSpelled l = nameIn l (parseLine l)
+abbrev pub name_spelled : List ℕ → Option (List ℕ)
+name_spelled l = name_in l (parse_line l)
 
-unfoldable pub isIn : List ℕ → List (List ℕ) → Bool
-isIn name [] = false
-isIn name (x ∷ xs) = cond (sameBytes name x) true (isIn name xs)
+unfoldable pub is_in : List ℕ → List (List ℕ) → Bool
+is_in name [] = false
+is_in name (x ∷ xs) = cond (same_bytes name x) true (is_in name xs)
 
 -- 5: "A section name came before; the later line is named": some lines, counted from n, behind sections with the names seen
-unfoldable pub repeatedFrom : ℕ → List (List ℕ) → List (List ℕ) → Verdict
-repeatedFrom n seen [] = Fine
-repeatedFrom n seen (l ∷ ls) =
-    elim (nameSpelled l) [
-      | none ↦ repeatedFrom (suc n) seen ls
-      | some name ↦ cond (isIn name seen) (Fault n) (repeatedFrom (suc n) (name ∷ seen) ls)
+unfoldable pub repeated_from : ℕ → List (List ℕ) → List (List ℕ) → Verdict
+repeated_from n seen [] = Fine
+repeated_from n seen (l ∷ ls) =
+    elim (name_spelled l) [
+      | none ↦ repeated_from (suc n) seen ls
+      | some name ↦ cond (is_in name seen) (Fault n) (repeated_from (suc n) (name ∷ seen) ls)
     ]
 
 -- "The caller's name selects one section; an empty name selects all": any section, or this one
-unfoldable pub isSection : Option (List ℕ) → Bool
-isSection none = false
-isSection (some name) = true
+unfoldable pub is_section : Option (List ℕ) → Bool
+is_section none = false
+is_section (some name) = true
 
-unfoldable pub isNamed : List ℕ → Option (List ℕ) → Bool
-isNamed caller none = false
-isNamed caller (some name) = sameBytes (take 8 caller) name
+unfoldable pub is_named : List ℕ → Option (List ℕ) → Bool
+is_named caller none = false
+is_named caller (some name) = same_bytes (take 8 caller) name
 
 unfoldable pub chooses : List ℕ → List ℕ → Bool
-chooses caller l = cond (eqb (length caller) 0) (isSection (nameSpelled l)) (isNamed caller (nameSpelled l))
+chooses caller l = cond (eqb (length caller) 0) (is_section (name_spelled l)) (is_named caller (name_spelled l))
 
 -- 6: the first of some lines that is chosen: where it starts, and its number; the first line starts at `at` behind n lines
-unfoldable pub chosenFrom : List ℕ → ℕ → ℕ → List (List ℕ) → Found
-chosenFrom caller at n [] = Nowhere
-chosenFrom caller at n (l ∷ ls) = cond (chooses caller l) (At at (suc n)) (chosenFrom caller (at + (length l + 1)) (suc n) ls)
+unfoldable pub chosen_from : List ℕ → ℕ → ℕ → List (List ℕ) → Found
+chosen_from caller at n [] = Nowhere
+chosen_from caller at n (l ∷ ls) = cond (chooses caller l) (At at (suc n)) (chosen_from caller (at + (length l + 1)) (suc n) ls)
 
 -- "to the line before the next $SEC (or to the end)": where the run ends whose $SEC line starts at `at`; "an empty name selects all"
-unfoldable pub chosenEnd : List ℕ → List ℕ → ℕ → ℕ → ℕ
-chosenEnd t caller at n =
-    cond (eqb (length caller) 0) (length t) (end_at t (chosenFrom [] (nextLine t at) n (lines_of (drop (nextLine t at) t))))
+unfoldable pub chosen_end : List ℕ → List ℕ → ℕ → ℕ → ℕ
+chosen_end t caller at n =
+    cond (eqb (length caller) 0) (length t) (end_at t (chosen_from [] (next_line t at) n (lines_of (drop (next_line t at) t))))
 
 -- "A run goes from the selected (or first) $SEC line to the line before the next $SEC (or to the end)"
 unfoldable pub run_of : List ℕ → List ℕ → Found → Selection
-run_of t caller (At at n) = Lines (record { start = at; line = n; until = chosenEnd t caller at n })
+run_of t caller (At at n) = Lines (record { start = at; line = n; until = chosen_end t caller at n })
 run_of t caller Nowhere = NotThere
 
-unfoldable pub chosenRun : List ℕ → List ℕ → Selection
-chosenRun t caller = run_of t caller (chosenFrom caller 0 0 (lines_of t))
+unfoldable pub chosen_run : List ℕ → List ℕ → Selection
+chosen_run t caller = run_of t caller (chosen_from caller 0 0 (lines_of t))

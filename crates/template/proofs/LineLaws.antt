@@ -5,12 +5,12 @@ use Prim.Native.Nat.{ℕ, zero, suc, ◌+◌, ◌-◌, ◌<◌, ◌≤◌}
 use native.Mathlib.Omega.{arith}
 use lib.ListN.{length, take, drop, drop_of_length-le, length-drop}
 use lib.Seq.{drop-drop, take_all}
-use Rattle.scan.specs.Line.{line_of, line_at, nextLine}
-use Rattle.template.specs.Lines.{linesWithin, lines_of}
+use Rattle.scan.specs.Line.{line_of, line_at, next_line}
+use Rattle.template.specs.Lines.{lines_within, lines_of}
 
 -- more than the length is enough
-enough : (f g : ℕ) (t : List ℕ) → length t ≤ f → length t ≤ g → linesWithin f t ≡ linesWithin g t
-unfolding linesWithin
+enough : (f g : ℕ) (t : List ℕ) → length t ≤ f → length t ≤ g → lines_within f t ≡ lines_within g t
+unfolding lines_within
 enough zero zero t h h' = refl
 enough zero (suc g) [] h h' = refl
 enough zero (suc g) (b ∷ t) h h' = absurd (omega arith)
@@ -22,27 +22,27 @@ enough (suc f) (suc g) (b ∷ t) h h' =
     ap (λ (ls : List (List ℕ)). line_of (b ∷ t) ∷ ls) (enough f g (drop k (b ∷ t)) (omega (arith, length-drop k (b ∷ t))) (omega (arith, length-drop k (b ∷ t))))
 
 -- the count of a template's lines is no restriction
-pub any-count : (t : List ℕ) (n : ℕ) → length t ≤ n → linesWithin n t ≡ lines_of t
+pub any_count : (t : List ℕ) (n : ℕ) → length t ≤ n → lines_within n t ≡ lines_of t
 unfolding lines_of
-any-count t n h = enough n (length t) t h (omega arith)
+any_count t n h = enough n (length t) t h (omega arith)
 
 pub lines_none : (t : List ℕ) (at : ℕ) → length t ≤ at → lines_of (drop at t) ≡ []
-unfolding lines_of linesWithin
+unfolding lines_of lines_within
 lines_none t at h = rw (drop_of_length-le t h)
 
-first-line : (s : List ℕ) → 0 < length s → lines_of s ≡ line_of s ∷ lines_of (drop (length (line_of s) + 1) s)
-unfolding lines_of linesWithin
-first-line [] h = absurd (omega arith)
-first-line (b ∷ t) h =
+first_line : (s : List ℕ) → 0 < length s → lines_of s ≡ line_of s ∷ lines_of (drop (length (line_of s) + 1) s)
+unfolding lines_of lines_within
+first_line [] h = absurd (omega arith)
+first_line (b ∷ t) h =
     let k = length (line_of (b ∷ t)) + 1 in
     ap (λ (ls : List (List ℕ)). line_of (b ∷ t) ∷ ls) (enough (length t) (length (drop k (b ∷ t))) (drop k (b ∷ t)) (omega (arith, length-drop k (b ∷ t))) (omega arith))
 
-pub lines_more : (t : List ℕ) (at : ℕ) → at < length t → lines_of (drop at t) ≡ line_at t at ∷ lines_of (drop (nextLine t at) t)
+pub lines_more : (t : List ℕ) (at : ℕ) → at < length t → lines_of (drop at t) ≡ line_at t at ∷ lines_of (drop (next_line t at) t)
 lines_more t at h =
-    let e : at + (length (line_at t at) + 1) ≡ nextLine t at = omega arith in
-    first-line (drop at t) (omega (arith, length-drop at t))
+    let e : at + (length (line_at t at) + 1) ≡ next_line t at = omega arith in
+    first_line (drop at t) (omega (arith, length-drop at t))
     ∙ ap (λ (r : List ℕ). line_at t at ∷ lines_of r) (drop-drop (length (line_at t at) + 1) at t ∙ ap (λ (n : ℕ). drop n t) e)
 
 -- the part of a template from a place on
-pub part-line : (t line : List ℕ) (at : ℕ) → line ≡ line_of (take (length t - at) (drop at t)) → line ≡ line_at t at
-part-line t line at e = e ∙ ap line_of (take_all (length t - at) (drop at t) (omega (arith, length-drop at t)))
+pub part_line : (t line : List ℕ) (at : ℕ) → line ≡ line_of (take (length t - at) (drop at t)) → line ≡ line_at t at
+part_line t line at e = e ∙ ap line_of (take_all (length t - at) (drop at t) (omega (arith, length-drop at t)))

@@ -8,31 +8,31 @@ use lib.ListN.{length}
 use Rattle.scan.specs.Line.{window}
 use Rattle.scan.specs.Words.{begins}
 use Rattle.lines.specs.declared.command.Line.TheVariants.{NoForm, Section}
-use Rattle.lines.specs.readers.Command.{parseLine}
-use Rattle.lines.proofs.SectionLaws.{section-begins, begins-section}
-use Rattle.template.specs.Name.{sectionWord, name_of}
-use Rattle.template.specs.Shape.{shapeIn, shape_of, hasForm, isFormed}
+use Rattle.lines.specs.Readers.Command.{parse_line}
+use Rattle.lines.proofs.SectionLaws.{section_begins, begins_section}
+use Rattle.template.specs.Name.{section_word, name_of}
+use Rattle.template.specs.Shape.{shape_in, shape_of, has_form, is_formed}
 
 -- A line with a form isn't parsed as a line without one.
-pub formed : (l : List ℕ) → isFormed l ≡ true → parseLine l ≡ NoForm → ⊥
-unfolding isFormed shape_of shapeIn hasForm
+pub formed : (l : List ℕ) → is_formed l ≡ true → parse_line l ≡ NoForm → ⊥
+unfolding is_formed shape_of shape_in has_form
 formed l h k = false≢true (rw k at h)
 
-section-formed : (l : List ℕ) (a e : ℕ) → parseLine l ≡ Section a e → isFormed l ≡ true
-unfolding isFormed shape_of shapeIn hasForm
-section-formed l a e k = rw k
+section_formed : (l : List ℕ) (a e : ℕ) → parse_line l ≡ Section a e → is_formed l ≡ true
+unfolding is_formed shape_of shape_in has_form
+section_formed l a e k = rw k
 
 -- The name reaches from behind `$SEC ` to the line's end, and its first eight characters are compared.
-pub section-name : (l : List ℕ) (a e : ℕ) → parseLine l ≡ Section a e → (parseLine l ≡ Section 5 (length l)) × (name_of l ≡ window l 5 8)
+pub section_name : (l : List ℕ) (a e : ℕ) → parse_line l ≡ Section a e → (parse_line l ≡ Section 5 (length l)) × (name_of l ≡ window l 5 8)
 unfolding name_of
-section-name l a e k =
-    let b = section-begins l a e k in
-    (begins-section l b (formed l (section-formed l a e k)), rw b)
+section_name l a e k =
+    let b = section_begins l a e k in
+    (begins_section l b (formed l (section_formed l a e k)), rw b)
 
-pub no_name : (l : List ℕ) → isFormed l ≡ true → (parseLine l ≡ Section 5 (length l) → ⊥) → name_of l ≡ []
+pub no_name : (l : List ℕ) → is_formed l ≡ true → (parse_line l ≡ Section 5 (length l) → ⊥) → name_of l ≡ []
 unfolding name_of
-no_name l h n = go (begins sectionWord l) refl
+no_name l h n = go (begins section_word l) refl
   where
-    go : (t : Bool) → begins sectionWord l ≡ t → cond t (window l 5 8) [] ≡ []
-    go true e = absurd (n (begins-section l e (formed l h)))
+    go : (t : Bool) → begins section_word l ≡ t → cond t (window l 5 8) [] ≡ []
+    go true e = absurd (n (begins_section l e (formed l h)))
     go false e = refl

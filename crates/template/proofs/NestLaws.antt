@@ -15,10 +15,10 @@ use Rattle.nesting.specs.declared.Step.TheVariants.{Went, Wrong}
 use Rattle.template.specs.Lines.{lines_of}
 use Rattle.template.specs.Walk.{walk}
 use Rattle.template.specs.Shape.{shape_of}
-use Rattle.nesting.specs.Nest.{Mark, testsOpen, tablesOpen, behind}
-use Rattle.nesting.specs.inner.Open.{code, HoldsOpen, Follows, Steps, Ends}
-use Rattle.template.specs.Checks.{nestStep, nestEnd, nestCheck}
-use Rattle.template.proofs.WalkLaws.{walk_end, walk_here, walk-later}
+use Rattle.nesting.specs.Nest.{Mark, tests_open, tables_open, behind}
+use Rattle.nesting.specs.Inner.Open.{code, HoldsOpen, Follows, Steps, Ends}
+use Rattle.template.specs.Checks.{nest_step, nest_end, nest_check}
+use Rattle.template.proofs.WalkLaws.{walk_end, walk_here, walk_later}
 
 -- a state of the code that holds what some marks say is open
 pub record Sound (state : Open) : Type 0 where
@@ -26,43 +26,43 @@ pub record Sound (state : Open) : Type 0 where
   pub holds : HoldsOpen state list
 
 -- nothing is open at first
-nothing-open : Sound (record { marks = 0; tests = 0; tables = 0 })
-unfolding code testsOpen tablesOpen
-nothing-open = record { list = []; holds = record { coded = refl; tested = refl; tabled = refl; few-tests = zero-le; few-tables = zero-le; short = zero-le } }
+nothing_open : Sound (record { marks = 0; tests = 0; tables = 0 })
+unfolding code tests_open tables_open
+nothing_open = record { list = []; holds = record { coded = refl; tested = refl; tabled = refl; few_tests = zero-le; few_tables = zero-le; short = zero-le } }
 
-pub nest-start : (t : List ℕ) → (x : Sound (record { marks = 0; tests = 0; tables = 0 })) × (walk nestStep nestEnd x.list 0 (lines_of (drop 0 t)) ≡ nestCheck t)
-unfolding nestCheck nothing-open
-nest-start t = (nothing-open, refl)
+pub nest_start : (t : List ℕ) → (x : Sound (record { marks = 0; tests = 0; tables = 0 })) × (walk nest_step nest_end x.list 0 (lines_of (drop 0 t)) ≡ nest_check t)
+unfolding nest_check nothing_open
+nest_start t = (nothing_open, refl)
 
-follows-wrong : (o : Option (List Mark)) → Follows Wrong o → o ≡ none
+follows_wrong : (o : Option (List Mark)) → Follows Wrong o → o ≡ none
 unfolding Follows
-follows-wrong (some s) f = absurd f
-follows-wrong none f = refl
+follows_wrong (some s) f = absurd f
+follows_wrong none f = refl
 
-follows-went : (g : Open) (o : Option (List Mark)) → Follows (Went g) o → (x : Sound g) × (o ≡ some x.list)
+follows_went : (g : Open) (o : Option (List Mark)) → Follows (Went g) o → (x : Sound g) × (o ≡ some x.list)
 unfolding Follows
-follows-went g (some s) f = (record { list = s; holds = f }, refl)
-follows-went g none f = absurd f
+follows_went g (some s) f = (record { list = s; holds = f }, refl)
+follows_went g none f = absurd f
 
-module _ (t : List ℕ) (at n : ℕ) (g : Open) (x : Sound g) {w : Verdict} (inv : walk nestStep nestEnd x.list n (lines_of (drop at t)) ≡ w) where
+module _ (t : List ℕ) (at n : ℕ) (g : Open) (x : Sound g) {w : Verdict} (inv : walk nest_step nest_end x.list n (lines_of (drop at t)) ≡ w) where
   module _ (line : List ℕ) (shape : Shape) (r : Step) (inside : at < length t) (e : line ≡ line_at t at) (q : shape ≡ shape_of line) (f : Steps g shape r) where
-    pub nest-here : r ≡ Wrong → Fault (n + 1) ≡ w
-    unfolding nestStep
-    nest-here k =
-        let o : behind shape x.list ≡ none = follows-wrong (behind shape x.list) (rw k at (f.follows x.list x.holds)) in
-        walk_here nestStep nestEnd t at n x.list inv line inside e (rw (← q) o)
+    pub nest_here : r ≡ Wrong → Fault (n + 1) ≡ w
+    unfolding nest_step
+    nest_here k =
+        let o : behind shape x.list ≡ none = follows_wrong (behind shape x.list) (rw k at (f.follows x.list x.holds)) in
+        walk_here nest_step nest_end t at n x.list inv line inside e (rw (← q) o)
 
-    pub nest-later : (g' : Open) → r ≡ Went g' → (y : Sound g') × (walk nestStep nestEnd y.list (n + 1) (lines_of (drop (at + (length line + 1)) t)) ≡ w)
-    unfolding nestStep
-    nest-later g' k =
-        let (y, o) = follows-went g' (behind shape x.list) (rw k at (f.follows x.list x.holds)) in
-        (y, walk-later nestStep nestEnd t at n x.list inv line inside e y.list (rw (← q) o))
+    pub nest_later : (g' : Open) → r ≡ Went g' → (y : Sound g') × (walk nest_step nest_end y.list (n + 1) (lines_of (drop (at + (length line + 1)) t)) ≡ w)
+    unfolding nest_step
+    nest_later g' k =
+        let (y, o) = follows_went g' (behind shape x.list) (rw k at (f.follows x.list x.holds)) in
+        (y, walk_later nest_step nest_end t at n x.list inv line inside e y.list (rw (← q) o))
 
   module _ (h : length t ≤ at) (b : Bool) (f : Ends g b) where
-    pub nest-closed : b ≡ true → Fine ≡ w
-    unfolding nestEnd
-    nest-closed k = sym (rw (← f.closed x.list x.holds, k)) ∙ walk_end nestStep nestEnd t at n x.list inv h
+    pub nest_closed : b ≡ true → Fine ≡ w
+    unfolding nest_end
+    nest_closed k = sym (rw (← f.closed x.list x.holds, k)) ∙ walk_end nest_step nest_end t at n x.list inv h
 
-    pub nest-open : b ≡ false → Fault n ≡ w
-    unfolding nestEnd
-    nest-open k = sym (rw (← f.closed x.list x.holds, k)) ∙ walk_end nestStep nestEnd t at n x.list inv h
+    pub nest_open : b ≡ false → Fault n ≡ w
+    unfolding nest_end
+    nest_open k = sym (rw (← f.closed x.list x.holds, k)) ∙ walk_end nest_step nest_end t at n x.list inv h

@@ -9,17 +9,17 @@ use borrow.Author.Tests.{eqb-true, eqb-false, eq-eqb, ne_eqb, ltb-true, ltb-fals
 use lib.Dec.{eqb, ltb}
 use lib.ListN.{length, get_or, take, drop, drop_of_length-le, length-take, length-drop}
 use lib.Seq.{drop-cons, drop-drop}
-use Rattle.scan.proofs.RunLaws.{span-end, span-stop, span_more}
+use Rattle.scan.proofs.RunLaws.{span_end, span_stop, span_more}
 use Rattle.scan.specs.declared.run.Class.{Class}
 use Rattle.scan.specs.declared.run.Class.TheVariants.{InLine}
 use Rattle.scan.specs.Run.{belongs, span}
 use Rattle.scan.specs.Line.{line_of, line_at, window}
 use Rattle.scan.specs.Words.{begins}
-use Rattle.template.specs.Name.{sectionWord, name_of, sameBytes}
-use Rattle.template.specs.inner.Sorted.{isBelow}
+use Rattle.template.specs.Name.{section_word, name_of, same_bytes}
+use Rattle.template.specs.Inner.Sorted.{is_below}
 
 -- a section's name, and the empty name of other lines
-module _ (l : List ℕ) (b : Bool) (q : b ≡ begins sectionWord l) where
+module _ (l : List ℕ) (b : Bool) (q : b ≡ begins section_word l) where
   pub named : b ≡ true → name_of l ≡ window l 5 8
   unfolding name_of
   named k = rw (← q, k)
@@ -31,118 +31,118 @@ module _ (l : List ℕ) (b : Bool) (q : b ≡ begins sectionWord l) where
 -- ---- where a section's name lies
 
 -- a section's line has six bytes or more
-pub section-length : (l name : List ℕ) → name ≡ name_of l → (length name ≡ 0 → ⊥) → 6 ≤ length l
+pub section_length : (l name : List ℕ) → name ≡ name_of l → (length name ≡ 0 → ⊥) → 6 ≤ length l
 unfolding name_of
-section-length l name e n = go (begins sectionWord l) refl
+section_length l name e n = go (begins section_word l) refl
   where
-    go : (p : Bool) → begins sectionWord l ≡ p → 6 ≤ length l
+    go : (p : Bool) → begins section_word l ≡ p → 6 ≤ length l
     go true q = omega (arith, n, ap length (rw q at e), length-take 8 (drop 5 l), length-drop 5 l)
     go false q = absurd (n (ap length (rw q at e)))
 
-take-of-span : (class : Class) (n : ℕ) (s : List ℕ) → take n (span class s) ≡ span class (take n s)
+take_of_span : (class : Class) (n : ℕ) (s : List ℕ) → take n (span class s) ≡ span class (take n s)
 unfolding span
-take-of-span class zero s = refl
-take-of-span class (suc n) [] = refl
-take-of-span class (suc n) (b ∷ s) = go (belongs class b) refl (take-of-span class n s)
+take_of_span class zero s = refl
+take_of_span class (suc n) [] = refl
+take_of_span class (suc n) (b ∷ s) = go (belongs class b) refl (take_of_span class n s)
   where
     go : (p : Bool) → belongs class b ≡ p → take n (span class s) ≡ span class (take n s) → take (suc n) (span class (b ∷ s)) ≡ span class (b ∷ take n s)
     go true q more = rw (q, more)
     go false q more = rw q
 
-drop-of-span : (class : Class) (n : ℕ) (s : List ℕ) → n ≤ length (span class s) → drop n (span class s) ≡ span class (drop n s)
+drop_of_span : (class : Class) (n : ℕ) (s : List ℕ) → n ≤ length (span class s) → drop n (span class s) ≡ span class (drop n s)
 unfolding span
-drop-of-span class zero s h = refl
-drop-of-span class (suc n) [] h = refl
-drop-of-span class (suc n) (b ∷ s) h = go (belongs class b) refl h (drop-of-span class n s)
+drop_of_span class zero s h = refl
+drop_of_span class (suc n) [] h = refl
+drop_of_span class (suc n) (b ∷ s) h = go (belongs class b) refl h (drop_of_span class n s)
   where
     go : (p : Bool) → belongs class b ≡ p → suc n ≤ length (span class (b ∷ s)) → (n ≤ length (span class s) → drop n (span class s) ≡ span class (drop n s)) → drop (suc n) (span class (b ∷ s)) ≡ span class (drop n s)
     go true q k more = rw q (more (omega (arith, rw q at k)))
     go false q k more = absurd (omega (arith, rw q at k))
 
 -- it starts five bytes behind the line's start
-pub name-in-place : (t line name : List ℕ) (at : ℕ) → line ≡ line_at t at → name ≡ name_of line → (length name ≡ 0 → ⊥) → name ≡ line_of (window t (at + 5) 8)
+pub name_in_place : (t line name : List ℕ) (at : ℕ) → line ≡ line_at t at → name ≡ name_of line → (length name ≡ 0 → ⊥) → name ≡ line_of (window t (at + 5) 8)
 unfolding name_of
-name-in-place t line name at e o n = go (begins sectionWord line) refl
+name_in_place t line name at e o n = go (begins section_word line) refl
   where
     long : 6 ≤ length line
-    long = section-length line name o n
+    long = section_length line name o n
 
     there : window line 5 8 ≡ line_of (window t (at + 5) 8)
     there =
         ap (λ (l : List ℕ). window l 5 8) e
-        ∙ ap (take 8) (drop-of-span InLine 5 (drop at t) (omega (arith, long, ap length e)))
-        ∙ take-of-span InLine 8 (drop 5 (drop at t))
+        ∙ ap (take 8) (drop_of_span InLine 5 (drop at t) (omega (arith, long, ap length e)))
+        ∙ take_of_span InLine 8 (drop 5 (drop at t))
         ∙ ap (λ (s : List ℕ). line_of (take 8 s)) (drop-drop 5 at t)
 
-    go : (p : Bool) → begins sectionWord line ≡ p → name ≡ line_of (window t (at + 5) 8)
+    go : (p : Bool) → begins section_word line ≡ p → name ≡ line_of (window t (at + 5) 8)
     go true q = (rw q at o) ∙ there
     go false q = absurd (n (ap length (rw q at o)))
 
 -- ---- the order, byte by byte
 
-in-line : (b : ℕ) → (b ≡ 10 → ⊥) → belongs InLine b ≡ true
+in_line : (b : ℕ) → (b ≡ 10 → ⊥) → belongs InLine b ≡ true
 unfolding belongs
-in-line b n = rw (ne_eqb b 10 n)
+in_line b n = rw (ne_eqb b 10 n)
 
-line-end : (b : ℕ) → b ≡ 10 → belongs InLine b ≡ false
+a_line_end : (b : ℕ) → b ≡ 10 → belongs InLine b ≡ false
 unfolding belongs
-line-end b e = rw (eq-eqb b 10 e)
+a_line_end b e = rw (eq-eqb b 10 e)
 
-module _ (rest name : List ℕ) (i : ℕ) {w : Bool} (inv : isBelow (line_of (drop i rest)) (drop i name) ≡ w) where
+module _ (rest name : List ℕ) (i : ℕ) {w : Bool} (inv : is_below (line_of (drop i rest)) (drop i name) ≡ w) where
   pub below_end : length name ≤ i → false ≡ w
-  unfolding isBelow
+  unfolding is_below
   below_end h = sym (rw (drop_of_length-le name h) (never (line_of (drop i rest)))) ∙ inv
     where
-      never : (s : List ℕ) → isBelow s [] ≡ false
+      never : (s : List ℕ) → is_below s [] ≡ false
       never [] = refl
       never (x ∷ s) = refl
 
   module _ (h : i < length name) where
-    pub below-short : length rest ≤ i → true ≡ w
-    unfolding isBelow
-    below-short k = sym (rw (span-end InLine rest i k, drop-cons name i 0 h)) ∙ inv
+    pub below_short : length rest ≤ i → true ≡ w
+    unfolding is_below
+    below_short k = sym (rw (span_end InLine rest i k, drop-cons name i 0 h)) ∙ inv
 
-    pub below-line-end : i < length rest → get_or rest i 0 ≡ 10 → true ≡ w
-    unfolding isBelow
-    below-line-end k e = sym (rw (span-stop InLine rest i k (line-end _ e), drop-cons name i 0 h)) ∙ inv
+    pub below_line_end : i < length rest → get_or rest i 0 ≡ 10 → true ≡ w
+    unfolding is_below
+    below_line_end k e = sym (rw (span_stop InLine rest i k (a_line_end _ e), drop-cons name i 0 h)) ∙ inv
 
     module _ (k : i < length rest) (n : get_or rest i 0 ≡ 10 → ⊥) where
-      pub below-here : (get_or rest i 0 ≡ get_or name i 0 → ⊥) → ltb (get_or rest i 0) (get_or name i 0) ≡ w
-      unfolding isBelow
-      below-here d = sym (rw (span_more InLine rest i k (in-line _ n), drop-cons name i 0 h, ne_eqb _ _ d)) ∙ inv
+      pub below_here : (get_or rest i 0 ≡ get_or name i 0 → ⊥) → ltb (get_or rest i 0) (get_or name i 0) ≡ w
+      unfolding is_below
+      below_here d = sym (rw (span_more InLine rest i k (in_line _ n), drop-cons name i 0 h, ne_eqb _ _ d)) ∙ inv
 
-      pub below_more : get_or rest i 0 ≡ get_or name i 0 → isBelow (line_of (drop (i + 1) rest)) (drop (i + 1) name) ≡ w
-      unfolding isBelow
-      below_more e = rw (add-one i) (sym (rw (span_more InLine rest i k (in-line _ n), add-one i, drop-cons name i 0 h, eq-eqb _ _ e)) ∙ inv)
+      pub below_more : get_or rest i 0 ≡ get_or name i 0 → is_below (line_of (drop (i + 1) rest)) (drop (i + 1) name) ≡ w
+      unfolding is_below
+      below_more e = rw (add-one i) (sym (rw (span_more InLine rest i k (in_line _ n), add-one i, drop-cons name i 0 h, eq-eqb _ _ e)) ∙ inv)
 
 -- ---- it is an order
 
-pub below_self : (a : List ℕ) → isBelow a a ≡ false
-unfolding isBelow
+pub below_self : (a : List ℕ) → is_below a a ≡ false
+unfolding is_below
 below_self [] = refl
 below_self (x ∷ a) = rw (eq-eqb x x refl) (below_self a)
 
-pub above-below : (a b : List ℕ) → isBelow a b ≡ true → isBelow b a ≡ false
-unfolding isBelow
-above-below [] [] h = absurd (false≢true h)
-above-below [] (y ∷ b) h = refl
-above-below (x ∷ a) [] h = absurd (false≢true h)
-above-below (x ∷ a) (y ∷ b) h = go (eqb x y) refl h (above-below a b)
+pub above_below : (a b : List ℕ) → is_below a b ≡ true → is_below b a ≡ false
+unfolding is_below
+above_below [] [] h = absurd (false≢true h)
+above_below [] (y ∷ b) h = refl
+above_below (x ∷ a) [] h = absurd (false≢true h)
+above_below (x ∷ a) (y ∷ b) h = go (eqb x y) refl h (above_below a b)
   where
-    go : (p : Bool) → eqb x y ≡ p → isBelow (x ∷ a) (y ∷ b) ≡ true → (isBelow a b ≡ true → isBelow b a ≡ false) → isBelow (y ∷ b) (x ∷ a) ≡ false
+    go : (p : Bool) → eqb x y ≡ p → is_below (x ∷ a) (y ∷ b) ≡ true → (is_below a b ≡ true → is_below b a ≡ false) → is_below (y ∷ b) (x ∷ a) ≡ false
     go true q k more = rw (eq-eqb y x (sym (eqb-true x y q))) (more (rw q at k))
     go false q k more =
         let l = ltb-true x y (rw q at k) in
         rw (ne_eqb y x (λ e. omega arith), le-ltb y x (omega arith))
 
-pub neither-below : (a b : List ℕ) → isBelow a b ≡ false → isBelow b a ≡ false → a ≡ b
-unfolding isBelow
-neither-below [] [] h k = refl
-neither-below [] (y ∷ b) h k = absurd (false≢true (sym h))
-neither-below (x ∷ a) [] h k = absurd (false≢true (sym k))
-neither-below (x ∷ a) (y ∷ b) h k = go (eqb x y) refl h k (neither-below a b)
+pub neither_below : (a b : List ℕ) → is_below a b ≡ false → is_below b a ≡ false → a ≡ b
+unfolding is_below
+neither_below [] [] h k = refl
+neither_below [] (y ∷ b) h k = absurd (false≢true (sym h))
+neither_below (x ∷ a) [] h k = absurd (false≢true (sym k))
+neither_below (x ∷ a) (y ∷ b) h k = go (eqb x y) refl h k (neither_below a b)
   where
-    go : (p : Bool) → eqb x y ≡ p → isBelow (x ∷ a) (y ∷ b) ≡ false → isBelow (y ∷ b) (x ∷ a) ≡ false → (isBelow a b ≡ false → isBelow b a ≡ false → a ≡ b) → x ∷ a ≡ y ∷ b
+    go : (p : Bool) → eqb x y ≡ p → is_below (x ∷ a) (y ∷ b) ≡ false → is_below (y ∷ b) (x ∷ a) ≡ false → (is_below a b ≡ false → is_below b a ≡ false → a ≡ b) → x ∷ a ≡ y ∷ b
     go true q u v more =
         let e = eqb-true x y q in
         rw (e, more (rw q at u) (rw (eq-eqb y x (sym e)) at v))
@@ -153,15 +153,15 @@ neither-below (x ∷ a) (y ∷ b) h k = go (eqb x y) refl h k (neither-below a b
         absurd (n (omega arith))
 
 -- a not below b, b not below c
-pub not-below : (a b c : List ℕ) → isBelow a b ≡ false → isBelow b c ≡ false → isBelow a c ≡ false
-unfolding isBelow
-not-below [] [] c h k = k
-not-below [] (y ∷ b) c h k = absurd (false≢true (sym h))
-not-below (x ∷ a) b [] h k = refl
-not-below (x ∷ a) [] (z ∷ c) h k = absurd (false≢true (sym k))
-not-below (x ∷ a) (y ∷ b) (z ∷ c) h k = go (eqb x y) refl (eqb y z) refl h k (not-below a b c)
+pub not_below : (a b c : List ℕ) → is_below a b ≡ false → is_below b c ≡ false → is_below a c ≡ false
+unfolding is_below
+not_below [] [] c h k = k
+not_below [] (y ∷ b) c h k = absurd (false≢true (sym h))
+not_below (x ∷ a) b [] h k = refl
+not_below (x ∷ a) [] (z ∷ c) h k = absurd (false≢true (sym k))
+not_below (x ∷ a) (y ∷ b) (z ∷ c) h k = go (eqb x y) refl (eqb y z) refl h k (not_below a b c)
   where
-    go : (p : Bool) → eqb x y ≡ p → (q : Bool) → eqb y z ≡ q → isBelow (x ∷ a) (y ∷ b) ≡ false → isBelow (y ∷ b) (z ∷ c) ≡ false → (isBelow a b ≡ false → isBelow b c ≡ false → isBelow a c ≡ false) → isBelow (x ∷ a) (z ∷ c) ≡ false
+    go : (p : Bool) → eqb x y ≡ p → (q : Bool) → eqb y z ≡ q → is_below (x ∷ a) (y ∷ b) ≡ false → is_below (y ∷ b) (z ∷ c) ≡ false → (is_below a b ≡ false → is_below b c ≡ false → is_below a c ≡ false) → is_below (x ∷ a) (z ∷ c) ≡ false
     go true p true q u v more =
         rw (eq-eqb x z (eqb-true x y p ∙ eqb-true y z q)) (more (rw p at u) (rw q at v))
     go true p false q u v more =
@@ -180,25 +180,25 @@ not-below (x ∷ a) (y ∷ b) (z ∷ c) h k = go (eqb x y) refl (eqb y z) refl h
 
 -- ---- the same bytes are the same list
 
-same-begin : (a b : List ℕ) → length a ≡ length b → begins a b ≡ true → a ≡ b
+same_begin : (a b : List ℕ) → length a ≡ length b → begins a b ≡ true → a ≡ b
 unfolding begins
-same-begin [] [] h e = refl
-same-begin [] (y ∷ b) h e = absurd (omega arith)
-same-begin (x ∷ a) [] h e = absurd (omega arith)
-same-begin (x ∷ a) (y ∷ b) h e = go (eqb x y) refl e (same-begin a b (omega arith))
+same_begin [] [] h e = refl
+same_begin [] (y ∷ b) h e = absurd (omega arith)
+same_begin (x ∷ a) [] h e = absurd (omega arith)
+same_begin (x ∷ a) (y ∷ b) h e = go (eqb x y) refl e (same_begin a b (omega arith))
   where
     go : (p : Bool) → eqb x y ≡ p → begins (x ∷ a) (y ∷ b) ≡ true → (begins a b ≡ true → a ≡ b) → x ∷ a ≡ y ∷ b
     go true q k more = rw (eqb-true x y q, more (rw q at k))
     go false q k more = absurd (false≢true (rw q at k))
 
-pub same_name : (a b : List ℕ) → sameBytes a b ≡ true → a ≡ b
+pub same_name : (a b : List ℕ) → same_bytes a b ≡ true → a ≡ b
 same_name a b h = go (eqb (length a) (length b)) refl h
   where
-    go : (p : Bool) → eqb (length a) (length b) ≡ p → sameBytes a b ≡ true → a ≡ b
-    go true k e = same-begin a b (eqb-true (length a) (length b) k) (rw k at e)
+    go : (p : Bool) → eqb (length a) (length b) ≡ p → same_bytes a b ≡ true → a ≡ b
+    go true k e = same_begin a b (eqb-true (length a) (length b) k) (rw k at e)
     go false k e = absurd (false≢true (rw k at e))
 
-pub same_self : (a : List ℕ) → sameBytes a a ≡ true
+pub same_self : (a : List ℕ) → same_bytes a a ≡ true
 unfolding begins
 same_self a = rw (eq-eqb (length a) (length a) refl) (whole a)
   where

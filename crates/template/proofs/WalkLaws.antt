@@ -6,7 +6,7 @@ use Prim.Native.Nat.{ℕ, ◌+◌, ◌<◌, ◌≤◌}
 use native.Mathlib.Numerals.{add-one}
 use native.Mathlib.Omega.{arith}
 use lib.ListN.{length, drop}
-use Rattle.scan.specs.Line.{line_at, nextLine}
+use Rattle.scan.specs.Line.{line_at, next_line}
 use Rattle.template.specs.declared.Verdict.{Verdict}
 use Rattle.template.specs.declared.Verdict.TheVariants.{Fault}
 use Rattle.template.specs.Lines.{lines_of}
@@ -23,8 +23,8 @@ module _ {S : Type 0} (step : S → List ℕ → Option S) (finish : S → ℕ �
     unfolding walk or_else
     walk_here q = rw (add-one n) (sym (rw (lines_more t at inside, ← e, q)) ∙ inv)
 
-    pub walk-later : (s' : S) → step s line ≡ some s' → walk step finish s' (n + 1) (lines_of (drop (at + (length line + 1)) t)) ≡ w
+    pub walk_later : (s' : S) → step s line ≡ some s' → walk step finish s' (n + 1) (lines_of (drop (at + (length line + 1)) t)) ≡ w
     unfolding walk or_else
-    walk-later s' q =
-        let l : at + (length line + 1) ≡ nextLine t at = omega (arith, ap length e) in
+    walk_later s' q =
+        let l : at + (length line + 1) ≡ next_line t at = omega (arith, ap length e) in
         rw (l, add-one n) (sym (rw (lines_more t at inside, ← e, q)) ∙ inv)

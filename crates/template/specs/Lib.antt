@@ -1,4 +1,4 @@
-pub mod inner
+pub mod Inner
 pub mod Name
 pub mod Lines
 pub mod Shape

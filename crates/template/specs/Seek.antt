@@ -10,54 +10,54 @@ use Rattle.template.specs.declared.seek.Way.{Way}
 use Rattle.template.specs.declared.seek.Way.TheVariants.{On, Match}
 use Rattle.template.specs.declared.seek.Skip.{Skip}
 use Rattle.template.specs.Lines.{lines_of}
-use Rattle.template.specs.Shape.{wordShape}
+use Rattle.template.specs.Shape.{word_shape}
 
 -- a failed test and an executed $ELSE look among tests, a skipped table among tables
-unfoldable pub amongTests : Sought → Role → Role
-amongTests Branch r = r
-amongTests TestEnd r = r
-amongTests TableEnd r = Passes
+unfoldable pub among_tests : Sought → Role → Role
+among_tests Branch r = r
+among_tests TestEnd r = r
+among_tests TableEnd r = Passes
 
-unfoldable pub amongTables : Sought → Role → Role
-amongTables Branch r = Passes
-amongTables TestEnd r = Passes
-amongTables TableEnd r = r
+unfoldable pub among_tables : Sought → Role → Role
+among_tables Branch r = Passes
+among_tables TestEnd r = Passes
+among_tables TableEnd r = r
 
 -- a $ELSE ends the search of a failed test only
-unfoldable pub atElse : Sought → Role
-atElse Branch = Divides
-atElse TestEnd = Passes
-atElse TableEnd = Passes
+unfoldable pub at_else : Sought → Role
+at_else Branch = Divides
+at_else TestEnd = Passes
+at_else TableEnd = Passes
 
-unfoldable pub roleOf : Sought → Shape → Role
-roleOf q Section = Passes
-roleOf q Remark = Passes
-roleOf q Test = amongTests q Opens
-roleOf q Else = atElse q
-roleOf q EndTest = amongTests q Closes
-roleOf q Table = amongTables q Opens
-roleOf q EndTable = amongTables q Closes
-roleOf q Plain = Passes
-roleOf q NoForm = Passes
+unfoldable pub role_of : Sought → Shape → Role
+role_of q Section = Passes
+role_of q Remark = Passes
+role_of q Test = among_tests q Opens
+role_of q Else = at_else q
+role_of q EndTest = among_tests q Closes
+role_of q Table = among_tables q Opens
+role_of q EndTable = among_tables q Closes
+role_of q Plain = Passes
+role_of q NoForm = Passes
 
 -- behind a line, with d tests or tables open inside: "matching" is what closes or divides none of these
-unfoldable pub wayPast : Role → ℕ → Way
-wayPast Opens d = On (suc d)
-wayPast Closes zero = Match
-wayPast Closes (suc d) = On d
-wayPast Divides zero = Match
-wayPast Divides (suc d) = On (suc d)
-wayPast Passes d = On d
+unfoldable pub way_past : Role → ℕ → Way
+way_past Opens d = On (suc d)
+way_past Closes zero = Match
+way_past Closes (suc d) = On d
+way_past Divides zero = Match
+way_past Divides (suc d) = On (suc d)
+way_past Passes d = On d
 
-unfoldable pub orSkip : Way → (ℕ → Skip) → Skip → Skip
-orSkip (On d) next skip = next d
-orSkip Match next skip = skip
+unfoldable pub or_skip : Way → (ℕ → Skip) → Skip → Skip
+or_skip (On d) next skip = next d
+or_skip Match next skip = skip
 
 -- the lines up to the one that matches, each by its word, behind some bytes and n lines, with d open inside
-unfoldable pub skipFrom : Sought → ℕ → ℕ → ℕ → List (List ℕ) → Skip
-skipFrom q d at n [] = record { bytes = at; lines = n }
-skipFrom q d at n (l ∷ ls) =
-    orSkip (wayPast (roleOf q (wordShape l)) d) (λ k. skipFrom q k (at + length l + 1) (suc n) ls) (record { bytes = at + length l + 1; lines = suc n })
+unfoldable pub skip_from : Sought → ℕ → ℕ → ℕ → List (List ℕ) → Skip
+skip_from q d at n [] = record { bytes = at; lines = n }
+skip_from q d at n (l ∷ ls) =
+    or_skip (way_past (role_of q (word_shape l)) d) (λ k. skip_from q k (at + length l + 1) (suc n) ls) (record { bytes = at + length l + 1; lines = suc n })
 
 -- "the last may lack it": no more bytes than the part has
 unfoldable pub cut_to : ℕ → Skip → Skip
@@ -65,4 +65,4 @@ cut_to most k = cond (ltb most k.bytes) (record { bytes = most; lines = k.lines 
 
 -- "A template has at most 32,768 bytes"; nothing of a longer part is passed over
 unfoldable pub skipped : List ℕ → Sought → Skip
-skipped t q = cond (ltb 32768 (length t)) (record { bytes = 0; lines = 0 }) (cut_to (length t) (skipFrom q 0 0 0 (lines_of t)))
+skipped t q = cond (ltb 32768 (length t)) (record { bytes = 0; lines = 0 }) (cut_to (length t) (skip_from q 0 0 0 (lines_of t)))

@@ -1,56 +1,56 @@
 -- What a line is to the checks of a whole template.
 use Rattle.std.specs.Prelude.{Bool, true, false, cond, List, [], ◌∷◌, ℕ}
-use Rattle.scan.specs.Line.{byteIs}
+use Rattle.scan.specs.Line.{byte_is}
 use Rattle.scan.specs.Words.{Spelled, ◌takes◌, first_of}
 use Rattle.lines.specs.declared.command.Line.{Line}
 use Rattle.lines.specs.declared.command.Line.TheVariants as form
-use Rattle.lines.specs.readers.Command.{parseLine}
+use Rattle.lines.specs.Readers.Command.{parse_line}
 use Rattle.nesting.specs.declared.Shape.{Shape}
 use Rattle.nesting.specs.declared.Shape.TheVariants.{Section, Remark, Test, Else, EndTest, Table, EndTable, Plain, NoForm}
 
-unfoldable pub shapeIn : Line → Shape
-shapeIn form.NoForm = NoForm
-shapeIn form.Text = Plain
-shapeIn (form.Section a b) = Section
-shapeIn (form.Set a b c) = Plain
-shapeIn (form.IfNot a) = Test
-shapeIn (form.If a) = Test
-shapeIn (form.Compare a b c) = Test
-shapeIn form.Else = Else
-shapeIn form.EndIf = EndTest
-shapeIn (form.BeginTable a) = Table
-shapeIn (form.EndTable a) = EndTable
-shapeIn (form.Records a) = Plain
-shapeIn (form.Entries a) = Plain
-shapeIn (form.Datasource a) = Plain
-shapeIn form.NoFormFeed = Plain
-shapeIn (form.NewPage a) = Plain
-shapeIn (form.Heading a b) = Plain
-shapeIn (form.NoHeading a) = Plain
-shapeIn form.Remark = Remark
+unfoldable pub shape_in : Line → Shape
+shape_in form.NoForm = NoForm
+shape_in form.Text = Plain
+shape_in (form.Section a b) = Section
+shape_in (form.Set a b c) = Plain
+shape_in (form.IfNot a) = Test
+shape_in (form.If a) = Test
+shape_in (form.Compare a b c) = Test
+shape_in form.Else = Else
+shape_in form.EndIf = EndTest
+shape_in (form.BeginTable a) = Table
+shape_in (form.EndTable a) = EndTable
+shape_in (form.Records a) = Plain
+shape_in (form.Entries a) = Plain
+shape_in (form.Datasource a) = Plain
+shape_in form.NoFormFeed = Plain
+shape_in (form.NewPage a) = Plain
+shape_in (form.Heading a b) = Plain
+shape_in (form.NoHeading a) = Plain
+shape_in form.Remark = Remark
 
--- by the form that the line spells (grammar/proofs/Lines:reads-what-is-spelled)
+-- by the form that the line spells (grammar/proofs/Lines:reads_what_is_spelled)
 unfoldable pub shape_of : List ℕ → Shape
-shape_of l = shapeIn (parseLine l)
+shape_of l = shape_in (parse_line l)
 
 -- 3: "A line has no form above, a number literal exceeds ±2,000,000,000, or fields widen a line past 132 bytes."
-unfoldable pub hasForm : Shape → Bool
-hasForm Section = true
-hasForm Remark = true
-hasForm Test = true
-hasForm Else = true
-hasForm EndTest = true
-hasForm Table = true
-hasForm EndTable = true
-hasForm Plain = true
-hasForm NoForm = false
+unfoldable pub has_form : Shape → Bool
+has_form Section = true
+has_form Remark = true
+has_form Test = true
+has_form Else = true
+has_form EndTest = true
+has_form Table = true
+has_form EndTable = true
+has_form Plain = true
+has_form NoForm = false
 
-unfoldable pub isFormed : List ℕ → Bool
-isFormed l = hasForm (shape_of l)
+unfoldable pub is_formed : List ℕ → Bool
+is_formed l = has_form (shape_of l)
 
 -- the words that tell a shape: each test's begins with IF
-unfoldable pub shapeWords : List (Spelled Shape)
-shapeWords =
+unfoldable pub shape_words : List (Spelled Shape)
+shape_words =
     "IF" takes (λ l at. Test)
     ∷ "ELSE" takes (λ l at. Else)
     ∷ "ENDIF" takes (λ l at. EndTest)
@@ -60,6 +60,6 @@ shapeWords =
     ∷ "REM" takes (λ l at. Remark)
     ∷ []
 
--- what a line is by its word alone: the same where it has a form (proofs/WordForm:shape-by-word)
-unfoldable pub wordShape : List ℕ → Shape
-wordShape l = cond (byteIs l 0 "$") (first_of Plain shapeWords l 1) Plain
+-- what a line is by its word alone: the same where it has a form (proofs/WordForm:shape_by_word)
+unfoldable pub word_shape : List ℕ → Shape
+word_shape l = cond (byte_is l 0 "$") (first_of Plain shape_words l 1) Plain

@@ -3,9 +3,9 @@
 ghost use Rattle.std.specs.Prelude.{◌≡◌, ◌+◌, ◌≤◌, length, drop};
 ghost use Rattle.template.specs.declared.Verdict.TheVariants.{Fault};
 ghost use Rattle.template.specs.Lines.{lines_of};
-ghost use Rattle.template.specs.Verdicts.{firstFault};
-ghost use Rattle.template.specs.Shape.{isFormed};
-ghost use Rattle.template.specs.Checks.{formCheck, nestCheck, formBeforeNesting};
+ghost use Rattle.template.specs.Verdicts.{first_fault};
+ghost use Rattle.template.specs.Shape.{is_formed};
+ghost use Rattle.template.specs.Checks.{form_check, nest_check, form_before_nesting};
 
 use crate::{Verdict, shapes};
 use nesting::{Open, Step};
@@ -21,7 +21,7 @@ pub enum Faults {
 // The first line without form from a place on, where a line with a number starts.
 fn formless_from(template: &[u8], from: usize, first: u32) -> Verdict
     requires { (length template.now ≤ 32768) × (first ≤ from + 1) }
-    ensures { result ≡ firstFault isFormed first (lines_of (drop from template.now)) }
+    ensures { result ≡ first_fault is_formed first (lines_of (drop from template.now)) }
 {
     let mut at = from;
     let mut number: u32 = first;
@@ -39,7 +39,7 @@ fn formless_from(template: &[u8], from: usize, first: u32) -> Verdict
 // A line is wrong in nesting: 3 covers the lines behind it first.
 fn wrong_at(template: &[u8], at: usize, number: u32) -> Faults
     requires { (length template.now ≤ 32768) × (number ≤ at + 1) }
-    ensures { result ≡ formBeforeNesting (firstFault isFormed number (lines_of (drop at template.now))) (Fault number) }
+    ensures { result ≡ form_before_nesting (first_fault is_formed number (lines_of (drop at template.now))) (Fault number) }
 {
     let verdict = formless_from(template, at, number);
     match verdict {
@@ -50,7 +50,7 @@ fn wrong_at(template: &[u8], at: usize, number: u32) -> Faults
 
 pub fn check(template: &[u8]) -> Faults
     requires { length template.now ≤ 32768 }
-    ensures { result ≡ formBeforeNesting (formCheck template.now) (nestCheck template.now) }
+    ensures { result ≡ form_before_nesting (form_check template.now) (nest_check template.now) }
 {
     let mut at = 0;
     let mut lines: u32 = 0;

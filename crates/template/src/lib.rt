@@ -4,7 +4,7 @@
 // bytes::check       2: too long, a byte or a line outside its limits
 // seek::skip_lines   where a failed test, an executed $ELSE and a $BT with n below 1 go on
 ghost use Rattle.std.specs.Prelude.{◌≡◌, ◌≤◌, length};
-ghost use Rattle.template.specs.Order.{sectionChecked, namesChecked, formsChecked, templateChecked};
+ghost use Rattle.template.specs.Order.{section_checked, names_checked, forms_checked, template_checked};
 
 use crate::forms::Faults;
 use crate::sections::Selection;
@@ -45,7 +45,7 @@ pub enum Checked {
 
 fn section_checked(template: &[u8], section: &[u8]) -> Checked
     requires { length template.now ≤ 32768 }
-    ensures { result ≡ sectionChecked template.now section.now }
+    ensures { result ≡ section_checked template.now section.now }
 {
     let selection = sections::select(template, section);
     match selection {
@@ -56,7 +56,7 @@ fn section_checked(template: &[u8], section: &[u8]) -> Checked
 
 fn names_checked(template: &[u8], section: &[u8]) -> Checked
     requires { length template.now ≤ 32768 }
-    ensures { result ≡ namesChecked template.now section.now }
+    ensures { result ≡ names_checked template.now section.now }
 {
     let verdict = repeats::check(template);
     match verdict {
@@ -67,7 +67,7 @@ fn names_checked(template: &[u8], section: &[u8]) -> Checked
 
 fn forms_checked(template: &[u8], section: &[u8]) -> Checked
     requires { length template.now ≤ 32768 }
-    ensures { result ≡ formsChecked template.now section.now }
+    ensures { result ≡ forms_checked template.now section.now }
 {
     let faults = forms::check(template);
     match faults {
@@ -78,7 +78,7 @@ fn forms_checked(template: &[u8], section: &[u8]) -> Checked
 }
 
 pub fn check(template: &[u8], section: &[u8]) -> Checked
-    ensures { result ≡ templateChecked template.now section.now }
+    ensures { result ≡ template_checked template.now section.now }
 {
     let verdict = bytes::check(template);
     match verdict {

@@ -5,8 +5,8 @@
 // is_below     whether the name at the front of some bytes comes before another in their order
 ghost use Rattle.std.specs.Prelude.{◌≡◌};
 ghost use Rattle.scan.specs.Line.{line_of};
-ghost use Rattle.template.specs.Name.{name_of, sameBytes};
-ghost use Rattle.template.specs.inner.Sorted.{isBelow};
+ghost use Rattle.template.specs.Name.{name_of, same_bytes};
+ghost use Rattle.template.specs.Inner.Sorted.{is_below};
 
 const LINE_END: u8 = 10;
 
@@ -22,7 +22,7 @@ pub fn name_of<'a>(line: &'a [u8]) -> &'a [u8]
 
 // Whether two names are the same.
 pub fn same_bytes(a: &[u8], b: &[u8]) -> bool
-    ensures { result ≡ sameBytes a.now b.now }
+    ensures { result ≡ same_bytes a.now b.now }
 {
     if a.len() != b.len() {
         return false;
@@ -32,7 +32,7 @@ pub fn same_bytes(a: &[u8], b: &[u8]) -> bool
 
 // Whether some bytes up to their line end come before a name, by the first byte in which they differ.
 pub fn is_below(rest: &[u8], name: &[u8]) -> bool
-    ensures { result ≡ isBelow (line_of rest.now) name.now }
+    ensures { result ≡ is_below (line_of rest.now) name.now }
 {
     let mut i = 0;
     while i < name.len() {

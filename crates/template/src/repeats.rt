@@ -1,7 +1,7 @@
 // 5: "A section name came before; the later line is named."
 ghost use Rattle.std.specs.Prelude.{◌≡◌, ◌≤◌, ◌<◌, length};
-ghost use Rattle.template.specs.inner.Sorted.{eightAt, Sorted, Position, standsIn, MovedUp, Inserted};
-ghost use Rattle.template.specs.Checks.{nameCheck};
+ghost use Rattle.template.specs.Inner.Sorted.{eight_at, Sorted, Position, stands_in, MovedUp, Inserted};
+ghost use Rattle.template.specs.Checks.{name_check};
 
 use crate::{Verdict, names};
 
@@ -18,7 +18,7 @@ fn wide(place: u16) -> usize
 // The eight bytes in which the i-th name of the row lies; a shorter name ends at its line end.
 fn eight_at<'a>(template: &'a [u8], places: &[u16], i: usize) -> &'a [u8]
     requires { i < length places.now }
-    ensures { result.now ≡ eightAt template.now places.now i }
+    ensures { result.now ≡ eight_at template.now places.now i }
 {
     scan::bytes::part(template, wide(places[i]), 8)
 }
@@ -50,7 +50,7 @@ fn position(template: &[u8], places: &[u16], count: usize, name: &[u8]) -> usize
 // Whether a name stands at a position of the row.
 fn stands_in(template: &[u8], places: &[u16], count: usize, i: usize, name: &[u8]) -> bool
     requires { count ≤ length places.now }
-    ensures { result ≡ standsIn template.now places.now count i name.now }
+    ensures { result ≡ stands_in template.now places.now count i name.now }
 {
     if i < count {
         return names::same_bytes(name, scan::bytes::line_of(eight_at(template, places, i)));
@@ -84,7 +84,7 @@ fn insert(places: &mut [u16], count: usize, i: usize, at: usize)
 // starts behind "$SEC ".
 pub fn check(template: &[u8]) -> Verdict
     requires { length template.now ≤ 32768 }
-    ensures { result ≡ nameCheck template.now }
+    ensures { result ≡ name_check template.now }
 {
     let mut at = 0;
     let mut lines: u32 = 0;

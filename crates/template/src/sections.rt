@@ -1,8 +1,8 @@
 // 6: "The section asked for isn't there, or the name is empty and there is no $SEC."
 ghost use Rattle.std.specs.Prelude.{◌≡◌, ◌+◌, ◌<◌, ◌≤◌, length, drop};
 ghost use Rattle.template.specs.Lines.{lines_of};
-ghost use Rattle.template.specs.Sections.{selects, sectionFrom, sectionEnd, selected};
-ghost use Rattle.template.specs.inner.Within.{Within};
+ghost use Rattle.template.specs.Sections.{selects, section_from, section_end, selected};
+ghost use Rattle.template.specs.Inner.Within.{Within};
 
 use crate::{Extent, names};
 
@@ -34,7 +34,7 @@ fn selects_line(name: &[u8], line: &[u8]) -> bool
 // The first line from a place on that a name selects.
 fn section_from(template: &[u8], from: usize, before: u32, name: &[u8]) -> Found
     requires { (length template.now ≤ 32768) × (before ≤ from) }
-    ensures { (result ≡ sectionFrom name.now from before (lines_of (drop from template.now))) × Within template.now result }
+    ensures { (result ≡ section_from name.now from before (lines_of (drop from template.now))) × Within template.now result }
 {
     let mut at = from;
     let mut lines: u32 = before;
@@ -52,7 +52,7 @@ fn section_from(template: &[u8], from: usize, before: u32, name: &[u8]) -> Found
 // "to the line before the next $SEC (or to the end)"; the section starts at a place and its line has a number.
 fn section_end(template: &[u8], name: &[u8], at: usize, number: u32) -> usize
     requires { (length template.now ≤ 32768) × (at < length template.now) × (number ≤ at + 1) }
-    ensures { result ≡ sectionEnd template.now name.now at number }
+    ensures { result ≡ section_end template.now name.now at number }
 {
     if name.len() == 0 {
         return template.len();

@@ -1,7 +1,7 @@
 // Where a failed test, an executed $ELSE and a $BT with n below 1 go on.
 ghost use Rattle.std.specs.Prelude.{◌≡◌, ◌≤◌, length};
 ghost use Rattle.template.specs.Lines.{lines_of};
-ghost use Rattle.template.specs.Seek.{amongTests, amongTables, atElse, roleOf, wayPast, skipFrom, skipped};
+ghost use Rattle.template.specs.Seek.{among_tests, among_tables, at_else, role_of, way_past, skip_from, skipped};
 
 use crate::{LONGEST_TEMPLATE, shapes};
 use nesting::Shape;
@@ -41,7 +41,7 @@ pub struct Skip {
 
 // A failed test and an executed $ELSE look among tests.
 fn among_tests(sought: Sought, role: Role) -> Role
-    ensures { result ≡ amongTests sought role }
+    ensures { result ≡ among_tests sought role }
 {
     match sought {
         Sought::Branch => role,
@@ -52,7 +52,7 @@ fn among_tests(sought: Sought, role: Role) -> Role
 
 // A skipped table looks among tables.
 fn among_tables(sought: Sought, role: Role) -> Role
-    ensures { result ≡ amongTables sought role }
+    ensures { result ≡ among_tables sought role }
 {
     match sought {
         Sought::Branch => Role::Passes,
@@ -63,7 +63,7 @@ fn among_tables(sought: Sought, role: Role) -> Role
 
 // A $ELSE ends the search of a failed test only.
 fn at_else(sought: Sought) -> Role
-    ensures { result ≡ atElse sought }
+    ensures { result ≡ at_else sought }
 {
     match sought {
         Sought::Branch => Role::Divides,
@@ -73,7 +73,7 @@ fn at_else(sought: Sought) -> Role
 }
 
 fn role_of(sought: Sought, shape: Shape) -> Role
-    ensures { result ≡ roleOf sought shape }
+    ensures { result ≡ role_of sought shape }
 {
     match shape {
         Shape::Section => Role::Passes,
@@ -90,7 +90,7 @@ fn role_of(sought: Sought, shape: Shape) -> Role
 
 fn way_past(role: Role, depth: u32) -> Way
     requires { depth ≤ 32768 }
-    ensures { result ≡ wayPast role depth }
+    ensures { result ≡ way_past role depth }
 {
     match role {
         Role::Opens => Way::On(depth + 1),
@@ -113,7 +113,7 @@ fn way_past(role: Role, depth: u32) -> Way
 // The lines of a part of a template up to the one that matches, or all where none does, each with a line end.
 fn lines_passed(rest: &[u8], sought: Sought) -> Skip
     requires { length rest.now ≤ 32768 }
-    ensures { result ≡ skipFrom sought 0 0 0 (lines_of rest.now) }
+    ensures { result ≡ skip_from sought 0 0 0 (lines_of rest.now) }
 {
     let mut at = 0;
     let mut lines: u32 = 0;

@@ -2,8 +2,8 @@
 ghost use Rattle.std.specs.Prelude.{◌≡◌};
 ghost use Rattle.scan.specs.Words.{first_of};
 ghost use Rattle.nesting.specs.declared.Shape.TheVariants.{Plain};
-ghost use Rattle.template.specs.Shape.{shapeIn, shape_of, hasForm, isFormed, shapeWords, wordShape};
-ghost use Rattle.template.specs.inner.Numbered.{numberedShape};
+ghost use Rattle.template.specs.Shape.{shape_in, shape_of, has_form, is_formed, shape_words, word_shape};
+ghost use Rattle.template.specs.Inner.Numbered.{numbered_shape};
 
 use lines::command;
 use lines::command::Line;
@@ -11,7 +11,7 @@ use nesting::Shape;
 use scan::words::WordRead;
 
 fn shape_in(form: Line) -> Shape
-    ensures { result ≡ shapeIn form }
+    ensures { result ≡ shape_in form }
 {
     match form {
         Line::NoForm => Shape::NoForm,
@@ -45,7 +45,7 @@ pub fn shape_of(line: &[u8]) -> Shape
 
 // 3: "A line has no form above, a number literal exceeds ±2,000,000,000, or fields widen a line past 132 bytes."
 pub fn has_form(shape: Shape) -> bool
-    ensures { result ≡ hasForm shape }
+    ensures { result ≡ has_form shape }
 {
     match shape {
         Shape::Section => true,
@@ -61,7 +61,7 @@ pub fn has_form(shape: Shape) -> bool
 }
 
 pub fn is_formed(line: &[u8]) -> bool
-    ensures { result ≡ isFormed line.now }
+    ensures { result ≡ is_formed line.now }
 {
     let shape = shape_of(line);
     has_form(shape)
@@ -69,7 +69,7 @@ pub fn is_formed(line: &[u8]) -> bool
 
 // The shape that a word of the table tells, by the word's number.
 fn shape_numbered(k: usize) -> Shape
-    ensures { result ≡ numberedShape k }
+    ensures { result ≡ numbered_shape k }
 {
     if k == 0 {
         return Shape::Test;
@@ -94,7 +94,7 @@ fn shape_numbered(k: usize) -> Shape
 
 // What a command is by its word. Apart from `shape_by_word`, since the table is built with each call.
 fn command_shape(line: &[u8]) -> Shape
-    ensures { result ≡ first_of Plain shapeWords line.now 1 }
+    ensures { result ≡ first_of Plain shape_words line.now 1 }
 {
     let table = b"IF      ELSE    ENDIF   BT      ET      SEC     REM     ";
     let WordRead::Word(k, _) = scan::words::word_at(line, 1, table) else {
@@ -105,7 +105,7 @@ fn command_shape(line: &[u8]) -> Shape
 
 // What a line is by its word alone.
 pub fn shape_by_word(line: &[u8]) -> Shape
-    ensures { result ≡ wordShape line.now }
+    ensures { result ≡ word_shape line.now }
 {
     if scan::bytes::byte(line, 0) == b'$' {
         return command_shape(line);

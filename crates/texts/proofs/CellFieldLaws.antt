@@ -3,15 +3,15 @@ use mathlib.Core.Path.{◌≡◌, sym, subst}
 use mathlib.Core.List.{List}
 use Prim.Native.Nat.{ℕ, ◌+◌}
 use Rattle.scan.specs.declared.digits.Numeral.TheVariants.{Value}
-use Rattle.scan.specs.readers.Digits.{number_at}
+use Rattle.scan.specs.Readers.Digits.{number_at}
 use Rattle.arguments.specs.declared.index.Index.{Index}
-use Rattle.arguments.specs.inner.CellArgument.{CellArgument}
+use Rattle.arguments.specs.Inner.CellArgument.{CellArgument}
 use Rattle.texts.specs.declared.text.Places.{Places}
 use Rattle.texts.specs.declared.text.PlacesRead.TheVariants.{PlacesTo}
 use Rattle.texts.specs.declared.cell_field.CellFieldRead.{CellFieldRead}
 use Rattle.texts.specs.declared.cell_field.CellFieldRead.TheVariants.{CellFieldTo, Other}
-use Rattle.texts.specs.readers.Text.{places_at, places_of, widthNext, field_of, field_at}
-use Rattle.texts.specs.inner.CellField.{CellShown, ReadsField}
+use Rattle.texts.specs.Readers.Text.{places_at, places_of, width_next, field_of, field_at}
+use Rattle.texts.specs.Inner.CellField.{CellShown, ReadsField}
 
 -- what is said of a field that was read
 abbrev Said : List ℕ → ℕ → CellFieldRead → Type 0
@@ -22,12 +22,12 @@ abbrev Told : CellFieldRead → Type 0
 Told (CellFieldTo c) = Unit {0}
 Told Other = ⊥
 
-pub other-reads : (l : List ℕ) (at : ℕ) → ReadsField l at Other
-other-reads l at = record { reads = λ c e. absurd (subst Told (sym e) tt) }
+pub other_reads : (l : List ℕ) (at : ℕ) → ReadsField l at Other
+other_reads l at = record { reads = λ c e. absurd (subst Told (sym e) tt) }
 
 module _ (l : List ℕ) (at n : ℕ) (i : Index) (comma : ℕ) (h : CellArgument l at n i comma) where
-  pub field-reads : (w end : ℕ) (p : Places) (next : ℕ) → number_at l (comma + 1) 32 ≡ Value w end → places_at l end ≡ PlacesTo p next → ReadsField l at (CellFieldTo (record { parameter = n; index = i; width = w; places = p; next = next }))
-  unfolding field_at field_of widthNext places_of
-  field-reads w end p next q r =
+  pub field_reads : (w end : ℕ) (p : Places) (next : ℕ) → number_at l (comma + 1) 32 ≡ Value w end → places_at l end ≡ PlacesTo p next → ReadsField l at (CellFieldTo (record { parameter = n; index = i; width = w; places = p; next = next }))
+  unfolding field_at field_of width_next places_of
+  field_reads w end p next q r =
       let shown : CellShown l at (record { parameter = n; index = i; width = w; places = p; next = next }) = record { operand = h.operand; cell = h.cell; field = rw (h.argument, h.comma, q, r) } in
       record { reads = λ c e. subst (Said l at) e shown }

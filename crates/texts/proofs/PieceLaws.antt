@@ -9,37 +9,37 @@ use lib.ListN.{length}
 use Rattle.texts.specs.declared.text.Piece.{Piece}
 use Rattle.texts.specs.declared.text.PieceRead.{PieceRead}
 use Rattle.texts.specs.declared.text.PieceRead.TheVariants.{PieceTo, NoPiece}
-use Rattle.texts.specs.readers.Text.{piece_at, before, piecesWithin, textPieces}
-pub use Rattle.texts.proofs.FieldLaws.{piece-ends}
+use Rattle.texts.specs.Readers.Text.{piece_at, before, pieces_within, text_pieces}
+pub use Rattle.texts.proofs.FieldLaws.{piece_ends}
 
 -- one count of pieces gives what another does, where both reach the end of the line
-enough : (l : List ℕ) (n m at : ℕ) → length l ≤ at + n → length l ≤ at + m → piecesWithin n l at ≡ piecesWithin m l at
-unfolding piecesWithin
+enough : (l : List ℕ) (n m at : ℕ) → length l ≤ at + n → length l ≤ at + m → pieces_within n l at ≡ pieces_within m l at
+unfolding pieces_within
 enough l zero zero at h k = refl
 enough l zero (suc m) at h k = rw (le-leb (length l) at (omega arith))
 enough l (suc n) zero at h k = rw (le-leb (length l) at (omega arith))
 enough l (suc n) (suc m) at h k = go (piece_at l at) refl (λ next. enough l n m next)
   where
-    go : (r : PieceRead) → piece_at l at ≡ r → ((next : ℕ) → length l ≤ next + n → length l ≤ next + m → piecesWithin n l next ≡ piecesWithin m l next) → piecesWithin (suc n) l at ≡ piecesWithin (suc m) l at
+    go : (r : PieceRead) → piece_at l at ≡ r → ((next : ℕ) → length l ≤ next + n → length l ≤ next + m → pieces_within n l next ≡ pieces_within m l next) → pieces_within (suc n) l at ≡ pieces_within (suc m) l at
     go (PieceTo p next) e rest =
-        let b = piece-ends l at p next e in
+        let b = piece_ends l at p next e in
         rw (e, rest next (omega arith) (omega arith))
     go NoPiece e rest = rw e
 
 -- the count of a text's pieces is no restriction
-pub any-count : (l : List ℕ) (n from : ℕ) → length l ≤ n → piecesWithin n l from ≡ textPieces l from
-unfolding textPieces
-any-count l n from h = enough l n (length l) from (omega arith) (omega arith)
+pub any_count : (l : List ℕ) (n from : ℕ) → length l ≤ n → pieces_within n l from ≡ text_pieces l from
+unfolding text_pieces
+any_count l n from h = enough l n (length l) from (omega arith) (omega arith)
 
 module _ (l : List ℕ) (at : ℕ) where
-  pub pieces_end : length l ≤ at → textPieces l at ≡ some []
-  unfolding piecesWithin
-  pieces_end h = sym (any-count l (suc (length l)) at (omega arith)) ∙ rw (le-leb (length l) at h)
+  pub pieces_end : length l ≤ at → text_pieces l at ≡ some []
+  unfolding pieces_within
+  pieces_end h = sym (any_count l (suc (length l)) at (omega arith)) ∙ rw (le-leb (length l) at h)
 
-  pub pieces-refused : at < length l → piece_at l at ≡ NoPiece → textPieces l at ≡ none
-  unfolding piecesWithin
-  pieces-refused h e = sym (any-count l (suc (length l)) at (omega arith)) ∙ rw (lt-leb (length l) at h, e)
+  pub pieces_refused : at < length l → piece_at l at ≡ NoPiece → text_pieces l at ≡ none
+  unfolding pieces_within
+  pieces_refused h e = sym (any_count l (suc (length l)) at (omega arith)) ∙ rw (lt-leb (length l) at h, e)
 
-  pub pieces_more : (p : Piece) (next : ℕ) → at < length l → piece_at l at ≡ PieceTo p next → textPieces l at ≡ before p (textPieces l next)
-  unfolding piecesWithin textPieces
-  pieces_more p next h e = sym (any-count l (suc (length l)) at (omega arith)) ∙ rw (lt-leb (length l) at h, e)
+  pub pieces_more : (p : Piece) (next : ℕ) → at < length l → piece_at l at ≡ PieceTo p next → text_pieces l at ≡ before p (text_pieces l next)
+  unfolding pieces_within text_pieces
+  pieces_more p next h e = sym (any_count l (suc (length l)) at (omega arith)) ∙ rw (lt-leb (length l) at h, e)

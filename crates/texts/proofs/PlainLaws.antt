@@ -12,21 +12,21 @@ use lib.ListN.{length, get_or, drop}
 use Rattle.scan.specs.declared.run.Class.TheVariants.{Unbraced}
 use Rattle.scan.specs.Line.{byte_at}
 use Rattle.scan.specs.Run.{belongs, span}
-use Rattle.scan.proofs.RunLaws.{span-end, span-stop, span_more}
+use Rattle.scan.proofs.RunLaws.{span_end, span_stop, span_more}
 use Rattle.texts.specs.declared.text.Piece.{Piece}
 use Rattle.texts.specs.declared.text.Piece.TheVariants.{Byte}
 use Rattle.texts.specs.declared.text.PieceRead.TheVariants.{PieceTo, NoPiece}
 use Rattle.texts.specs.Width.{width_of}
-use Rattle.texts.specs.readers.Text.{piece_at, field_at, placed, before, textPieces, fitsBehind}
-use Rattle.texts.specs.inner.Plain.{plainRun, plains}
+use Rattle.texts.specs.Readers.Text.{piece_at, field_at, placed, before, text_pieces, fits_behind}
+use Rattle.texts.specs.Inner.Plain.{plain_run, plains}
 use Rattle.texts.proofs.PieceLaws.{pieces_more}
-use Rattle.texts.proofs.TextLaws.{piece-passed}
+use Rattle.texts.proofs.TextLaws.{piece_passed}
 
 -- a byte that is neither brace is a piece
 module _ (l : List ℕ) (i : ℕ) (h : i < length l) where
-  plain-piece : belongs Unbraced (get_or l i 0) ≡ true → piece_at l i ≡ PieceTo (Byte (get_or l i 0)) (i + 1)
+  plain_piece : belongs Unbraced (get_or l i 0) ≡ true → piece_at l i ≡ PieceTo (Byte (get_or l i 0)) (i + 1)
   unfolding belongs piece_at byte_at
-  plain-piece = rw (lt-leb (length l) i h) (go (eqb (get_or l i 0) 123) (eqb (get_or l i 0) 125))
+  plain_piece = rw (lt-leb (length l) i h) (go (eqb (get_or l i 0) 123) (eqb (get_or l i 0) 125))
     where
       go : (a b : Bool) → not (a || b) ≡ true → cond a (placed (field_at l (i + 1))) (cond b NoPiece (PieceTo (Byte (get_or l i 0)) (i + 1))) ≡ PieceTo (Byte (get_or l i 0)) (i + 1)
       go true b e = absurd (false≢true e)
@@ -38,46 +38,46 @@ befores : List ℕ → Option (List Piece) → Option (List Piece)
 befores [] o = o
 befores (b ∷ s) o = before (Byte b) (befores s o)
 
-run-pieces : (l s : List ℕ) (i : ℕ) → s ≡ span Unbraced (drop i l) → textPieces l i ≡ befores s (textPieces l (i + length s))
+run_pieces : (l s : List ℕ) (i : ℕ) → s ≡ span Unbraced (drop i l) → text_pieces l i ≡ befores s (text_pieces l (i + length s))
 unfolding befores
-run-pieces l [] i e = ap (textPieces l) (sym (add-zero i))
-run-pieces l (b ∷ s) i e = inside (leb (length l) i) refl (run-pieces l s (i + 1))
+run_pieces l [] i e = ap (text_pieces l) (sym (add-zero i))
+run_pieces l (b ∷ s) i e = inside (leb (length l) i) refl (run_pieces l s (i + 1))
   where
     Rest : Type 0
-    Rest = s ≡ span Unbraced (drop (i + 1) l) → textPieces l (i + 1) ≡ befores s (textPieces l (i + 1 + length s))
+    Rest = s ≡ span Unbraced (drop (i + 1) l) → text_pieces l (i + 1) ≡ befores s (text_pieces l (i + 1 + length s))
 
-    read : Rest → i < length l → (t : Bool) → belongs Unbraced (get_or l i 0) ≡ t → textPieces l i ≡ before (Byte b) (befores s (textPieces l (i + length (b ∷ s))))
+    read : Rest → i < length l → (t : Bool) → belongs Unbraced (get_or l i 0) ≡ t → text_pieces l i ≡ before (Byte b) (befores s (text_pieces l (i + length (b ∷ s))))
     read rest h true q =
         let x = e ∙ span_more Unbraced l i h q in
         let y : b ≡ get_or l i 0 = cc x in
         let z : s ≡ span Unbraced (drop (i + 1) l) = cc x in
         let n : i + length (b ∷ s) ≡ i + 1 + length s = omega arith in
-        rw (n, y, pieces_more l i (Byte (get_or l i 0)) (i + 1) h (plain-piece l i h q), ← rest z)
-    read rest h false q = let z : length (b ∷ s) ≡ 0 = ap length (e ∙ span-stop Unbraced l i h q) in absurd (omega arith)
+        rw (n, y, pieces_more l i (Byte (get_or l i 0)) (i + 1) h (plain_piece l i h q), ← rest z)
+    read rest h false q = let z : length (b ∷ s) ≡ 0 = ap length (e ∙ span_stop Unbraced l i h q) in absurd (omega arith)
 
-    inside : (t : Bool) → leb (length l) i ≡ t → Rest → textPieces l i ≡ before (Byte b) (befores s (textPieces l (i + length (b ∷ s))))
-    inside true q rest = let z : length (b ∷ s) ≡ 0 = ap length (e ∙ span-end Unbraced l i (leb-true (length l) i q)) in absurd (omega arith)
+    inside : (t : Bool) → leb (length l) i ≡ t → Rest → text_pieces l i ≡ before (Byte b) (befores s (text_pieces l (i + length (b ∷ s))))
+    inside true q rest = let z : length (b ∷ s) ≡ 0 = ap length (e ∙ span_end Unbraced l i (leb-true (length l) i q)) in absurd (omega arith)
     inside false q rest = read rest (leb-false (length l) i q) (belongs Unbraced (get_or l i 0)) refl
 
-befores-fit : (width : ℕ) (s : List ℕ) (o : Option (List Piece)) → fitsBehind width (befores s o) ≡ fitsBehind (width + length s) o
+befores_fit : (width : ℕ) (s : List ℕ) (o : Option (List Piece)) → fits_behind width (befores s o) ≡ fits_behind (width + length s) o
 unfolding befores width_of
-befores-fit width [] o = ap (λ (w : ℕ). fitsBehind w o) (sym (add-zero width))
-befores-fit width (b ∷ s) o =
+befores_fit width [] o = ap (λ (w : ℕ). fits_behind w o) (sym (add-zero width))
+befores_fit width (b ∷ s) o =
     let n : width + length (b ∷ s) ≡ width + 1 + length s = omega arith in
-    piece-passed width (Byte b) (befores s o) ∙ befores-fit (width + 1) s o ∙ ap (λ (w : ℕ). fitsBehind w o) (sym n)
+    piece_passed width (Byte b) (befores s o) ∙ befores_fit (width + 1) s o ∙ ap (λ (w : ℕ). fits_behind w o) (sym n)
 
-befores-some : (s : List ℕ) (ps : List Piece) → befores s (some ps) ≡ some (plains s ps)
+befores_some : (s : List ℕ) (ps : List Piece) → befores s (some ps) ≡ some (plains s ps)
 unfolding befores before
-befores-some [] ps = refl
-befores-some (b ∷ s) ps = ap (before (Byte b)) (befores-some s ps)
+befores_some [] ps = refl
+befores_some (b ∷ s) ps = ap (before (Byte b)) (befores_some s ps)
 
-module _ (l s : List ℕ) (i : ℕ) (e : s ≡ plainRun l i) where
+module _ (l s : List ℕ) (i : ℕ) (e : s ≡ plain_run l i) where
   -- What follows a run fits behind it.
-  pub plain_fits : (width : ℕ) → fitsBehind width (textPieces l i) ≡ fitsBehind (width + length s) (textPieces l (i + length s))
-  unfolding plainRun
-  plain_fits width = ap (fitsBehind width) (run-pieces l s i e) ∙ befores-fit width s (textPieces l (i + length s))
+  pub plain_fits : (width : ℕ) → fits_behind width (text_pieces l i) ≡ fits_behind (width + length s) (text_pieces l (i + length s))
+  unfolding plain_run
+  plain_fits width = ap (fits_behind width) (run_pieces l s i e) ∙ befores_fit width s (text_pieces l (i + length s))
 
   -- The pieces of a run, and what follows.
-  pub plain-pieces : (ps : List Piece) → textPieces l (i + length s) ≡ some ps → textPieces l i ≡ some (plains s ps)
-  unfolding plainRun
-  plain-pieces ps q = run-pieces l s i e ∙ rw q (befores-some s ps)
+  pub plain_pieces : (ps : List Piece) → text_pieces l (i + length s) ≡ some ps → text_pieces l i ≡ some (plains s ps)
+  unfolding plain_run
+  plain_pieces ps q = run_pieces l s i e ∙ rw q (befores_some s ps)

@@ -1,5 +1,5 @@
 pub mod Width
-pub mod readers
+pub mod Readers
 pub mod Pieces
 pub mod Rows
-pub mod inner
+pub mod Inner

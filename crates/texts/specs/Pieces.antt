@@ -3,19 +3,19 @@ use Rattle.std.specs.Prelude.{List, [], ◌∷◌, ℕ, ◌+◌}
 use Rattle.std.proofs.Math.Option.{Option, none, some}
 use Rattle.texts.specs.declared.text.Piece.{Piece}
 use Rattle.texts.specs.declared.text.Piece.TheVariants.{Byte, Placed}
-use Rattle.texts.specs.readers.Text.{textPieces}
+use Rattle.texts.specs.Readers.Text.{text_pieces}
 
 -- the pieces of an accepted text, which always has some
-unfoldable pub orNoPieces : Option (List Piece) → List Piece
-orNoPieces (some ps) = ps
-orNoPieces none = []
+unfoldable pub or_no_pieces : Option (List Piece) → List Piece
+or_no_pieces (some ps) = ps
+or_no_pieces none = []
 
--- of the line l, whose text starts at `from`: those that it spells (grammar/proofs/There:pieces-are, text-pieces, heading-pieces)
+-- of the line l, whose text starts at `from`: those that it spells (grammar/proofs/There:pieces-are, text_pieces_law, heading_pieces)
 unfoldable pub pieces_of : List ℕ → ℕ → List Piece
-pieces_of l from = orNoPieces (textPieces l from)
+pieces_of l from = or_no_pieces (text_pieces l from)
 
 -- how many fields there are
-abbrev pub fieldCount : List Piece → ℕ
-fieldCount [] = 0
-fieldCount (Byte b ∷ ps) = fieldCount ps
-fieldCount (Placed f ∷ ps) = 1 + fieldCount ps
+abbrev pub field_count : List Piece → ℕ
+field_count [] = 0
+field_count (Byte b ∷ ps) = field_count ps
+field_count (Placed f ∷ ps) = 1 + field_count ps

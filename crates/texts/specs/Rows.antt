@@ -4,20 +4,20 @@ use Rattle.numbers.specs.declared.Quantity.TheVariants.{Integer}
 use Rattle.scan.specs.Ascii.{ascii}
 use Rattle.scan.specs.Run.{belongs, span}
 use Rattle.scan.specs.Line.{byte_at}
-use Rattle.scan.specs.Value.{valueFrom}
-use Rattle.scan.specs.readers.Digits.{digitsAt, number_at}
+use Rattle.scan.specs.Value.{value_from}
+use Rattle.scan.specs.Readers.Digits.{digits_at, number_at}
 use Rattle.arguments.specs.declared.operand.Operand.TheVariants as operand
 use Rattle.arguments.specs.declared.argument.Argument.{Argument}
 use Rattle.arguments.specs.declared.argument.Filter.TheVariants.{Unfiltered}
-use Rattle.arguments.specs.readers.Literal.{unsignedAt, literalAt}
-use Rattle.arguments.specs.readers.Operand.{stringAt, numberOr, operand_at}
-use Rattle.arguments.specs.readers.Argument.{argumentOf, argumentAt}
+use Rattle.arguments.specs.Readers.Literal.{unsigned_at, literal_at}
+use Rattle.arguments.specs.Readers.Operand.{string_at, number_or, operand_at}
+use Rattle.arguments.specs.Readers.Argument.{argument_of, argument_at}
 use Rattle.texts.specs.declared.text.Places.TheVariants.{Unsaid, Said}
 use Rattle.texts.specs.declared.text.FieldRead.TheVariants.{FieldTo, NoField}
 use Rattle.texts.specs.declared.text.Piece.TheVariants.{Placed}
 use Rattle.texts.specs.declared.text.PieceRead.TheVariants.{PieceTo}
-use Rattle.texts.specs.Width.{width_of, totalWidth}
-use Rattle.texts.specs.readers.Text.{places_at, places_of, widthNext, field_of, field_at, placed, piece_at, before, piecesWithin, textPieces, fitsBehind, textFits}
+use Rattle.texts.specs.Width.{width_of, total_width}
+use Rattle.texts.specs.Readers.Text.{places_at, places_of, width_next, field_of, field_at, placed, piece_at, before, pieces_within, text_pieces, fits_behind, text_fits}
 
 -- the integer 1
 abbrev one : Argument
@@ -37,12 +37,12 @@ Rows =
     -- a field ends where its form ends, whatever its string holds
     × (piece_at (ascii "{\"}{\",2}") 0 ≡ PieceTo (Placed (record { argument = record { operand = operand.StringLiteral 2 4; filter = Unfiltered }; width = 2; places = Unsaid })) 8)
     -- a closing brace in plain text
-    × (textFits (ascii "a}") 0 ≡ false)
+    × (text_fits (ascii "a}") 0 ≡ false)
     -- four fields of 32 with 4 and with 5 bytes more
-    × (textFits (ascii "{1,32}{1,32}{1,32}{1,32}abcd") 0 ≡ true)
-    × (textFits (ascii "{1,32}{1,32}{1,32}{1,32}abcde") 0 ≡ false)
+    × (text_fits (ascii "{1,32}{1,32}{1,32}{1,32}abcd") 0 ≡ true)
+    × (text_fits (ascii "{1,32}{1,32}{1,32}{1,32}abcde") 0 ≡ false)
 
 -- The rows hold.
 pub rows : Rows
-unfolding belongs span byte_at valueFrom digitsAt number_at unsignedAt literalAt stringAt numberOr operand_at argumentOf argumentAt places_at places_of widthNext field_of field_at placed piece_at width_of totalWidth before piecesWithin textPieces fitsBehind textFits
+unfolding belongs span byte_at value_from digits_at number_at unsigned_at literal_at string_at number_or operand_at argument_of argument_at places_at places_of width_next field_of field_at placed piece_at width_of total_width before pieces_within text_pieces fits_behind text_fits
 rows = (refl, refl, refl, refl, refl, refl, refl, refl, refl, refl, refl)

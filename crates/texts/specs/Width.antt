@@ -8,6 +8,6 @@ unfoldable pub width_of : Piece → ℕ
 width_of (Byte b) = 1
 width_of (Placed f) = f.width
 
-unfoldable pub totalWidth : List Piece → ℕ
-totalWidth [] = 0
-totalWidth (p ∷ ps) = width_of p + totalWidth ps
+unfoldable pub total_width : List Piece → ℕ
+total_width [] = 0
+total_width (p ∷ ps) = width_of p + total_width ps

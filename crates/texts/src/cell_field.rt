@@ -1,5 +1,5 @@
 // The field that is printed most: a cell without entry and filter.
-ghost use Rattle.texts.specs.inner.CellField.{ReadsField};
+ghost use Rattle.texts.specs.Inner.CellField.{ReadsField};
 
 use crate::text;
 use crate::text::{Places, PlacesRead};

@@ -1,8 +1,8 @@
 // The fields of texts and headings.
 ghost use Rattle.std.specs.Prelude.{◌≡◌};
 ghost use Rattle.texts.specs.Width.{width_of};
-ghost use Rattle.texts.specs.readers.Text.{places_at, field_at, piece_at, textFits};
-ghost use Rattle.texts.specs.inner.Plain.{plainRun};
+ghost use Rattle.texts.specs.Readers.Text.{places_at, field_at, piece_at, text_fits};
+ghost use Rattle.texts.specs.Inner.Plain.{plain_run};
 
 use arguments::argument;
 use arguments::argument::{Argument, ArgumentRead};
@@ -121,7 +121,7 @@ pub fn piece_at(line: &[u8], at: usize) -> PieceRead
 
 // The bytes from a place on up to the next brace, each of which is a piece.
 pub fn plain_run<'a>(line: &'a [u8], at: usize) -> &'a [u8]
-    ensures { result.now ≡ plainRun line.now at }
+    ensures { result.now ≡ plain_run line.now at }
 {
     let rest = bytes::part(line, at, line.len());
     let length = run::count(rest, Class::Unbraced);
@@ -139,7 +139,7 @@ fn width_of(piece: Piece) -> usize
 
 // "With fields at width w a line, command word included, has at most 132 bytes": the text starts at `from`.
 pub fn text_fits(line: &[u8], from: usize) -> bool
-    ensures { result ≡ textFits line.now from }
+    ensures { result ≡ text_fits line.now from }
 {
     if 132 < from {
         return false;

@@ -6,7 +6,7 @@ use Rattle.meaning.specs.Meaning.{Meaning}
 use Rattle.meaning.specs.declared.question.Question.{Question}
 use Rattle.arguments.specs.declared.index.Index.{Index}
 use Rattle.values.specs.Machine.{Machine}
-use Rattle.values.specs.Indexes.{indexValue}
+use Rattle.values.specs.Indexes.{index_value}
 
 -- "Cells ask in the selected datasource"
 abbrev pub question : ℕ → ℕ → ℕ → ℕ → ℕ → Question
@@ -16,6 +16,6 @@ unfoldable pub asks : ℕ → Question → Meaning Answer
 asks line q = ask q line (λ a. done a)
 
 -- "8 then 9": both indexes, then the question
-unfoldable pub cellMeaning : Machine → ℕ → ℕ → ℕ → Index → Index → Meaning Answer
-cellMeaning m line kind p i j =
-    bind (indexValue m line i) (λ r. bind (indexValue m line j) (λ e. asks line (question kind m.datasource p r e)))
+unfoldable pub cell_meaning : Machine → ℕ → ℕ → ℕ → Index → Index → Meaning Answer
+cell_meaning m line kind p i j =
+    bind (index_value m line i) (λ r. bind (index_value m line j) (λ e. asks line (question kind m.datasource p r e)))

@@ -8,15 +8,15 @@ use Rattle.arguments.specs.declared.index.Index.TheVariants.{Fixed, Variable, Lo
 use Rattle.values.specs.Machine.{Machine, numbered}
 
 -- "1–3 digits, IVn or LOOP"
-unfoldable pub indexNumber : List ℤ → ℤ → Index → ℤ
-indexNumber integers counter (Fixed n) = pos n
-indexNumber integers counter (Variable n) = numbered (pos 0) integers n
-indexNumber integers counter Loop = counter
+unfoldable pub index_number : List ℤ → ℤ → Index → ℤ
+index_number integers counter (Fixed n) = pos n
+index_number integers counter (Variable n) = numbered (pos 0) integers n
+index_number integers counter Loop = counter
 
 -- 8: "An index is outside 0–999"
 unfoldable pub limited : ℕ → ℤ → Meaning ℕ
 limited line (pos k) = cond (leb k 999) (done k) (stop BadIndex line)
 limited line (negsuc k) = stop BadIndex line
 
-unfoldable pub indexValue : Machine → ℕ → Index → Meaning ℕ
-indexValue m line i = limited line (indexNumber m.variables.integers m.counter i)
+unfoldable pub index_value : Machine → ℕ → Index → Meaning ℕ
+index_value m line i = limited line (index_number m.variables.integers m.counter i)

@@ -1,8 +1,8 @@
 // The registers of a run: two rows that are lent, and every place in them.
 ghost use Rattle.std.specs.Prelude.{◌≡◌, ◌++◌, ◌+◌, ◌≤◌, pos, length, drop, replicate};
 ghost use Rattle.values.specs.Machine as M;
-ghost use Rattle.values.specs.inner.State.{bank, integersIn, decimalsIn, lengthsIn, recordsIn, entriesIn, headingsIn};
-ghost use Rattle.values.specs.inner.Registers.{Puts};
+ghost use Rattle.values.specs.Inner.State.{bank, integers_in, decimals_in, lengths_in, records_in, entries_in, headings_in};
+ghost use Rattle.values.specs.Inner.Registers.{Puts};
 
 // IV1 to IV99, then FV1 to FV99.
 pub type Numbers = [i64; 198];
@@ -43,14 +43,14 @@ fn number_in(numbers: &Numbers, from: usize, size: usize, n: usize) -> i64
 
 // IVn; 0 for any other.
 pub fn integer(numbers: &Numbers, n: usize) -> i64
-    ensures { result ≡ M.numbered (pos 0) (integersIn numbers.now) n }
+    ensures { result ≡ M.numbered (pos 0) (integers_in numbers.now) n }
 {
     number_in(numbers, INTEGERS, 99, n)
 }
 
 // FVn; 0 for any other.
 pub fn decimal(numbers: &Numbers, n: usize) -> i64
-    ensures { result ≡ M.numbered (pos 0) (decimalsIn numbers.now) n }
+    ensures { result ≡ M.numbered (pos 0) (decimals_in numbers.now) n }
 {
     number_in(numbers, DECIMALS, 99, n)
 }
@@ -71,28 +71,28 @@ fn word_in(words: &Words, from: usize, size: usize, n: usize) -> u64
 
 // How long SVn is; 0 for any other.
 pub fn length(words: &Words, n: usize) -> usize
-    ensures { result ≡ M.numbered 0 (lengthsIn words.now) n }
+    ensures { result ≡ M.numbered 0 (lengths_in words.now) n }
 {
     word_in(words, LENGTHS, 99, n) as usize
 }
 
 // What Rn fetched; 0, which is nothing, for any other.
 pub fn record_word(words: &Words, n: usize) -> u64
-    ensures { result ≡ M.numbered 0 (recordsIn words.now) n }
+    ensures { result ≡ M.numbered 0 (records_in words.now) n }
 {
     word_in(words, RECORDS, 10, n)
 }
 
 // What Tn fetched.
 pub fn entry_word(words: &Words, n: usize) -> u64
-    ensures { result ≡ M.numbered 0 (entriesIn words.now) n }
+    ensures { result ≡ M.numbered 0 (entries_in words.now) n }
 {
     word_in(words, ENTRIES, 10, n)
 }
 
 // Heading n; 0, which is none, for any other.
 pub fn heading_word(words: &Words, n: usize) -> u64
-    ensures { result ≡ M.numbered 0 (headingsIn words.now) n }
+    ensures { result ≡ M.numbered 0 (headings_in words.now) n }
 {
     word_in(words, HEADINGS, 9, n)
 }

@@ -1,9 +1,9 @@
 // Strings: a part of the line, of the store, or of the row of a string variable.
 ghost use Rattle.std.specs.Prelude.{◌≡◌, cond, ◌≤◌, length, take, drop};
 ghost use Rattle.values.specs.Letters as L;
-ghost use Rattle.values.specs.Letters.{equalStrings};
-ghost use Rattle.values.specs.inner.Texts.{cased, text_of, Sized};
-ghost use Rattle.values.specs.inner.Texts as S;
+ghost use Rattle.values.specs.Letters.{equal_strings};
+ghost use Rattle.values.specs.Inner.Texts.{cased, text_of, Sized};
+ghost use Rattle.values.specs.Inner.Texts as S;
 
 use scan::bytes;
 
@@ -49,7 +49,7 @@ fn row_of(strings: &[[u8; 16]; 99], n: usize) -> [u8; 16]
 }
 
 pub fn row_for(strings: &[[u8; 16]; 99], source: Source) -> [u8; 16]
-    ensures { result ≡ S.rowFor strings.now source }
+    ensures { result ≡ S.row_for strings.now source }
 {
     match source {
         Source::Line => [0u8; 16],
@@ -105,7 +105,7 @@ pub fn letter(raised: bool, b: u8) -> u8
 }
 
 fn same_bytes(a: &[u8], a_upper: bool, b: &[u8], b_upper: bool, ignoring: bool) -> bool
-    ensures { result ≡ equalStrings ignoring (cased a_upper a.now) (cased b_upper b.now) }
+    ensures { result ≡ equal_strings ignoring (cased a_upper a.now) (cased b_upper b.now) }
 {
     let mut i = 0;
     while i < a.len() {
@@ -131,7 +131,7 @@ pub fn same<'a>(
     q: Text,
     ignoring: bool,
 ) -> bool
-    ensures { result ≡ equalStrings ignoring (text_of (S.strings line.now store.now strings.now) p) (text_of (S.strings line.now store.now strings.now) q) }
+    ensures { result ≡ equal_strings ignoring (text_of (S.strings line.now store.now strings.now) p) (text_of (S.strings line.now store.now strings.now) q) }
 {
     let source = p.source;
     let row = row_for(strings, source);

@@ -1,7 +1,7 @@
 // The arguments of a line, worked out before its command: "arguments left to right, 8 then 9 each".
-ghost use Rattle.values.specs.inner.Texts.{Sized};
-ghost use Rattle.values.specs.inner.State.{held};
-ghost use Rattle.values.specs.inner.Working.{LiteralOf, Workable, WorksOut};
+ghost use Rattle.values.specs.Inner.Texts.{Sized};
+ghost use Rattle.values.specs.Inner.State.{held};
+ghost use Rattle.values.specs.Inner.Working.{LiteralOf, Workable, WorksOut};
 
 use crate::registers::{Numbers, Words};
 use crate::scene::Scene;

@@ -9,47 +9,47 @@ use borrow.Author.Rules.{rules}
 use Rattle.buffers.proofs.copy_in.Statement.{statement}
 use Rattle.buffers.proofs.copy_in.Tie as tie
 
-abbrev invariant-loop : tie.invariant-loop
-invariant-loop buffer₀ at bytes j₀ buffer j = (buffer ≡ sets buffer₀ at (take j bytes)) × (j ≤ length bytes) × (length buffer ≡ length buffer₀)
+abbrev invariant_loop : tie.invariant_loop
+invariant_loop buffer₀ at bytes j₀ buffer j = (buffer ≡ sets buffer₀ at (take j bytes)) × (j ≤ length bytes) × (length buffer ≡ length buffer₀)
 
-abbrev decreases-loop : tie.decreases-loop
-decreases-loop buffer₀ at bytes j₀ buffer j = length bytes - j
+abbrev decreases_loop : tie.decreases_loop
+decreases_loop buffer₀ at bytes j₀ buffer j = length bytes - j
 
-loop-holds : tie.Need-loop-init invariant-loop decreases-loop
+loop-holds : tie.Need-loop-init invariant_loop decreases_loop
 loop-holds c = (refl, zero-le, refl)
 
-shared-slice-read-buffer : tie.Need-shared-slice-read-buffer invariant-loop decreases-loop
+shared-slice-read-buffer : tie.Need-shared-slice-read-buffer invariant_loop decreases_loop
 shared-slice-read-buffer c = search rules
 
-add-buffer : tie.Need-overflow-add-buffer invariant-loop decreases-loop
+add-buffer : tie.Need-overflow-add-buffer invariant_loop decreases_loop
 add-buffer c = search rules
 
-slice-write-buffer : tie.Need-slice-write-buffer invariant-loop decreases-loop
+slice-write-buffer : tie.Need-slice-write-buffer invariant_loop decreases_loop
 slice-write-buffer c = search rules
 
-add-j : tie.Need-overflow-add-j invariant-loop decreases-loop
+add-j : tie.Need-overflow-add-j invariant_loop decreases_loop
 add-j c = search rules
 
-loop-less : tie.Need-loop-smaller invariant-loop decreases-loop
+loop-less : tie.Need-loop-smaller invariant_loop decreases_loop
 loop-less c = search rules
 
-loop-again : tie.Need-loop-preserved invariant-loop decreases-loop
+loop-again : tie.Need-loop-preserved invariant_loop decreases_loop
 loop-again c =
     let l = c.before.before.loop.invariant in
     (copied_more _ _ _ _ _ l.0 _ c.before.loop-test.true, omega arith, simp length-set l.2)
 
-same_length : tie.Need-same-length invariant-loop decreases-loop
+same_length : tie.Need-same-length invariant_loop decreases_loop
 same_length c = c.before.loop.invariant.2
 
-returns : tie.Need-returns invariant-loop decreases-loop
+returns : tie.Need-returns invariant_loop decreases_loop
 returns c = copied_all _ _ _ _ _ c.before.loop.invariant.0 c.loop-test.false
 
 pub copy_in_spec : {M : Type 1} → statement M
 copy_in_spec =
     tie.close
     (tie.spec
-    invariant-loop
-    decreases-loop
+    invariant_loop
+    decreases_loop
     loop-holds
     shared-slice-read-buffer
     add-buffer

@@ -1,7 +1,7 @@
 -- Where there is room the bytes are filled in, else nothing is done.
 use mathlib.Core.Path.{sym, ◌∙◌}
 use lib.ListN.{length-replicate}
-use Rattle.buffers.proofs.Laws.{room_fits, stored-told, stored_refused}
+use Rattle.buffers.proofs.Laws.{room_fits, stored_told, stored_refused}
 use borrow.Author.Rules.{rules}
 use Rattle.buffers.proofs.fill.Statement.{statement}
 use Rattle.buffers.proofs.fill.Tie as tie
@@ -18,7 +18,7 @@ same_length c = search rules
 returns : tie.Need-returns
 returns c =
     let k = c.before.before in
-    stored-told _ _ _ _ (length-replicate _ _) _ (sym k.before.before.before.has_room.ensures ∙ k.before.before.if1.true) k.fill-in.ensures
+    stored_told _ _ _ _ (length-replicate _ _) _ (sym k.before.before.before.has_room.ensures ∙ k.before.before.if1.true) k.fill-in.ensures
 
 same-length-2 : tie.Need-same-length-2
 same-length-2 c = search rules

@@ -1,6 +1,6 @@
 -- Where there is room the bytes are copied in, else nothing is done.
 use mathlib.Core.Path.{refl, sym, ◌∙◌}
-use Rattle.buffers.proofs.Laws.{room_fits, stored-told, stored_refused}
+use Rattle.buffers.proofs.Laws.{room_fits, stored_told, stored_refused}
 use borrow.Author.Rules.{rules}
 use Rattle.buffers.proofs.write.Statement.{statement}
 use Rattle.buffers.proofs.write.Tie as tie
@@ -17,7 +17,7 @@ same_length c = search rules
 returns : tie.Need-returns
 returns c =
     let k = c.before.before in
-    stored-told _ _ _ _ refl _ (sym k.before.before.before.has_room.ensures ∙ k.before.before.if1.true) k.copy-in.ensures
+    stored_told _ _ _ _ refl _ (sym k.before.before.before.has_room.ensures ∙ k.before.before.if1.true) k.copy-in.ensures
 
 same-length-2 : tie.Need-same-length-2
 same-length-2 c = search rules

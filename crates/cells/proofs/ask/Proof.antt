@@ -1,7 +1,7 @@
 -- The index decides 1, the question 15; else the answer is the one over the index.
 use Rattle.std.proofs.Common.{ℕ, arith, rules}
 use lib.ListN.{length-replicate}
-use Rattle.cells.proofs.Replies.{ask-bad-store, ask-bad-request, ask-answered}
+use Rattle.cells.proofs.Replies.{ask_bad_store, ask_bad_request, ask_answered}
 use Rattle.cells.proofs.ask.Statement.{statement}
 use Rattle.cells.proofs.ask.Tie as tie
 
@@ -18,7 +18,7 @@ enum_told : tie.Need-enum-told
 enum_told c = search rules
 
 returns : tie.Need-returns
-returns c = ask-bad-store _ _ _ _ _ c.before.before.before.build.ensures _ c.enum_told.given.1
+returns c = ask_bad_store _ _ _ _ _ c.before.before.before.build.ensures _ c.enum_told.given.1
 
 allowed-requires : tie.Need-allowed-requires
 allowed-requires c κs = search rules
@@ -26,7 +26,7 @@ allowed-requires c κs = search rules
 returns-2 : tie.Need-returns-2
 returns-2 c =
     let k = c.before.before.before.before.before.before in
-    ask-bad-request _ _ _ _ _ k.build.ensures _ _ c.before.before.before.count.given.1 _ c.before.allowed.ensures c.if1.true
+    ask_bad_request _ _ _ _ _ k.build.ensures _ _ c.before.before.before.count.given.1 _ c.before.allowed.ensures c.if1.true
 
 slice-aggregate-answer : tie.Need-slice-aggregate-answer
 slice-aggregate-answer c = search rules
@@ -37,7 +37,7 @@ answer-requires c κs = search rules
 returns-3 : tie.Need-returns-3
 returns-3 c =
     let k = c.before.before.before.before.before.before.before.before in
-    ask-answered _ _ _ _ _ k.build.ensures _ _ c.before.before.before.before.before.count.given.1 _ c.before.before.before.allowed.ensures c.before.before.if1.false (omega (arith, length-replicate {A = ℕ} 5461 0)) _ c.answer.ensures
+    ask_answered _ _ _ _ _ k.build.ensures _ _ c.before.before.before.before.before.count.given.1 _ c.before.before.before.allowed.ensures c.before.before.if1.false (omega (arith, length-replicate {A = ℕ} 5461 0)) _ c.answer.ensures
 
 pub ask-spec : {M : Type 1} → statement M
 ask-spec =

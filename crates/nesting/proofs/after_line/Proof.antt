@@ -1,7 +1,7 @@
 -- Each shape has a function of its own; a $REM changes nothing.
 use Rattle.nesting.specs.Nest.{behind}
 use mathlib.Core.Path.{refl}
-use Rattle.nesting.specs.inner.Open.{Follows, stepIn}
+use Rattle.nesting.specs.Inner.Open.{Follows, step_in}
 use borrow.Author.Rules.{rules}
 use Rattle.nesting.proofs.after_line.Statement.{statement}
 use Rattle.nesting.proofs.after_line.Tie as tie
@@ -61,29 +61,29 @@ returns : tie.Need-returns
 returns c = rw c.before.enum_told.given.1 c.section-begun.ensures
 
 returns-2 : tie.Need-returns-2
-unfolding Follows behind stepIn
+unfolding Follows behind step_in
 returns-2 c = rw c.enum-told2.given.1 (record { told = refl; follows = λ s h. h })
 
 returns-3 : tie.Need-returns-3
-returns-3 c = rw c.before.enum-told3.given.1 c.test-begun.ensures
+returns-3 c = rw c.before.enum-told3.given.1 c.test_begun.ensures
 
 returns-4 : tie.Need-returns-4
-returns-4 c = rw c.before.enum-told4.given.1 c.test-turned.ensures
+returns-4 c = rw c.before.enum-told4.given.1 c.test_turned_law.ensures
 
 returns-5 : tie.Need-returns-5
-returns-5 c = rw c.before.enum-told5.given.1 c.test-ended.ensures
+returns-5 c = rw c.before.enum-told5.given.1 c.test_ended_law.ensures
 
 returns-6 : tie.Need-returns-6
-returns-6 c = rw c.before.enum-told6.given.1 c.table-begun.ensures
+returns-6 c = rw c.before.enum-told6.given.1 c.table_begun_law.ensures
 
 returns-7 : tie.Need-returns-7
-returns-7 c = rw c.before.enum-told7.given.1 c.table-ended.ensures
+returns-7 c = rw c.before.enum-told7.given.1 c.table_ended_law.ensures
 
 returns-8 : tie.Need-returns-8
 returns-8 c = rw c.before.enum-told8.given.1 c.passed.ensures
 
 returns-9 : tie.Need-returns-9
-unfolding behind stepIn
+unfolding behind step_in
 returns-9 c = rw c.before.enum-told9.given.1 (record { told = c.passed2.ensures.told; follows = λ s h. c.passed2.ensures.follows s h })
 
 pub after-line-spec : {M : Type 1} → statement M

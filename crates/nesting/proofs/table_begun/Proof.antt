@@ -1,22 +1,22 @@
 use native.Mathlib.Omega.{arith}
 use borrow.Author.Tests.{eq-eqb, ne_eqb, le-leb, lt-leb}
-use Rattle.nesting.specs.inner.Open.{stepIn, deeper}
-use Rattle.nesting.proofs.OpenLaws.{early-table, deep-table, one-more-table, marks-fit}
+use Rattle.nesting.specs.Inner.Open.{step_in, deeper}
+use Rattle.nesting.proofs.OpenLaws.{early_table, deep_table, one_more_table, marks_fit}
 use borrow.Author.Rules.{rules}
 use Rattle.nesting.proofs.table_begun.Statement.{statement}
 use Rattle.nesting.proofs.table_begun.Tie as tie
 
 returns : tie.Need-returns
-unfolding stepIn deeper
-returns c = record { told = rw (eq-eqb _ _ c.if1.true); follows = λ s h. early-table s h c.if1.true }
+unfolding step_in deeper
+returns c = record { told = rw (eq-eqb _ _ c.if1.true); follows = λ s h. early_table s h c.if1.true }
 
 returns-2 : tie.Need-returns-2
-unfolding stepIn deeper
-returns-2 c = record { told = rw (ne_eqb _ _ c.before.before.if1.false, le-leb _ _ c.if2.true); follows = λ s h. deep-table s h c.before.before.if1.false c.if2.true }
+unfolding step_in deeper
+returns-2 c = record { told = rw (ne_eqb _ _ c.before.before.if1.false, le-leb _ _ c.if2.true); follows = λ s h. deep_table s h c.before.before.if1.false c.if2.true }
 
 returns-3 : tie.Need-returns-3
-unfolding stepIn deeper
-returns-3 c = record { told = rw (ne_eqb _ _ c.before.before.before.before.if1.false, lt-leb _ _ c.before.before.if2.false, le-leb _ _ c.if3.true); follows = λ s h. absurd (omega (arith, marks-fit h, c.if3.true)) }
+unfolding step_in deeper
+returns-3 c = record { told = rw (ne_eqb _ _ c.before.before.before.before.if1.false, lt-leb _ _ c.before.before.if2.false, le-leb _ _ c.if3.true); follows = λ s h. absurd (omega (arith, marks_fit h, c.if3.true)) }
 
 mul-t3 : tie.Need-overflow-mul-t3
 mul-t3 c = search rules
@@ -28,8 +28,8 @@ add-t5 : tie.Need-overflow-add-t5
 add-t5 c = search rules
 
 returns-4 : tie.Need-returns-4
-unfolding stepIn deeper
-returns-4 c = record { told = rw (ne_eqb _ _ c.before.before.before.before.before.before.if1.false, lt-leb _ _ c.before.before.before.before.if2.false, lt-leb _ _ c.before.before.if3.false); follows = λ s h. one-more-table s h c.before.before.before.before.before.before.if1.false c.before.before.before.before.if2.false }
+unfolding step_in deeper
+returns-4 c = record { told = rw (ne_eqb _ _ c.before.before.before.before.before.before.if1.false, lt-leb _ _ c.before.before.before.before.if2.false, lt-leb _ _ c.before.before.if3.false); follows = λ s h. one_more_table s h c.before.before.before.before.before.before.if1.false c.before.before.before.before.if2.false }
 
 pub table-begun-spec : {M : Type 1} → statement M
 table-begun-spec = tie.close (tie.spec returns returns-2 returns-3 mul-t3 add-t4 add-t5 returns-4)

@@ -2,7 +2,7 @@
 use native.Mathlib.Omega.{arith}
 use Prim.Native.Nat.{ℕ}
 use lib.ListN.{length-replicate}
-use Rattle.store.proofs.Edits.{Putting, putting, put-bad-store, put-bad-request, put_full, put-over, put-done}
+use Rattle.store.proofs.Edits.{Putting, putting, put_bad_store, put_bad_request, put_full, put_over, put_done}
 use borrow.Author.Rules.{rules}
 use Rattle.store.proofs.put.Statement.{statement}
 use Rattle.store.proofs.put.Tie as tie
@@ -28,7 +28,7 @@ same_length : tie.Need-same-length
 same_length c = search rules
 
 returns : tie.Need-returns
-returns c = put-bad-store _ _ _ _ _ c.before.before.before.build.ensures _ c.enum_told.given.1
+returns c = put_bad_store _ _ _ _ _ c.before.before.before.build.ensures _ c.enum_told.given.1
 
 cell-request-requires : tie.Need-cell-request-requires
 cell-request-requires c κs = search rules
@@ -44,7 +44,7 @@ same-length-2 c = search rules
 
 returns-2 : tie.Need-returns-2
 returns-2 c =
-    put-bad-request _ _ _ _ _ c.before.before.before.before.before.before.before.build.ensures _ _ c.before.before.before.before.count.given.1 _ c.before.before.cell-request.ensures c.enum-told2.given.1
+    put_bad_request _ _ _ _ _ c.before.before.before.before.before.before.before.build.ensures _ _ c.before.before.before.before.count.given.1 _ c.before.before.cell-request.ensures c.enum-told2.given.1
 
 slice-aggregate-locate : tie.Need-slice-aggregate-locate
 slice-aggregate-locate c = search rules
@@ -68,7 +68,7 @@ same-length-4 : tie.Need-same-length-4
 same-length-4 c = search rules
 
 returns-4 : tie.Need-returns-4
-returns-4 c = put-over _ _ _ _ _ (facts c.before.before) c.if2.true
+returns-4 c = put_over _ _ _ _ _ (facts c.before.before) c.if2.true
 
 replace-requires : tie.Need-replace-requires
 replace-requires c κs = let f = facts c.before.before.before in (f.inside, f.room, omega arith)
@@ -77,7 +77,7 @@ same-length-5 : tie.Need-same-length-5
 same-length-5 c = search rules
 
 returns-5 : tie.Need-returns-5
-returns-5 c = put-done _ _ _ _ _ (facts c.before.before.before.before.before.before) c.before.before.before.before.before.if1.false c.before.before.before.before.if2.false _ c.before.before.replace.ensures
+returns-5 c = put_done _ _ _ _ _ (facts c.before.before.before.before.before.before) c.before.before.before.before.before.if1.false c.before.before.before.before.if2.false _ c.before.before.replace.ensures
 
 pub put_spec : {M : Type 1} → statement M
 put_spec =

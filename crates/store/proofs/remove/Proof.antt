@@ -2,7 +2,7 @@
 use native.Mathlib.Omega.{arith}
 use Prim.Native.Nat.{ℕ, ◌+◌, ◌≤◌}
 use lib.ListN.{length, replicate, length-replicate}
-use Rattle.store.proofs.Edits.{remove-bad-store, remove-bad-request, remove-none, slot-inside, remove-done}
+use Rattle.store.proofs.Edits.{remove_bad_store, remove_bad_request, remove_none, slot_inside, remove_done}
 use borrow.Author.Rules.{rules}
 use Rattle.store.proofs.remove.Statement.{statement}
 use Rattle.store.proofs.remove.Tie as tie
@@ -13,7 +13,7 @@ long = omega (arith, length-replicate {A = ℕ} 5461 0)
 -- the slot lies in the store
 inside : (k : tie.After-locate) → let s = k.before.before.before.before.before.before.before.before.before.before.before.before.before.before.before.before.args in (k.locate.result.at + k.locate.result.size ≤ s.len) × (s.len ≤ length s.store.now)
 inside k =
-    slot-inside _ _ _ _ _ k.before.before.before.before.before.before.before.before.before.before.before.build.ensures k.before.before.before.before.before.before.before.before.before.before.before.before.before.before.before.before.args.key.now _ k.before.before.before.before.before.before.before.before.count.given.1 _ long _ k.before.before.before.before.number.given.1 _ k.locate.ensures
+    slot_inside _ _ _ _ _ k.before.before.before.before.before.before.before.before.before.before.before.build.ensures k.before.before.before.before.before.before.before.before.before.before.before.before.before.before.before.before.args.key.now _ k.before.before.before.before.before.before.before.before.count.given.1 _ long _ k.before.before.before.before.number.given.1 _ k.locate.ensures
 
 slice-aggregate-build : tie.Need-slice-aggregate-build
 slice-aggregate-build c = search rules
@@ -31,7 +31,7 @@ same_length : tie.Need-same-length
 same_length c = search rules
 
 returns : tie.Need-returns
-returns c = remove-bad-store _ _ _ _ _ c.before.before.before.build.ensures _ c.enum_told.given.1
+returns c = remove_bad_store _ _ _ _ _ c.before.before.before.build.ensures _ c.enum_told.given.1
 
 key-request-requires : tie.Need-key-request-requires
 key-request-requires c κs = search rules
@@ -47,7 +47,7 @@ same-length-2 c = search rules
 
 returns-2 : tie.Need-returns-2
 returns-2 c =
-    remove-bad-request _ _ _ _ _ c.before.before.before.before.before.before.before.build.ensures _ _ c.before.before.before.before.count.given.1 _ c.before.before.key-request.ensures c.enum-told2.given.1
+    remove_bad_request _ _ _ _ _ c.before.before.before.before.before.before.before.build.ensures _ _ c.before.before.before.before.count.given.1 _ c.before.before.key-request.ensures c.enum-told2.given.1
 
 slice-aggregate-locate : tie.Need-slice-aggregate-locate
 slice-aggregate-locate c = search rules
@@ -61,7 +61,7 @@ same-length-3 c = search rules
 returns-3 : tie.Need-returns-3
 returns-3 c =
     let k = c.before in
-    remove-none _ _ _ _ _ k.before.before.before.before.before.before.before.before.before.before.before.build.ensures _ _ k.before.before.before.before.before.before.before.before.count.given.1 _ long _ k.before.before.before.before.number.given.1 _ k.locate.ensures k.before.before.before.before.before.before.key-request.ensures c.if1.true
+    remove_none _ _ _ _ _ k.before.before.before.before.before.before.before.before.before.before.before.build.ensures _ _ k.before.before.before.before.before.before.before.before.count.given.1 _ long _ k.before.before.before.before.number.given.1 _ k.locate.ensures k.before.before.before.before.before.before.key-request.ensures c.if1.true
 
 slice-aggregate-replace : tie.Need-slice-aggregate-replace
 slice-aggregate-replace c = search rules
@@ -78,7 +78,7 @@ same-length-4 c = search rules
 returns-4 : tie.Need-returns-4
 returns-4 c =
     let k = c.before.before.before.before.before.before in
-    remove-done _ _ _ _ _ k.before.before.before.before.before.before.before.before.before.before.before.build.ensures _ _ k.before.before.before.before.before.before.before.before.count.given.1 _ long _ k.before.before.before.before.number.given.1 _ k.locate.ensures k.before.before.before.before.before.before.key-request.ensures c.before.before.before.before.before.if1.false _ c.before.before.replace.ensures
+    remove_done _ _ _ _ _ k.before.before.before.before.before.before.before.before.before.before.before.build.ensures _ _ k.before.before.before.before.before.before.before.before.count.given.1 _ long _ k.before.before.before.before.number.given.1 _ k.locate.ensures k.before.before.before.before.before.before.key-request.ensures c.before.before.before.before.before.if1.false _ c.before.before.replace.ensures
 
 pub remove-spec : {M : Type 1} → statement M
 remove-spec =

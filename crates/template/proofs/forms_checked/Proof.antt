@@ -1,5 +1,5 @@
-use Rattle.template.specs.Order.{formsChecked, nestingChecked}
-use Rattle.template.proofs.OrderLaws.{no-faults-met, form-fault-met, nesting-fault-met}
+use Rattle.template.specs.Order.{forms_checked, nesting_checked}
+use Rattle.template.proofs.OrderLaws.{no_faults_met, form_fault_met, nesting_fault_met}
 use borrow.Author.Rules.{rules}
 use Rattle.template.proofs.forms_checked.Statement.{statement}
 use Rattle.template.proofs.forms_checked.Tie as tie
@@ -20,16 +20,16 @@ enum-known-faults-2 : tie.Need-enum-known-faults-2
 enum-known-faults-2 c = search rules
 
 returns : tie.Need-returns
-unfolding formsChecked nestingChecked
-returns c = no-faults-met _ _ _ _ c.before.before.before.check.ensures _ c.before.enum_told.given.1 c.names-checked.ensures
+unfolding forms_checked nesting_checked
+returns c = no_faults_met _ _ _ _ c.before.before.before.check.ensures _ c.before.enum_told.given.1 c.names-checked.ensures
 
 returns-2 : tie.Need-returns-2
-unfolding formsChecked nestingChecked
-returns-2 c = form-fault-met _ _ _ _ c.before.before.before.check.ensures _ c.before.faults.given.1
+unfolding forms_checked nesting_checked
+returns-2 c = form_fault_met _ _ _ _ c.before.before.before.check.ensures _ c.before.faults.given.1
 
 returns-3 : tie.Need-returns-3
-unfolding formsChecked nestingChecked
-returns-3 c = nesting-fault-met _ _ _ _ c.before.before.before.check.ensures _ c.before.faults2.given.1
+unfolding forms_checked nesting_checked
+returns-3 c = nesting_fault_met _ _ _ _ c.before.before.before.check.ensures _ c.before.faults2.given.1
 
 pub forms-checked-spec : {M : Type 1} → statement M
 forms-checked-spec =

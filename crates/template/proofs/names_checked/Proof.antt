@@ -1,5 +1,5 @@
-use Rattle.template.specs.Order.{namesChecked}
-use Rattle.template.proofs.OrderLaws.{no-fault, a-fault}
+use Rattle.template.specs.Order.{names_checked}
+use Rattle.template.proofs.OrderLaws.{no_fault, a_fault}
 use borrow.Author.Rules.{rules}
 use Rattle.template.proofs.names_checked.Statement.{statement}
 use Rattle.template.proofs.names_checked.Tie as tie
@@ -17,12 +17,12 @@ enum-known-verdict : tie.Need-enum-known-verdict
 enum-known-verdict c = search rules
 
 returns : tie.Need-returns
-unfolding namesChecked
-returns c = no-fault _ _ _ _ c.before.before.before.check.ensures _ c.before.enum_told.given.1 c.section-checked.ensures
+unfolding names_checked
+returns c = no_fault _ _ _ _ c.before.before.before.check.ensures _ c.before.enum_told.given.1 c.section-checked.ensures
 
 returns-2 : tie.Need-returns-2
-unfolding namesChecked
-returns-2 c = a-fault _ _ _ _ c.before.before.before.check.ensures _ c.before.verdict.given.1
+unfolding names_checked
+returns-2 c = a_fault _ _ _ _ c.before.before.before.check.ensures _ c.before.verdict.given.1
 
 pub names-checked-spec : {M : Type 1} → statement M
 names-checked-spec =

@@ -2,10 +2,10 @@
 use mathlib.Core.Path.{sym, ◌∙◌}
 use borrow.Author.Tests.{eq-eqb, ne_eqb, not-true, not-false}
 use native.Mathlib.Omega.{arith}
-use Rattle.scan.proofs.RunLaws.{byte-within}
-use Rattle.arguments.specs.readers.Argument.{argumentAt, argumentOf}
-use Rattle.arguments.specs.inner.Filtered.{filterAt}
-use Rattle.arguments.proofs.FilterLaws.{filter-by-number}
+use Rattle.scan.proofs.RunLaws.{byte_within}
+use Rattle.arguments.specs.Readers.Argument.{argument_at, argument_of}
+use Rattle.arguments.specs.Inner.Filtered.{filter_at}
+use Rattle.arguments.proofs.FilterLaws.{filter_by_number}
 use borrow.Author.Rules.{rules}
 use Rattle.arguments.proofs.argument.argument_at.Statement.{statement}
 use Rattle.arguments.proofs.argument.argument_at.Tie as tie
@@ -20,18 +20,18 @@ enum_told : tie.Need-enum-told
 enum_told c = search rules
 
 returns : tie.Need-returns
-unfolding argumentAt argumentOf filterAt
+unfolding argument_at argument_of filter_at
 returns c = rw (sym c.before.before.Operand-at.ensures ∙ c.enum_told.given.1)
 
 byte-requires : tie.Need-byte-requires
 byte-requires c κs = search rules
 
 returns-2 : tie.Need-returns-2
-unfolding argumentAt argumentOf filterAt
+unfolding argument_at argument_of filter_at
 returns-2 c = rw (sym c.before.before.before.before.before.Operand-at.ensures ∙ c.before.before.before.operand.given.1, ← c.before.byte.ensures, ne_eqb _ _ c.if1.true)
 
 add-filter-name : tie.Need-overflow-add-filter-name
-add-filter-name c = omega (arith, byte-within _ _ _ _ c.before.byte.ensures c.if1.false (omega arith))
+add-filter-name c = omega (arith, byte_within _ _ _ _ c.before.byte.ensures c.if1.false (omega arith))
 
 filter-name-requires : tie.Need-filter-name-requires
 filter-name-requires c κs = search rules
@@ -43,22 +43,22 @@ enum-told-2 : tie.Need-enum-told-2
 enum-told-2 c = search rules
 
 returns-3 : tie.Need-returns-3
-unfolding argumentAt argumentOf filterAt
-returns-3 c = rw (sym c.before.before.before.before.before.before.before.before.Operand-at.ensures ∙ c.before.before.before.before.before.before.operand.given.1, ← c.before.before.before.before.byte.ensures, eq-eqb _ _ c.before.before.before.if1.false, filter-by-number, sym c.before.before.filter-name.ensures ∙ c.enum-told2.given.1)
+unfolding argument_at argument_of filter_at
+returns-3 c = rw (sym c.before.before.before.before.before.before.before.before.Operand-at.ensures ∙ c.before.before.before.before.before.before.operand.given.1, ← c.before.before.before.before.byte.ensures, eq-eqb _ _ c.before.before.before.if1.false, filter_by_number, sym c.before.before.filter-name.ensures ∙ c.enum-told2.given.1)
 
 is-admitted-requires : tie.Need-is-admitted-requires
 is-admitted-requires c κs = search rules
 
 returns-4 : tie.Need-returns-4
-unfolding argumentAt argumentOf filterAt
-returns-4 c = rw (sym c.before.before.before.before.before.before.before.before.before.before.before.Operand-at.ensures ∙ c.before.before.before.before.before.before.before.before.before.operand.given.1, ← c.before.before.before.before.before.before.before.byte.ensures, eq-eqb _ _ c.before.before.before.before.before.before.if1.false, filter-by-number, sym c.before.before.before.before.before.filter-name.ensures ∙ c.before.before.before.k.given.1, sym c.before.is-admitted.ensures ∙ not-true _ c.if2.true)
+unfolding argument_at argument_of filter_at
+returns-4 c = rw (sym c.before.before.before.before.before.before.before.before.before.before.before.Operand-at.ensures ∙ c.before.before.before.before.before.before.before.before.before.operand.given.1, ← c.before.before.before.before.before.before.before.byte.ensures, eq-eqb _ _ c.before.before.before.before.before.before.if1.false, filter_by_number, sym c.before.before.before.before.before.filter-name.ensures ∙ c.before.before.before.k.given.1, sym c.before.is-admitted.ensures ∙ not-true _ c.if2.true)
 
 filter-of-requires : tie.Need-filter-of-requires
 filter-of-requires c κs = search rules
 
 returns-5 : tie.Need-returns-5
-unfolding argumentAt argumentOf filterAt
-returns-5 c = rw (sym c.before.before.before.before.before.before.before.before.before.before.before.before.Operand-at.ensures ∙ c.before.before.before.before.before.before.before.before.before.before.operand.given.1, ← c.before.before.before.before.before.before.before.before.byte.ensures, eq-eqb _ _ c.before.before.before.before.before.before.before.if1.false, filter-by-number, sym c.before.before.before.before.before.before.filter-name.ensures ∙ c.before.before.before.before.k.given.1, sym c.before.before.is-admitted.ensures ∙ not-false _ c.before.if2.false, ← c.filter-of.ensures)
+unfolding argument_at argument_of filter_at
+returns-5 c = rw (sym c.before.before.before.before.before.before.before.before.before.before.before.before.Operand-at.ensures ∙ c.before.before.before.before.before.before.before.before.before.before.operand.given.1, ← c.before.before.before.before.before.before.before.before.byte.ensures, eq-eqb _ _ c.before.before.before.before.before.before.before.if1.false, filter_by_number, sym c.before.before.before.before.before.before.filter-name.ensures ∙ c.before.before.before.before.k.given.1, sym c.before.before.is-admitted.ensures ∙ not-false _ c.before.if2.false, ← c.filter-of.ensures)
 
 pub argument-at-spec : {M : Type 1} → statement M
 argument-at-spec =

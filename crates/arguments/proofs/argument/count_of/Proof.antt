@@ -1,6 +1,6 @@
 -- The definition makes the code's tests in the code's order.
 use Rattle.arguments.specs.Admitted.{count_of}
-use Rattle.arguments.specs.inner.Filtered.{countNumber}
+use Rattle.arguments.specs.Inner.Filtered.{count_number}
 use borrow.Author.Rules.{rules}
 use Rattle.arguments.proofs.argument.count_of.Statement.{statement}
 use Rattle.arguments.proofs.argument.count_of.Tie as tie
@@ -45,55 +45,55 @@ enum-told-13 : tie.Need-enum-told-13
 enum-told-13 c = search rules
 
 returns : tie.Need-returns
-unfolding count_of countNumber
+unfolding count_of count_number
 returns c = rw c.enum_told.given.1
 
 returns-2 : tie.Need-returns-2
-unfolding count_of countNumber
+unfolding count_of count_number
 returns-2 c = rw c.enum-told2.given.1
 
 returns-3 : tie.Need-returns-3
-unfolding count_of countNumber
+unfolding count_of count_number
 returns-3 c = rw c.enum-told3.given.1
 
 returns-4 : tie.Need-returns-4
-unfolding count_of countNumber
+unfolding count_of count_number
 returns-4 c = rw c.enum-told4.given.1
 
 returns-5 : tie.Need-returns-5
-unfolding count_of countNumber
+unfolding count_of count_number
 returns-5 c = rw c.enum-told5.given.1
 
 returns-6 : tie.Need-returns-6
-unfolding count_of countNumber
+unfolding count_of count_number
 returns-6 c = rw c.enum-told6.given.1
 
 returns-7 : tie.Need-returns-7
-unfolding count_of countNumber
+unfolding count_of count_number
 returns-7 c = rw c.enum-told7.given.1
 
 returns-8 : tie.Need-returns-8
-unfolding count_of countNumber
+unfolding count_of count_number
 returns-8 c = rw c.enum-told8.given.1
 
 returns-9 : tie.Need-returns-9
-unfolding count_of countNumber
+unfolding count_of count_number
 returns-9 c = rw c.enum-told9.given.1
 
 returns-10 : tie.Need-returns-10
-unfolding count_of countNumber
+unfolding count_of count_number
 returns-10 c = rw c.enum-told10.given.1
 
 returns-11 : tie.Need-returns-11
-unfolding count_of countNumber
+unfolding count_of count_number
 returns-11 c = rw c.enum-told11.given.1
 
 returns-12 : tie.Need-returns-12
-unfolding count_of countNumber
+unfolding count_of count_number
 returns-12 c = rw c.enum-told12.given.1
 
 returns-13 : tie.Need-returns-13
-unfolding count_of countNumber
+unfolding count_of count_number
 returns-13 c = rw c.enum-told13.given.1
 
 pub count-of-spec : {M : Type 1} → statement M

@@ -1,31 +1,31 @@
 -- The definition makes the code's tests in the code's order.
 use borrow.Author.Tests.{eq-eqb, ne_eqb}
-use Rattle.arguments.specs.inner.Filtered.{filterOf}
+use Rattle.arguments.specs.Inner.Filtered.{filter_of}
 use Rattle.arguments.proofs.argument.filter_of.Statement.{statement}
 use Rattle.arguments.proofs.argument.filter_of.Tie as tie
 
 returns : tie.Need-returns
-unfolding filterOf
+unfolding filter_of
 returns c = rw (eq-eqb _ _ c.if1.true)
 
 returns-2 : tie.Need-returns-2
-unfolding filterOf
+unfolding filter_of
 returns-2 c = rw (ne_eqb _ _ c.before.if1.false, eq-eqb _ _ c.if2.true)
 
 returns-3 : tie.Need-returns-3
-unfolding filterOf
+unfolding filter_of
 returns-3 c = rw (ne_eqb _ _ c.before.before.if1.false, ne_eqb _ _ c.before.if2.false, eq-eqb _ _ c.if3.true)
 
 returns-4 : tie.Need-returns-4
-unfolding filterOf
+unfolding filter_of
 returns-4 c = rw (ne_eqb _ _ c.before.before.before.if1.false, ne_eqb _ _ c.before.before.if2.false, ne_eqb _ _ c.before.if3.false, eq-eqb _ _ c.if4.true)
 
 returns-5 : tie.Need-returns-5
-unfolding filterOf
+unfolding filter_of
 returns-5 c = rw (ne_eqb _ _ c.before.before.before.before.if1.false, ne_eqb _ _ c.before.before.before.if2.false, ne_eqb _ _ c.before.before.if3.false, ne_eqb _ _ c.before.if4.false, eq-eqb _ _ c.if5.true)
 
 returns-6 : tie.Need-returns-6
-unfolding filterOf
+unfolding filter_of
 returns-6 c = rw (ne_eqb _ _ c.before.before.before.before.if1.false, ne_eqb _ _ c.before.before.before.if2.false, ne_eqb _ _ c.before.before.if3.false, ne_eqb _ _ c.before.if4.false, ne_eqb _ _ c.if5.false)
 
 pub filter-of-spec : {M : Type 1} → statement M

@@ -1,6 +1,6 @@
 -- The definition makes the code's tests in the code's order.
 use borrow.Author.Tests.{le-ltb, lt-ltb}
-use Rattle.arguments.specs.inner.Filtered.{admitted}
+use Rattle.arguments.specs.Inner.Filtered.{admitted}
 use borrow.Author.Rules.{rules}
 use Rattle.arguments.proofs.argument.is_admitted.Statement.{statement}
 use Rattle.arguments.proofs.argument.is_admitted.Tie as tie

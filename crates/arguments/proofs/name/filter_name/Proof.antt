@@ -1,6 +1,6 @@
 -- By its letters the line can have only the words that are compared with it.
 use mathlib.Core.Path.{sym, ◌∙◌}
-use Rattle.arguments.proofs.NameLetters.{filter-a, filter-i, filter-u, filter-l, filter-r, filter-e}
+use Rattle.arguments.proofs.NameLetters.{filter_a, filter_i, filter_u, filter_l, filter_r, filter_e}
 use borrow.Author.Rules.{rules}
 use Rattle.arguments.proofs.name.filter_name.Statement.{statement}
 use Rattle.arguments.proofs.name.filter_name.Tie as tie
@@ -48,22 +48,22 @@ any-filter-requires : tie.Need-any-filter-requires
 any-filter-requires c κs = search rules
 
 returns : tie.Need-returns
-returns c = rw (c.word-or.ensures, filter-a _ _ (sym c.before.before.before.byte.ensures ∙ c.before.before.match.keys1))
+returns c = rw (c.word-or.ensures, filter_a _ _ (sym c.before.before.before.byte.ensures ∙ c.before.before.match.keys1))
 
 returns-2 : tie.Need-returns-2
-returns-2 c = rw (c.word-or2.ensures, filter-i _ _ (sym c.before.before.before.byte.ensures ∙ c.before.before.match.keys2))
+returns-2 c = rw (c.word-or2.ensures, filter_i _ _ (sym c.before.before.before.byte.ensures ∙ c.before.before.match.keys2))
 
 returns-3 : tie.Need-returns-3
-returns-3 c = rw (c.word-or3.ensures, filter-u _ _ (sym c.before.before.before.byte.ensures ∙ c.before.before.match.keys3))
+returns-3 c = rw (c.word-or3.ensures, filter_u _ _ (sym c.before.before.before.byte.ensures ∙ c.before.before.match.keys3))
 
 returns-4 : tie.Need-returns-4
-returns-4 c = rw (c.word-or4.ensures, filter-l _ _ (sym c.before.before.before.byte.ensures ∙ c.before.before.match.keys4))
+returns-4 c = rw (c.word-or4.ensures, filter_l _ _ (sym c.before.before.before.byte.ensures ∙ c.before.before.match.keys4))
 
 returns-5 : tie.Need-returns-5
-returns-5 c = rw (c.word-or5.ensures, filter-r _ _ (sym c.before.before.before.byte.ensures ∙ c.before.before.match.keys5))
+returns-5 c = rw (c.word-or5.ensures, filter_r _ _ (sym c.before.before.before.byte.ensures ∙ c.before.before.match.keys5))
 
 returns-6 : tie.Need-returns-6
-returns-6 c = rw (c.word-or6.ensures, filter-e _ _ (sym c.before.before.before.byte.ensures ∙ c.before.before.match.keys6))
+returns-6 c = rw (c.word-or6.ensures, filter_e _ _ (sym c.before.before.before.byte.ensures ∙ c.before.before.match.keys6))
 
 returns-7 : tie.Need-returns-7
 returns-7 c = search rules

@@ -1,6 +1,6 @@
 -- By its letters the line can have only the words that are compared with it.
 use mathlib.Core.Path.{sym, ◌∙◌}
-use Rattle.arguments.proofs.NameLetters.{name-p, name-l, name-i, name-f, name-s, name-r, name-t}
+use Rattle.arguments.proofs.NameLetters.{name_p, name_l, name_i, name_f, name_s, name_r, name_t}
 use borrow.Author.Rules.{rules}
 use Rattle.arguments.proofs.name.operand_name.Statement.{statement}
 use Rattle.arguments.proofs.name.operand_name.Tie as tie
@@ -66,25 +66,25 @@ any-operand-requires : tie.Need-any-operand-requires
 any-operand-requires c κs = search rules
 
 returns : tie.Need-returns
-returns c = rw (c.word-or2.ensures, c.before.before.word-or.ensures, name-p _ _ (sym c.before.before.before.before.before.byte.ensures ∙ c.before.before.before.before.match.keys1))
+returns c = rw (c.word-or2.ensures, c.before.before.word-or.ensures, name_p _ _ (sym c.before.before.before.before.before.byte.ensures ∙ c.before.before.before.before.match.keys1))
 
 returns-2 : tie.Need-returns-2
-returns-2 c = rw (c.word-or4.ensures, c.before.before.word-or3.ensures, name-l _ _ (sym c.before.before.before.before.before.byte.ensures ∙ c.before.before.before.before.match.keys2))
+returns-2 c = rw (c.word-or4.ensures, c.before.before.word-or3.ensures, name_l _ _ (sym c.before.before.before.before.before.byte.ensures ∙ c.before.before.before.before.match.keys2))
 
 returns-3 : tie.Need-returns-3
-returns-3 c = rw (c.word-or5.ensures, name-i _ _ (sym c.before.before.before.byte.ensures ∙ c.before.before.match.keys3))
+returns-3 c = rw (c.word-or5.ensures, name_i _ _ (sym c.before.before.before.byte.ensures ∙ c.before.before.match.keys3))
 
 returns-4 : tie.Need-returns-4
-returns-4 c = rw (c.word-or6.ensures, name-f _ _ (sym c.before.before.before.byte.ensures ∙ c.before.before.match.keys4))
+returns-4 c = rw (c.word-or6.ensures, name_f _ _ (sym c.before.before.before.byte.ensures ∙ c.before.before.match.keys4))
 
 returns-5 : tie.Need-returns-5
-returns-5 c = rw (c.word-or7.ensures, name-s _ _ (sym c.before.before.before.byte.ensures ∙ c.before.before.match.keys5))
+returns-5 c = rw (c.word-or7.ensures, name_s _ _ (sym c.before.before.before.byte.ensures ∙ c.before.before.match.keys5))
 
 returns-6 : tie.Need-returns-6
-returns-6 c = rw (c.word-or8.ensures, name-r _ _ (sym c.before.before.before.byte.ensures ∙ c.before.before.match.keys6))
+returns-6 c = rw (c.word-or8.ensures, name_r _ _ (sym c.before.before.before.byte.ensures ∙ c.before.before.match.keys6))
 
 returns-7 : tie.Need-returns-7
-returns-7 c = rw (c.word-or9.ensures, name-t _ _ (sym c.before.before.before.byte.ensures ∙ c.before.before.match.keys7))
+returns-7 c = rw (c.word-or9.ensures, name_t _ _ (sym c.before.before.before.byte.ensures ∙ c.before.before.match.keys7))
 
 returns-8 : tie.Need-returns-8
 returns-8 c = search rules

@@ -1,6 +1,6 @@
 -- The definition makes the code's tests in the code's order.
 use mathlib.Core.Path.{sym, ◌∙◌}
-use Rattle.arguments.specs.readers.Operand.{numberedAt, numberedOf}
+use Rattle.arguments.specs.Readers.Operand.{numbered_at, numbered_of}
 use borrow.Author.Rules.{rules}
 use Rattle.arguments.proofs.operand.numbered_at.Statement.{statement}
 use Rattle.arguments.proofs.operand.numbered_at.Tie as tie
@@ -18,14 +18,14 @@ enum_told : tie.Need-enum-told
 enum_told c = search rules
 
 returns : tie.Need-returns
-unfolding numberedAt numberedOf
+unfolding numbered_at numbered_of
 returns c = rw (← c.before.before.before.limit-of.ensures, sym c.before.before.number_at.ensures ∙ c.enum_told.given.1)
 
 numbered-of-requires : tie.Need-numbered-of-requires
 numbered-of-requires c κs = search rules
 
 returns-2 : tie.Need-returns-2
-unfolding numberedAt numberedOf
+unfolding numbered_at numbered_of
 returns-2 c = rw (← c.before.before.before.before.before.limit-of.ensures, sym c.before.before.before.before.number_at.ensures ∙ c.before.before.n.given.1, ← c.Numbered-of.ensures)
 
 pub numbered-at-spec : {M : Type 1} → statement M

@@ -1,6 +1,6 @@
 -- The bytes are those that the definition reads.
 use Rattle.std.proofs.Common.{arith, rules}
-use Rattle.cells.specs.Cell.{keyAsNumber, key_at}
+use Rattle.cells.specs.Cell.{key_as_number, key_at}
 use Rattle.cells.proofs.bytes.key_number.Statement.{statement}
 use Rattle.cells.proofs.bytes.key_number.Tie as tie
 
@@ -47,7 +47,7 @@ add-result-3 : tie.Need-overflow-add-result-3
 add-result-3 c = search rules
 
 returns : tie.Need-returns
-unfolding keyAsNumber key_at
+unfolding key_as_number key_at
 returns c = (omega arith, omega arith)
 
 pub key-number-spec : {M : Type 1} → statement M

@@ -1,6 +1,6 @@
 -- The bytes are those that the definition reads.
 use Rattle.std.proofs.Common.{◌≡◌, ◌+◌, ap, arith, rules}
-use Rattle.cells.specs.Bytes.{pair_at, quadAt, octetAt}
+use Rattle.cells.specs.Bytes.{pair_at, quad_from, octet_at}
 use Rattle.cells.proofs.bytes.octet.Statement.{statement}
 use Rattle.cells.proofs.bytes.octet.Tie as tie
 
@@ -44,7 +44,7 @@ add-result-3 : tie.Need-overflow-add-result-3
 add-result-3 c = search rules
 
 returns : tie.Need-returns
-unfolding octetAt quadAt
+unfolding octet_at quad_from
 returns c =
     let s = c.before.before.before.before.before.args.s.now in
     let at = c.before.before.before.before.before.args.at in

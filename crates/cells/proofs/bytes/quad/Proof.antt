@@ -1,6 +1,6 @@
 -- The bytes are those that the definition reads.
 use Rattle.std.proofs.Common.{arith, rules}
-use Rattle.cells.specs.Bytes.{quadAt}
+use Rattle.cells.specs.Bytes.{quad_from}
 use Rattle.cells.proofs.bytes.quad.Statement.{statement}
 use Rattle.cells.proofs.bytes.quad.Tie as tie
 
@@ -20,7 +20,7 @@ add-result : tie.Need-overflow-add-result
 add-result c = search rules
 
 returns : tie.Need-returns
-unfolding quadAt
+unfolding quad_from
 returns c = (omega arith, omega arith)
 
 pub quad-spec : {M : Type 1} → statement M

@@ -1,6 +1,6 @@
 -- The key is what stands before the byte.
 use Rattle.std.proofs.Common.{arith, rules}
-use Rattle.cells.proofs.Halving.{key-past, key_above, key-level}
+use Rattle.cells.proofs.Halving.{key_past, key_above, key_level}
 use Rattle.cells.proofs.find.has_key.Statement.{statement}
 use Rattle.cells.proofs.find.has_key.Tie as tie
 
@@ -8,7 +8,7 @@ key-and-byte-requires : tie.Need-key-and-byte-requires
 key-and-byte-requires c κs = search rules
 
 returns : tie.Need-returns
-returns c = λ h. key-past _ _ _ (c.before.key-and-byte.ensures h) (omega arith) c.if1.true
+returns c = λ h. key_past _ _ _ (c.before.key-and-byte.ensures h) (omega arith) c.if1.true
 
 mul-if2 : tie.Need-overflow-mul-if2
 mul-if2 c = search rules
@@ -23,7 +23,7 @@ add-result : tie.Need-overflow-add-result
 add-result c = search rules
 
 returns-3 : tie.Need-returns-3
-returns-3 c = λ h. key-level _ _ _ (c.before.before.key-and-byte.ensures h) c.if2.false
+returns-3 c = λ h. key_level _ _ _ (c.before.before.key-and-byte.ensures h) c.if2.false
 
 pub has-key-spec : {M : Type 1} → statement M
 has-key-spec =

@@ -1,6 +1,6 @@
 -- What was read there, compared with the bound.
 use Rattle.std.proofs.Common.{sym, arith, rules}
-use Rattle.cells.proofs.Halving.{is_below, not-below, lower-at}
+use Rattle.cells.proofs.Halving.{is_below, not_below, lower_at}
 use Rattle.cells.proofs.find.lower_at.Statement.{statement}
 use Rattle.cells.proofs.find.lower_at.Tie as tie
 
@@ -17,10 +17,10 @@ key-and-byte-requires : tie.Need-key-and-byte-requires
 key-and-byte-requires c κs = search rules
 
 returns : tie.Need-returns
-returns c = lower-at _ _ _ _ _ _ _ c.before.before.wide-place.ensures c.before.key-and-byte.ensures (omega arith) (λ _ _. sym (is_below _ _ c.if1.true))
+returns c = lower_at _ _ _ _ _ _ _ c.before.before.wide-place.ensures c.before.key-and-byte.ensures (omega arith) (λ _ _. sym (is_below _ _ c.if1.true))
 
 returns-2 : tie.Need-returns-2
-returns-2 c = lower-at _ _ _ _ _ _ _ c.before.before.wide-place.ensures c.before.key-and-byte.ensures (omega arith) (λ _ _. sym (not-below _ _ c.if1.false))
+returns-2 c = lower_at _ _ _ _ _ _ _ c.before.before.wide-place.ensures c.before.key-and-byte.ensures (omega arith) (λ _ _. sym (not_below _ _ c.if1.false))
 
 pub lower-at-spec : {M : Type 1} → statement M
 lower-at-spec =

@@ -1,6 +1,6 @@
 -- The key at the hint, and the one on its other side.
 use Rattle.std.proofs.Common.{arith, rules}
-use Rattle.cells.proofs.Halving.{no_room, near-start, near-end, near-between}
+use Rattle.cells.proofs.Halving.{no_room, near_start, near_end, near_between}
 use Rattle.cells.proofs.find.near.Statement.{statement}
 use Rattle.cells.proofs.find.near.Tie as tie
 
@@ -20,30 +20,30 @@ lower-at-requires : tie.Need-lower-at-requires
 lower-at-requires c κs = search rules
 
 add-i : tie.Need-overflow-add-i
-add-i c = omega (arith, c.lower-at.ensures.most)
+add-i c = omega (arith, c.lower_at.ensures.most)
 
 returns-3 : tie.Need-returns-3
-returns-3 c = near-start _ _ _ _ _ _ _ c.before.before.bound_of.ensures (omega arith) c.before.lower-at.ensures c.if3.true
+returns-3 c = near_start _ _ _ _ _ _ _ c.before.before.bound_of.ensures (omega arith) c.before.lower_at.ensures c.if3.true
 
 add-other : tie.Need-overflow-add-other
-add-other c = omega (arith, c.before.lower-at.ensures.most)
+add-other c = omega (arith, c.before.lower_at.ensures.most)
 
 sub-other : tie.Need-overflow-sub-other
 sub-other c = search rules
 
 returns-4 : tie.Need-returns-4
-returns-4 c = near-end _ _ _ _ _ _ _ c.before.before.before.bound_of.ensures (omega arith) c.before.before.lower-at.ensures c.if4.true
+returns-4 c = near_end _ _ _ _ _ _ _ c.before.before.before.bound_of.ensures (omega arith) c.before.before.lower_at.ensures c.if4.true
 
 lower-at-requires-2 : tie.Need-lower-at-requires-2
 lower-at-requires-2 c κs = search rules
 
 add-if5 : tie.Need-overflow-add-if5
-add-if5 c = omega (arith, c.lower-at2.ensures.most, c.before.before.before.lower-at.ensures.most)
+add-if5 c = omega (arith, c.lower-at2.ensures.most, c.before.before.before.lower_at.ensures.most)
 
 returns-5 : tie.Need-returns-5
 returns-5 c =
     let k = c.before.before.before.before in
-    near-between _ _ _ _ _ _ _ _ _ k.before.bound_of.ensures (omega arith) k.lower-at.ensures (omega arith) c.before.lower-at2.ensures (omega arith) (omega arith) (omega (arith, c.if5.true))
+    near_between _ _ _ _ _ _ _ _ _ k.before.bound_of.ensures (omega arith) k.lower_at.ensures (omega arith) c.before.lower-at2.ensures (omega arith) (omega arith) (omega (arith, c.if5.true))
 
 position-requires-2 : tie.Need-position-requires-2
 position-requires-2 c κs = search rules

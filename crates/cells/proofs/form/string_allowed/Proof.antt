@@ -1,5 +1,5 @@
 -- The bytes behind the length are tested in two stretches.
-use Rattle.cells.proofs.Laws.{text-long, text-unprintable, text-all}
+use Rattle.cells.proofs.Laws.{text_long, text_unprintable, text_all}
 use Rattle.std.proofs.Common.{rules}
 use Rattle.cells.proofs.form.string_allowed.Statement.{statement}
 use Rattle.cells.proofs.form.string_allowed.Tie as tie
@@ -11,7 +11,7 @@ size-requires : tie.Need-size-requires
 size-requires c κs = search rules
 
 returns : tie.Need-returns
-returns c = text-long _ _ c.before.size.ensures.0 c.if1.true
+returns c = text_long _ _ c.before.size.ensures.0 c.if1.true
 
 add-end : tie.Need-overflow-add-end
 add-end c = search rules
@@ -31,7 +31,7 @@ all-between-requires c κs = search rules
 returns-2 : tie.Need-returns-2
 returns-2 c =
     let k = c.before.before.before in
-    text-unprintable _ _ k.before.size.ensures.0 k.if1.false _ c.before.all-between.ensures c.if2.true
+    text_unprintable _ _ k.before.size.ensures.0 k.if1.false _ c.before.all-between.ensures c.if2.true
 
 sub-all-between-2 : tie.Need-overflow-sub-all-between-2
 sub-all-between-2 c = search rules
@@ -48,7 +48,7 @@ all-between-requires-2 c κs = search rules
 returns-3 : tie.Need-returns-3
 returns-3 c =
     let k = c.before.before.before.before.before in
-    text-all _ _ k.before.size.ensures.0 k.if1.false _ c.before.before.before.all-between.ensures c.before.before.if2.false _ c.all-between2.ensures
+    text_all _ _ k.before.size.ensures.0 k.if1.false _ c.before.before.before.all-between.ensures c.before.before.if2.false _ c.all-between2.ensures
 
 pub string-allowed-spec : {M : Type 1} → statement M
 string-allowed-spec =

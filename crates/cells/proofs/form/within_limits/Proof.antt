@@ -1,36 +1,36 @@
 -- Each test is one of the definition's, in its order.
 use Rattle.std.proofs.Common.{le-leb}
 use borrow.Author.Tests.{lt-leb}
-use Rattle.cells.specs.Cell.{keyAllowed}
-use Rattle.cells.proofs.Laws.{between-low, between-high, between_in}
+use Rattle.cells.specs.Cell.{key_allowed}
+use Rattle.cells.proofs.Laws.{between_low, between_high, between_in}
 use Rattle.cells.proofs.form.within_limits.Statement.{statement}
 use Rattle.cells.proofs.form.within_limits.Tie as tie
 
 returns : tie.Need-returns
-unfolding keyAllowed
-returns c = rw (between-low 1 35 _ c.if1.true)
+unfolding key_allowed
+returns c = rw (between_low 1 35 _ c.if1.true)
 
 returns-2 : tie.Need-returns-2
-unfolding keyAllowed
-returns-2 c = rw (between-high 1 35 _ c.if2.true)
+unfolding key_allowed
+returns-2 c = rw (between_high 1 35 _ c.if2.true)
 
 returns-3 : tie.Need-returns-3
-unfolding keyAllowed
-returns-3 c = rw (between_in 1 35 _ c.before.before.if1.false c.before.if2.false, between-low 1 65535 _ c.if3.true)
+unfolding key_allowed
+returns-3 c = rw (between_in 1 35 _ c.before.before.if1.false c.before.if2.false, between_low 1 65535 _ c.if3.true)
 
 returns-4 : tie.Need-returns-4
-unfolding keyAllowed
+unfolding key_allowed
 returns-4 c =
-    rw (between_in 1 35 _ c.before.before.before.if1.false c.before.before.if2.false, between-high 1 65535 _ c.if4.true)
+    rw (between_in 1 35 _ c.before.before.before.if1.false c.before.before.if2.false, between_high 1 65535 _ c.if4.true)
 
 returns-5 : tie.Need-returns-5
-unfolding keyAllowed
+unfolding key_allowed
 returns-5 c =
     let k = c.before.before.before in
     rw (between_in 1 35 _ k.before.if1.false k.if2.false, between_in 1 65535 _ c.before.before.if3.false c.before.if4.false, lt-leb _ 999 c.if5.true)
 
 returns-6 : tie.Need-returns-6
-unfolding keyAllowed
+unfolding key_allowed
 returns-6 c =
     let k = c.before.before.before in
     rw (between_in 1 35 _ k.before.if1.false k.if2.false, between_in 1 65535 _ c.before.before.if3.false c.before.if4.false, le-leb _ 999 c.if5.false)

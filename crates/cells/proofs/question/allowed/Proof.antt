@@ -1,8 +1,8 @@
 -- Each test is one of the definition's, in its order.
 use Rattle.std.proofs.Common.{◌≡◌, ◌∙◌, rules}
-use Rattle.cells.specs.Cell.{key_of, keyAllowed}
-use Rattle.cells.specs.Asking.{keyAsked}
-use Rattle.cells.proofs.Questions.{refused-limits, allowed-one, refused-record, allowed-two, allowed-three, refused-kind}
+use Rattle.cells.specs.Cell.{key_of, key_allowed}
+use Rattle.cells.specs.Asking.{key_asked}
+use Rattle.cells.proofs.Questions.{refused_limits, allowed_one, refused_record, allowed_two, allowed_three, refused_kind}
 use Rattle.cells.proofs.question.allowed.Statement.{statement}
 use Rattle.cells.proofs.question.allowed.Tie as tie
 
@@ -22,32 +22,32 @@ within-limits-requires : tie.Need-within-limits-requires
 within-limits-requires c κs = search rules
 
 -- what the test of the limits says
-tested : (k : tie.After-within-limits) → k.within-limits.result ≡ keyAllowed (keyAsked k.before.before.before.before.before.args.question)
+tested : (k : tie.After-within-limits) → k.within-limits.result ≡ key_allowed (key_asked k.before.before.before.before.before.args.question)
 tested k =
     k.within-limits.ensures
-    ∙ (λ i. keyAllowed (key_of (k.before.before.before.before.wide.ensures i) (k.before.before.before.wide2.ensures i) (k.before.before.wide3.ensures i) (k.before.wide4.ensures i)))
+    ∙ (λ i. key_allowed (key_of (k.before.before.before.before.wide.ensures i) (k.before.before.before.wide2.ensures i) (k.before.before.wide3.ensures i) (k.before.wide4.ensures i)))
 
 returns : tie.Need-returns
-returns c = refused-limits _ _ (tested c.before) c.if1.true
+returns c = refused_limits _ _ (tested c.before) c.if1.true
 
 returns-2 : tie.Need-returns-2
-returns-2 c = allowed-one _ _ (tested c.before.before) c.before.if1.false c.if2.true
+returns-2 c = allowed_one _ _ (tested c.before.before) c.before.if1.false c.if2.true
 
 returns-3 : tie.Need-returns-3
 returns-3 c =
-    refused-record _ _ (tested c.before.before.before.before) c.before.before.before.if1.false c.before.before.if2.false c.before.if3.true c.if4.true
+    refused_record _ _ (tested c.before.before.before.before) c.before.before.before.if1.false c.before.before.if2.false c.before.if3.true c.if4.true
 
 returns-4 : tie.Need-returns-4
 returns-4 c =
-    allowed-two _ _ (tested c.before.before.before.before) c.before.before.before.if1.false c.before.before.if2.false c.before.if3.true c.if4.false
+    allowed_two _ _ (tested c.before.before.before.before) c.before.before.before.if1.false c.before.before.if2.false c.before.if3.true c.if4.false
 
 returns-5 : tie.Need-returns-5
 returns-5 c =
-    allowed-three _ _ (tested c.before.before.before.before) c.before.before.before.if1.false c.before.before.if2.false c.before.if3.false c.if5.true
+    allowed_three _ _ (tested c.before.before.before.before) c.before.before.before.if1.false c.before.before.if2.false c.before.if3.false c.if5.true
 
 returns-6 : tie.Need-returns-6
 returns-6 c =
-    refused-kind _ _ (tested c.before.before.before.before) c.before.before.before.if1.false c.before.before.if2.false c.before.if3.false c.if5.false
+    refused_kind _ _ (tested c.before.before.before.before) c.before.before.before.if1.false c.before.before.if2.false c.before.if3.false c.if5.false
 
 pub allowed-spec : {M : Type 1} → statement M
 allowed-spec =

@@ -1,5 +1,5 @@
 -- The cell at the position has the key, or none has.
-use Rattle.cells.proofs.Answering.{cell-past, cell-found, cell_other}
+use Rattle.cells.proofs.Answering.{cell_past, cell_found, cell_other}
 use Rattle.std.proofs.Common.{rules}
 use Rattle.cells.proofs.question.cell_answer.Statement.{statement}
 use Rattle.cells.proofs.question.cell_answer.Tie as tie
@@ -8,7 +8,7 @@ near-requires : tie.Need-near-requires
 near-requires c κs = search rules
 
 returns : tie.Need-returns
-returns c = cell-past _ _ _ _ _ c.before.near.ensures c.if1.true
+returns c = cell_past _ _ _ _ _ c.before.near.ensures c.if1.true
 
 place-of-requires : tie.Need-place-of-requires
 place-of-requires c κs = search rules
@@ -22,7 +22,7 @@ value-at-requires c κs = search rules
 returns-2 : tie.Need-returns-2
 returns-2 c =
     let k = c.before.before.before in
-    cell-found _ _ _ _ _ k.before.before.near.ensures k.before.if1.false _ _ k.place_of.ensures c.before.before.has_key.ensures c.before.if2.true _ c.value-at.ensures
+    cell_found _ _ _ _ _ k.before.before.near.ensures k.before.if1.false _ _ k.place_of.ensures c.before.before.has_key.ensures c.before.if2.true _ c.value-at.ensures
 
 returns-3 : tie.Need-returns-3
 returns-3 c =

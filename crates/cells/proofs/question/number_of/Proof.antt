@@ -1,6 +1,6 @@
 -- Within the limits nothing overflows.
 use Rattle.std.proofs.Common.{arith, rules}
-use Rattle.cells.specs.Cell.{keyAsNumber}
+use Rattle.cells.specs.Cell.{key_as_number}
 use Rattle.cells.proofs.CellForm.{limits}
 use Rattle.cells.proofs.question.number_of.Statement.{statement}
 use Rattle.cells.proofs.question.number_of.Tie as tie
@@ -36,7 +36,7 @@ add-result-2 : tie.Need-overflow-add-result-2
 add-result-2 c = let l = limits _ c.before.before.before.before.requires in omega arith
 
 returns : tie.Need-returns
-unfolding keyAsNumber
+unfolding key_as_number
 returns c = let l = limits _ c.before.before.before.before.requires in (omega arith, omega arith)
 
 pub number-of-spec : {M : Type 1} → statement M

@@ -1,6 +1,6 @@
 -- By the test.
 use Rattle.std.proofs.Common.{eq-eqb, ne_eqb}
-use Rattle.cells.specs.inner.Index.{offset_of}
+use Rattle.cells.specs.Inner.Index.{offset_of}
 use Rattle.cells.proofs.question.offset_of.Statement.{statement}
 use Rattle.cells.proofs.question.offset_of.Tie as tie
 

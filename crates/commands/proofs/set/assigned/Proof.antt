@@ -1,5 +1,5 @@
 -- By the kind of variable.
-use Rattle.commands.proofs.Sets.{assigned-integer, assigned-decimal, assigned-string}
+use Rattle.commands.proofs.Sets.{assigned_integer, assigned_decimal, assigned_string}
 use mir.ValLaws.{to_z-of_z}
 use mir.Val.{SFits}
 use mir.Syntax.{w64}
@@ -38,13 +38,13 @@ stored-requires-3 : tie.Need-stored-requires-3
 stored-requires-3 c κs = search rules
 
 returns : tie.Need-returns
-returns c = let z = c.before.before.before.integer in let f : SFits w64 z.result = search rules in assigned-integer _ _ _ _ _ _ _ _ _ _ c.before.before.before.before.before.before.before.before.before.before.requires c.before.before.before.before.before.before.target.given.1 _ z.ensures _ (rw (to_z-of_z w64 z.result f) at c.before.before.integer-new.ensures) _ c.stored.ensures
+returns c = let z = c.before.before.before.integer in let f : SFits w64 z.result = search rules in assigned_integer _ _ _ _ _ _ _ _ _ _ c.before.before.before.before.before.before.before.before.before.before.requires c.before.before.before.before.before.before.target.given.1 _ z.ensures _ (rw (to_z-of_z w64 z.result f) at c.before.before.integer_new_law.ensures) _ c.stored.ensures
 
 returns-2 : tie.Need-returns-2
-returns-2 c = let z = c.before.before.before.decimal in let f : SFits w64 z.result = search rules in assigned-decimal _ _ _ _ _ _ _ _ _ _ c.before.before.before.before.before.before.before.before.before.before.requires c.before.before.before.before.before.before.target2.given.1 _ z.ensures _ (rw (to_z-of_z w64 z.result f) at c.before.before.decimal-new.ensures) _ c.stored2.ensures
+returns-2 c = let z = c.before.before.before.decimal in let f : SFits w64 z.result = search rules in assigned_decimal _ _ _ _ _ _ _ _ _ _ c.before.before.before.before.before.before.before.before.before.before.requires c.before.before.before.before.before.before.target2.given.1 _ z.ensures _ (rw (to_z-of_z w64 z.result f) at c.before.before.decimal_new_law.ensures) _ c.stored2.ensures
 
 returns-3 : tie.Need-returns-3
-returns-3 c = assigned-string _ _ _ _ _ _ _ _ _ _ c.before.before.before.before.before.before.before.before.requires c.before.before.before.before.target3.given.1 _ _ c.stored3.ensures
+returns-3 c = assigned_string _ _ _ _ _ _ _ _ _ _ c.before.before.before.before.before.before.before.before.requires c.before.before.before.before.target3.given.1 _ _ c.stored3.ensures
 
 pub assigned-spec : {M : Type 1} → statement M
 assigned-spec =

@@ -1,6 +1,6 @@
 -- A refusal stays one; a value is calculated with.
-use Rattle.commands.proofs.Sets.{new-refused, new-value}
-use Rattle.commands.specs.Setting.{integerResult}
+use Rattle.commands.proofs.Sets.{new_refused, new_value}
+use Rattle.commands.specs.Setting.{integer_result}
 use Rattle.numbers.proofs.Machine.{read₂}
 use mir.Val.{SFits}
 use mir.Syntax.{w64}
@@ -24,10 +24,10 @@ result-of-requires : tie.Need-result-of-requires
 result-of-requires c κs = search rules
 
 returns : tie.Need-returns
-returns c = new-refused _ _ _ _ c.before.before.before.integer-of.ensures _ c.before.taken.given.1
+returns c = new_refused _ _ _ _ c.before.before.before.integer-of.ensures _ c.before.taken.given.1
 
 returns-2 : tie.Need-returns-2
-returns-2 c = let v = c.before.before.before.taken2.given in let f : SFits w64 v.0.0 = search rules in let s = c.before.before.before.before.before.before in new-value _ _ _ _ c.before.before.before.before.before.integer-of.ensures _ _ c.result-of.result v.1 (read₂ (integerResult s.args.o) s.ranges.a f c.before.integer-result.ensures) c.result-of.ensures
+returns-2 c = let v = c.before.before.before.taken2.given in let f : SFits w64 v.0.0 = search rules in let s = c.before.before.before.before.before.before in new_value _ _ _ _ c.before.before.before.before.before.integer-of.ensures _ _ c.result-of.result v.1 (read₂ (integer_result s.args.o) s.ranges.a f c.before.integer-result.ensures) c.result-of.ensures
 
 pub integer-new-spec : {M : Type 1} → statement M
 integer-new-spec =

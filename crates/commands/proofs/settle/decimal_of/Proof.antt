@@ -1,7 +1,7 @@
 -- One law for each kind of value.
-use Rattle.commands.proofs.Settles.{decimal-number}
-use Rattle.commands.specs.Settling.{decimalFrom, quantityFrom}
-use Rattle.values.specs.inner.Yielding.{meant}
+use Rattle.commands.proofs.Settles.{decimal_number}
+use Rattle.commands.specs.Settling.{decimal_from, quantity_from}
+use Rattle.values.specs.Inner.Yielding.{meant}
 use borrow.Author.Rules.{rules}
 use Rattle.commands.proofs.settle.decimal_of.Statement.{statement}
 use Rattle.commands.proofs.settle.decimal_of.Tie as tie
@@ -22,18 +22,18 @@ enum-told-3 : tie.Need-enum-told-3
 enum-told-3 c = search rules
 
 returns : tie.Need-returns
-unfolding decimalFrom quantityFrom meant
+unfolding decimal_from quantity_from meant
 returns c = record { same = λ s. rw c.enum_told.given.1 }
 
 returns-2 : tie.Need-returns-2
-unfolding decimalFrom quantityFrom meant
+unfolding decimal_from quantity_from meant
 returns-2 c = record { same = λ s. rw c.enum-told2.given.1 }
 
 returns-3 : tie.Need-returns-3
-returns-3 c = search (rules, decimal-number)
+returns-3 c = search (rules, decimal_number)
 
 returns-4 : tie.Need-returns-4
-unfolding decimalFrom quantityFrom meant
+unfolding decimal_from quantity_from meant
 returns-4 c = record { same = λ s. rw c.enum-told3.given.1 }
 
 pub decimal-of-spec : {M : Type 1} → statement M

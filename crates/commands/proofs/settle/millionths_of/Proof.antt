@@ -1,7 +1,7 @@
 -- One law for each kind.
-use Rattle.commands.proofs.Settles.{millionths-integer, millionths-decimal}
+use Rattle.commands.proofs.Settles.{millionths_integer, millionths_decimal}
 use Rattle.numbers.proofs.Machine.{read}
-use Rattle.numbers.specs.Arithmetic.{inMillionths}
+use Rattle.numbers.specs.Arithmetic.{in_millionths}
 use mir.ValLaws.{to_z-of_z}
 use mir.Val.{SFits}
 use mir.Syntax.{w64}
@@ -22,10 +22,10 @@ enum-known-q-2 : tie.Need-enum-known-q-2
 enum-known-q-2 c = search rules
 
 returns : tie.Need-returns
-returns c = let v = c.before.before.before.q.given in let f : SFits w64 v.0.0 = search rules in millionths-integer _ _ _ c.result-of.result v.1 (read inMillionths f c.before.to-decimal.ensures) c.result-of.ensures
+returns c = let v = c.before.before.before.q.given in let f : SFits w64 v.0.0 = search rules in millionths_integer _ _ _ c.result-of.result v.1 (read in_millionths f c.before.to-decimal.ensures) c.result-of.ensures
 
 returns-2 : tie.Need-returns-2
-returns-2 c = let v = c.before.q2.given in let f : SFits w64 v.0.0 = search rules in millionths-decimal _ _ _ v.1 (to_z-of_z w64 _ f)
+returns-2 c = let v = c.before.q2.given in let f : SFits w64 v.0.0 = search rules in millionths_decimal _ _ _ v.1 (to_z-of_z w64 _ f)
 
 pub millionths-of-spec : {M : Type 1} → statement M
 millionths-of-spec =

@@ -1,6 +1,6 @@
 -- One law for each kind of value.
-use Rattle.commands.specs.Settling.{quantityFrom}
-use Rattle.values.specs.inner.Yielding.{meant}
+use Rattle.commands.specs.Settling.{quantity_from}
+use Rattle.values.specs.Inner.Yielding.{meant}
 use borrow.Author.Rules.{rules}
 use Rattle.commands.proofs.settle.quantity_of.Statement.{statement}
 use Rattle.commands.proofs.settle.quantity_of.Tie as tie
@@ -18,19 +18,19 @@ enum-told-3 : tie.Need-enum-told-3
 enum-told-3 c = search rules
 
 returns : tie.Need-returns
-unfolding quantityFrom meant
+unfolding quantity_from meant
 returns c = record { same = λ s. rw c.enum_told.given.1 }
 
 returns-2 : tie.Need-returns-2
-unfolding quantityFrom meant
+unfolding quantity_from meant
 returns-2 c = record { same = λ s. rw c.enum-told2.given.1 }
 
 returns-3 : tie.Need-returns-3
-unfolding quantityFrom meant
+unfolding quantity_from meant
 returns-3 c = record { same = λ s. rw c.before.worth.given.1 }
 
 returns-4 : tie.Need-returns-4
-unfolding quantityFrom meant
+unfolding quantity_from meant
 returns-4 c = record { same = λ s. rw c.enum-told3.given.1 }
 
 pub quantity-of-spec : {M : Type 1} → statement M

@@ -1,5 +1,5 @@
 -- One law for each outcome.
-use Rattle.commands.proofs.Settles.{result_value, result-zero, result-out}
+use Rattle.commands.proofs.Settles.{result_value, result_zero, result_out}
 use mir.ValLaws.{to_z-of_z}
 use mir.Val.{SFits}
 use mir.Syntax.{w64}
@@ -20,10 +20,10 @@ returns : tie.Need-returns
 returns c = let v = c.before.number.given in let f : SFits w64 v.0.0 = search rules in result_value _ _ _ v.1 (to_z-of_z w64 _ f)
 
 returns-2 : tie.Need-returns-2
-returns-2 c = result-zero _ c.enum_told.given.1
+returns-2 c = result_zero _ c.enum_told.given.1
 
 returns-3 : tie.Need-returns-3
-returns-3 c = result-out _ c.enum-told2.given.1
+returns-3 c = result_out _ c.enum-told2.given.1
 
 pub result-of-spec : {M : Type 1} → statement M
 result-of-spec =

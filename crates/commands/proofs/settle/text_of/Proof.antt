@@ -1,6 +1,6 @@
 -- One law for each kind of value.
-use Rattle.commands.specs.Settling.{stringFrom}
-use Rattle.values.specs.inner.Yielding.{meant}
+use Rattle.commands.specs.Settling.{string_from}
+use Rattle.values.specs.Inner.Yielding.{meant}
 use borrow.Author.Rules.{rules}
 use Rattle.commands.proofs.settle.text_of.Statement.{statement}
 use Rattle.commands.proofs.settle.text_of.Tie as tie
@@ -18,19 +18,19 @@ enum-known-worth : tie.Need-enum-known-worth
 enum-known-worth c = search rules
 
 returns : tie.Need-returns
-unfolding stringFrom meant
+unfolding string_from meant
 returns c = record { same = λ s. rw c.enum_told.given.1 }
 
 returns-2 : tie.Need-returns-2
-unfolding stringFrom meant
+unfolding string_from meant
 returns-2 c = record { same = λ s. rw c.enum-told2.given.1 }
 
 returns-3 : tie.Need-returns-3
-unfolding stringFrom meant
+unfolding string_from meant
 returns-3 c = record { same = λ s. rw c.enum-told3.given.1 }
 
 returns-4 : tie.Need-returns-4
-unfolding stringFrom meant
+unfolding string_from meant
 returns-4 c = record { same = λ s. rw c.before.worth.given.1 }
 
 pub text-of-spec : {M : Type 1} → statement M

@@ -1,5 +1,5 @@
 -- A refusal, or the bytes of the string are copied, then SVn is set.
-use Rattle.commands.proofs.Copying.{string-refused, string-stored}
+use Rattle.commands.proofs.Copying.{string_refused, string_stored}
 use borrow.Author.Rules.{rules}
 use Rattle.commands.proofs.string.stored.Statement.{statement}
 use Rattle.commands.proofs.string.stored.Tie as tie
@@ -32,10 +32,10 @@ put-requires : tie.Need-put-requires
 put-requires c κs = search rules
 
 returns : tie.Need-returns
-returns c = string-refused _ _ _ _ _ _ c.before.before.before.before.before.before.requires _ c.before.before.before.text_of.ensures _ c.before.phrase.given.1
+returns c = string_refused _ _ _ _ _ _ c.before.before.before.before.before.before.requires _ c.before.before.before.text_of.ensures _ c.before.phrase.given.1
 
 returns-2 : tie.Need-returns-2
-returns-2 c = string-stored _ _ _ _ _ _ c.before.before.before.before.before.before.before.before.before.before.before.before.before.before.before.requires _ c.before.before.before.before.before.before.before.before.before.before.before.before.text_of.ensures _ c.before.before.before.before.before.before.before.before.before.before.phrase2.given.1 _ _ c.before.before.before.before.before.before.before.row-for.ensures c.before.before.before.before.before.bytes_of.ensures _ _ c.before.before.before.before.copied.ensures c.before.count_of.ensures _ _ c.put.ensures
+returns-2 c = string_stored _ _ _ _ _ _ c.before.before.before.before.before.before.before.before.before.before.before.before.before.before.before.requires _ c.before.before.before.before.before.before.before.before.before.before.before.before.text_of.ensures _ c.before.before.before.before.before.before.before.before.before.before.phrase2.given.1 _ _ c.before.before.before.before.before.before.before.row-for.ensures c.before.before.before.before.before.bytes_of.ensures _ _ c.before.before.before.before.copied.ensures c.before.count_of.ensures _ _ c.put.ensures
 
 pub stored-spec : {M : Type 1} → statement M
 stored-spec =

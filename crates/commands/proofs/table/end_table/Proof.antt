@@ -1,5 +1,5 @@
 -- Refused, k below 1, ended, or again.
-use Rattle.commands.proofs.Tabling.{end_refused, end_low, end-over, end-again, closed-few, exceeded-not}
+use Rattle.commands.proofs.Tabling.{end_refused, end_low, end_over, end_again, closed_few, exceeded_not}
 use Rattle.numbers.proofs.Machine.{read}
 use lib.IntN.{pos, nat_abs}
 use lib.Signed.{lt_z, nat_abs-le}
@@ -43,22 +43,22 @@ exceeds-requires : tie.Need-exceeds-requires
 exceeds-requires c κs = search rules
 
 returns-3 : tie.Need-returns-3
-returns-3 c = let f : SFits w64 c.before.before.before.before.before.before.before.before.before.taken2.given.0.0 = search rules in end-over _ _ _ _ c.before.before.before.before.before.before.before.before.before.taken2.given.1 _ (read (λ z. lt_z z (pos 1)) f c.before.before.before.before.before.before.before.below_one.ensures) c.before.before.before.before.before.before.if1.false _ c.before.before.before.before.innermost.ensures _ _ (read nat_abs f c.before.before.before.magnitude.ensures) refl _ c.before.exceeds.ensures c.if2.true
+returns-3 c = let f : SFits w64 c.before.before.before.before.before.before.before.before.before.taken2.given.0.0 = search rules in end_over _ _ _ _ c.before.before.before.before.before.before.before.before.before.taken2.given.1 _ (read (λ z. lt_z z (pos 1)) f c.before.before.before.before.before.before.before.below_one.ensures) c.before.before.before.before.before.before.if1.false _ c.before.before.before.before.innermost.ensures _ _ (read nat_abs f c.before.before.before.magnitude.ensures) refl _ c.before.exceeds.ensures c.if2.true
 
 less-requires : tie.Need-less-requires
 less-requires c κs = search rules
 
 cast-again : tie.Need-overflow-cast-again
-cast-again c = let h : c.before.before.before.before.before.before.innermost.result.counter + c.before.before.before.before.before.magnitude.result ≤ 2000000000 = exceeded-not _ _ _ c.before.before.before.exceeds.ensures c.before.before.if2.false in omega (arith, h)
+cast-again c = let h : c.before.before.before.before.before.before.innermost.result.counter + c.before.before.before.before.before.magnitude.result ≤ 2000000000 = exceeded_not _ _ _ c.before.before.before.exceeds.ensures c.before.before.if2.false in omega (arith, h)
 
 again-requires : tie.Need-again-requires
 again-requires c κs = search rules
 
 pushed-requires : tie.Need-pushed-requires
-pushed-requires c κs = closed-few _ _ _ c.before.before.before.before.before.before.before.before.before.before.before.before.before.before.requires c.before.before.less.ensures
+pushed-requires c κs = closed_few _ _ _ c.before.before.before.before.before.before.before.before.before.before.before.before.before.before.requires c.before.before.less.ensures
 
 returns-4 : tie.Need-returns-4
-returns-4 c = let f : SFits w64 c.before.before.before.before.before.before.before.before.before.before.before.before.before.taken2.given.0.0 = search rules in end-again _ _ _ _ c.before.before.before.before.before.before.before.before.before.before.before.before.before.taken2.given.1 _ (read (λ z. lt_z z (pos 1)) f c.before.before.before.before.before.before.before.before.before.before.before.below_one.ensures) c.before.before.before.before.before.before.before.before.before.before.if1.false _ c.before.before.before.before.before.before.before.before.innermost.ensures _ _ (read nat_abs f c.before.before.before.before.before.before.before.magnitude.ensures) refl _ c.before.before.before.before.before.exceeds.ensures c.before.before.before.before.if2.false _ c.before.before.before.less.ensures _ c.before.again.ensures _ c.pushed.ensures
+returns-4 c = let f : SFits w64 c.before.before.before.before.before.before.before.before.before.before.before.before.before.taken2.given.0.0 = search rules in end_again _ _ _ _ c.before.before.before.before.before.before.before.before.before.before.before.before.before.taken2.given.1 _ (read (λ z. lt_z z (pos 1)) f c.before.before.before.before.before.before.before.before.before.before.before.below_one.ensures) c.before.before.before.before.before.before.before.before.before.before.if1.false _ c.before.before.before.before.before.before.before.before.innermost.ensures _ _ (read nat_abs f c.before.before.before.before.before.before.before.magnitude.ensures) refl _ c.before.before.before.before.before.exceeds.ensures c.before.before.before.before.if2.false _ c.before.before.before.less.ensures _ c.before.again.ensures _ c.pushed.ensures
 
 pub end-table-spec : {M : Type 1} → statement M
 end-table-spec =

@@ -1,5 +1,5 @@
 -- None is open, a row, or past the rows.
-use Rattle.commands.proofs.Tabling.{innermost-none, innermost-in, innermost_past}
+use Rattle.commands.proofs.Tabling.{innermost_none, innermost_in, innermost_past}
 use mathlib.Core.Path.{◌∙◌}
 use borrow.Author.Rules.{rules}
 use Rattle.commands.proofs.table.innermost.Statement.{statement}
@@ -9,10 +9,10 @@ no-table-requires : tie.Need-no-table-requires
 no-table-requires c κs = search rules
 
 returns : tie.Need-returns
-returns c = c.no_table.ensures ∙ innermost-none _ _ c.before.if1.true
+returns c = c.no_table.ensures ∙ innermost_none _ _ c.before.if1.true
 
 returns-2 : tie.Need-returns-2
-returns-2 c = c.table-in.ensures ∙ innermost-in _ _ c.before.before.if1.false
+returns-2 c = c.table-in.ensures ∙ innermost_in _ _ c.before.before.if1.false
 
 no-table-requires-2 : tie.Need-no-table-requires-2
 no-table-requires-2 c κs = search rules

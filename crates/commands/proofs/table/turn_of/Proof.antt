@@ -1,5 +1,5 @@
 -- The counter of the innermost table.
-use Rattle.commands.proofs.Tabling.{loop-is}
+use Rattle.commands.proofs.Tabling.{loop_is}
 use lib.IntN.{pos}
 use mir.ValLaws.{to_z-of_z}
 use mir.Val.{SFits}
@@ -16,7 +16,7 @@ signed-requires : tie.Need-signed-requires
 signed-requires c κs = search rules
 
 returns : tie.Need-returns
-returns c = let f : SFits w64 c.signed.result = search rules in to_z-of_z w64 _ f ∙ c.signed.ensures ∙ ap (λ t. pos t.counter) c.before.innermost.ensures ∙ ap pos (loop-is _)
+returns c = let f : SFits w64 c.signed.result = search rules in to_z-of_z w64 _ f ∙ c.signed.ensures ∙ ap (λ t. pos t.counter) c.before.innermost.ensures ∙ ap pos (loop_is _)
 
 pub turn-of-spec : {M : Type 1} → statement M
 turn-of-spec = tie.close (tie.spec innermost-requires signed-requires returns)

@@ -1,5 +1,5 @@
 -- By the cases of the definition.
-use Rattle.commands.specs.inner.Kinds.{comparandsOf}
+use Rattle.commands.specs.Inner.Kinds.{comparands_of}
 use borrow.Author.Rules.{rules}
 use Rattle.commands.proofs.test.comparands_of.Statement.{statement}
 use Rattle.commands.proofs.test.comparands_of.Tie as tie
@@ -29,35 +29,35 @@ enum-told-8 : tie.Need-enum-told-8
 enum-told-8 c = search rules
 
 returns : tie.Need-returns
-unfolding comparandsOf
+unfolding comparands_of
 returns c = rw c.enum_told.given.1
 
 returns-2 : tie.Need-returns-2
-unfolding comparandsOf
+unfolding comparands_of
 returns-2 c = rw c.enum-told2.given.1
 
 returns-3 : tie.Need-returns-3
-unfolding comparandsOf
+unfolding comparands_of
 returns-3 c = rw c.enum-told3.given.1
 
 returns-4 : tie.Need-returns-4
-unfolding comparandsOf
+unfolding comparands_of
 returns-4 c = rw c.enum-told4.given.1
 
 returns-5 : tie.Need-returns-5
-unfolding comparandsOf
+unfolding comparands_of
 returns-5 c = rw c.enum-told5.given.1
 
 returns-6 : tie.Need-returns-6
-unfolding comparandsOf
+unfolding comparands_of
 returns-6 c = rw c.enum-told6.given.1
 
 returns-7 : tie.Need-returns-7
-unfolding comparandsOf
+unfolding comparands_of
 returns-7 c = rw c.enum-told7.given.1
 
 returns-8 : tie.Need-returns-8
-unfolding comparandsOf
+unfolding comparands_of
 returns-8 c = rw c.enum-told8.given.1
 
 pub comparands-of-spec : {M : Type 1} → statement M

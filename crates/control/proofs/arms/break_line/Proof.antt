@@ -1,4 +1,4 @@
-use Rattle.control.proofs.Following.{break-line}
+use Rattle.control.proofs.Following.{break_line}
 use borrow.Author.Rules.{rules}
 use Rattle.control.proofs.arms.break_line.Statement.{statement}
 use Rattle.control.proofs.arms.break_line.Tie as tie
@@ -17,7 +17,7 @@ same_length : tie.Need-same-length
 same_length c = search rules
 
 returns : tie.Need-returns
-returns c = break-line _ c.before.before.before.before.before.before.before.before.args.flow _ _ _ _ _ _ c.before.before.before.before.break-page.ensures c.with-page.ensures
+returns c = break_line _ c.before.before.before.before.before.before.before.before.args.flow _ _ _ _ _ _ c.before.before.before.before.break-page.ensures c.with-page.ensures
 
 pub break-line-spec : {M : Type 1} → statement M
 break-line-spec = tie.close (tie.spec break-page-requires with-page-requires same_length returns)

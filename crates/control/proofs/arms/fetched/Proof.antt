@@ -1,5 +1,5 @@
 -- The fetch ended the run, or its number is kept.
-use Rattle.control.proofs.Following.{refill-over, refills}
+use Rattle.control.proofs.Following.{refill_over, refills}
 use borrow.Author.Rules.{rules}
 use Rattle.control.proofs.arms.fetched.Statement.{statement}
 use Rattle.control.proofs.arms.fetched.Tie as tie
@@ -20,7 +20,7 @@ went-requires : tie.Need-went-requires
 went-requires c κs = search rules
 
 returns : tie.Need-returns
-returns c = refill-over _ _ _ _ _ _ _ _ _ c.before.before.end.given.1 c.onward.ensures
+returns c = refill_over _ _ _ _ _ _ _ _ _ c.before.before.end.given.1 c.onward.ensures
 
 returns-2 : tie.Need-returns-2
 returns-2 c = refills _ _ _ _ _ _ _ c.before.before.before.enum_told.given.1 c.before.before.before.before.before.requires _ c.before.put_word.ensures c.went.ensures

@@ -1,6 +1,6 @@
 use Rattle.control.proofs.Following.{heads}
 use mathlib.Core.Path.{refl}
-use Rattle.pages.specs.inner.Packed.{headingIn}
+use Rattle.pages.specs.Inner.Packed.{heading_in}
 use borrow.Author.Rules.{rules}
 use Rattle.control.proofs.arms.no_heading_line.Statement.{statement}
 use Rattle.control.proofs.arms.no_heading_line.Tie as tie
@@ -15,7 +15,7 @@ went-requires : tie.Need-went-requires
 went-requires c κs = search rules
 
 returns : tie.Need-returns
-unfolding headingIn
+unfolding heading_in
 returns c = heads _ _ _ 0 _ _ _ _ _ refl c.before.put_word.ensures c.went.ensures
 
 pub no-heading-line-spec : {M : Type 1} → statement M

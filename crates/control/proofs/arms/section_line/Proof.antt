@@ -16,7 +16,7 @@ went-requires : tie.Need-went-requires
 went-requires c κs = search rules
 
 returns : tie.Need-returns
-returns c = record { numbers-zero = c.before.before.before.before.clear-numbers.ensures; words-zero = c.before.before.clear-words.ensures; went = rw (← c.before.with-feeds.ensures) c.went.ensures }
+returns c = record { numbers_zero = c.before.before.before.before.clear-numbers.ensures; words_zero = c.before.before.clear-words.ensures; went = rw (← c.before.with-feeds.ensures) c.went.ensures }
 
 pub section-line-spec : {M : Type 1} → statement M
 section-line-spec =

@@ -1,6 +1,6 @@
 -- Refused, or set.
-use Rattle.control.proofs.Following.{settles-refused, settles_on}
-use Rattle.commands.specs.inner.Taking.{verdictOf}
+use Rattle.control.proofs.Following.{settles_refused, settles_on}
+use Rattle.commands.specs.Inner.Taking.{verdict_of}
 use mathlib.Core.Path.{refl, ap}
 use borrow.Author.Rules.{rules}
 use Rattle.control.proofs.arms.settled.Statement.{statement}
@@ -19,10 +19,10 @@ went-requires : tie.Need-went-requires
 went-requires c κs = search rules
 
 returns : tie.Need-returns
-returns c = settles-refused _ (ap verdictOf c.before.before.verdict.given.1) c.refused.ensures
+returns c = settles_refused _ (ap verdict_of c.before.before.verdict.given.1) c.refused.ensures
 
 returns-2 : tie.Need-returns-2
-returns-2 c = settles_on tt _ (ap verdictOf c.before.enum_told.given.1) refl c.went.ensures
+returns-2 c = settles_on tt _ (ap verdict_of c.before.enum_told.given.1) refl c.went.ensures
 
 pub settled-spec : {M : Type 1} → statement M
 settled-spec =

@@ -1,4 +1,4 @@
-use Rattle.control.specs.inner.Remembering.{jumpMark}
+use Rattle.control.specs.Inner.Remembering.{jump_mark}
 use borrow.Author.Rules.{rules}
 use Rattle.control.proofs.flow.jump_mark.Statement.{statement}
 use Rattle.control.proofs.flow.jump_mark.Tie as tie
@@ -25,15 +25,15 @@ add-result-3 : tie.Need-overflow-add-result-3
 add-result-3 c = search rules
 
 returns : tie.Need-returns
-unfolding jumpMark
+unfolding jump_mark
 returns c = rw c.enum_told.given.1
 
 returns-2 : tie.Need-returns-2
-unfolding jumpMark
+unfolding jump_mark
 returns-2 c = rw c.enum-told2.given.1
 
 returns-3 : tie.Need-returns-3
-unfolding jumpMark
+unfolding jump_mark
 returns-3 c = rw c.enum-told3.given.1
 
 pub jump-mark-spec : {M : Type 1} → statement M

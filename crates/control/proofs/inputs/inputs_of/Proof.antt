@@ -1,5 +1,5 @@
 -- By its form.
-use Rattle.control.specs.inner.Forms.{inputsOf}
+use Rattle.control.specs.Inner.Forms.{inputs_of}
 use borrow.Author.Rules.{rules}
 use Rattle.control.proofs.inputs.inputs_of.Statement.{statement}
 use Rattle.control.proofs.inputs.inputs_of.Tie as tie
@@ -68,79 +68,79 @@ enum-told-12 : tie.Need-enum-told-12
 enum-told-12 c = search rules
 
 returns : tie.Need-returns
-unfolding inputsOf
+unfolding inputs_of
 returns c = rw c.enum_told.given.1
 
 returns-2 : tie.Need-returns-2
-unfolding inputsOf
+unfolding inputs_of
 returns-2 c = rw c.enum-told2.given.1
 
 returns-3 : tie.Need-returns-3
-unfolding inputsOf
+unfolding inputs_of
 returns-3 c = rw c.enum-told3.given.1
 
 returns-4 : tie.Need-returns-4
-unfolding inputsOf
+unfolding inputs_of
 returns-4 c = rw c.before.form.given.1
 
 returns-5 : tie.Need-returns-5
-unfolding inputsOf
+unfolding inputs_of
 returns-5 c = rw c.before.form2.given.1
 
 returns-6 : tie.Need-returns-6
-unfolding inputsOf
+unfolding inputs_of
 returns-6 c = rw c.before.form3.given.1
 
 returns-7 : tie.Need-returns-7
-unfolding inputsOf
+unfolding inputs_of
 returns-7 c = rw c.before.form4.given.1
 
 returns-8 : tie.Need-returns-8
-unfolding inputsOf
+unfolding inputs_of
 returns-8 c = rw c.enum-told4.given.1
 
 returns-9 : tie.Need-returns-9
-unfolding inputsOf
+unfolding inputs_of
 returns-9 c = rw c.enum-told5.given.1
 
 returns-10 : tie.Need-returns-10
-unfolding inputsOf
+unfolding inputs_of
 returns-10 c = rw c.before.form5.given.1
 
 returns-11 : tie.Need-returns-11
-unfolding inputsOf
+unfolding inputs_of
 returns-11 c = rw c.before.before.form6.given.1 c.optional-input.ensures
 
 returns-12 : tie.Need-returns-12
-unfolding inputsOf
+unfolding inputs_of
 returns-12 c = rw c.enum-told6.given.1
 
 returns-13 : tie.Need-returns-13
-unfolding inputsOf
+unfolding inputs_of
 returns-13 c = rw c.enum-told7.given.1
 
 returns-14 : tie.Need-returns-14
-unfolding inputsOf
+unfolding inputs_of
 returns-14 c = rw c.enum-told8.given.1
 
 returns-15 : tie.Need-returns-15
-unfolding inputsOf
+unfolding inputs_of
 returns-15 c = rw c.enum-told9.given.1
 
 returns-16 : tie.Need-returns-16
-unfolding inputsOf
+unfolding inputs_of
 returns-16 c = rw c.before.before.form7.given.1 c.optional-input2.ensures
 
 returns-17 : tie.Need-returns-17
-unfolding inputsOf
+unfolding inputs_of
 returns-17 c = rw c.enum-told10.given.1
 
 returns-18 : tie.Need-returns-18
-unfolding inputsOf
+unfolding inputs_of
 returns-18 c = rw c.enum-told11.given.1
 
 returns-19 : tie.Need-returns-19
-unfolding inputsOf
+unfolding inputs_of
 returns-19 c = rw c.enum-told12.given.1
 
 pub inputs-of-spec : {M : Type 1} → statement M

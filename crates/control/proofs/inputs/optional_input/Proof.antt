@@ -1,5 +1,5 @@
 -- Absent, or given.
-use Rattle.control.specs.inner.Forms.{optionalInput}
+use Rattle.control.specs.Inner.Forms.{optional_input}
 use borrow.Author.Rules.{rules}
 use Rattle.control.proofs.inputs.optional_input.Statement.{statement}
 use Rattle.control.proofs.inputs.optional_input.Tie as tie
@@ -11,11 +11,11 @@ enum-known-optional : tie.Need-enum-known-optional
 enum-known-optional c = search rules
 
 returns : tie.Need-returns
-unfolding optionalInput
+unfolding optional_input
 returns c = rw c.enum_told.given.1
 
 returns-2 : tie.Need-returns-2
-unfolding optionalInput
+unfolding optional_input
 returns-2 c = rw c.before.optional.given.1
 
 pub optional-input-spec : {M : Type 1} → statement M

@@ -1,5 +1,5 @@
 -- The line is split and parsed, its arguments are worked out, and it is executed in its form.
-use Rattle.executed_line.proofs.Lining.{past-ready, form-parsed, form-ready, inputs-ready, line-over, line-follows}
+use Rattle.executed_line.proofs.Lining.{past_ready, form_parsed, form_ready, inputs_ready, line_over, line_follows}
 use borrow.Author.Rules.{rules}
 use Rattle.executed_line.proofs.line.line.Statement.{statement}
 use Rattle.executed_line.proofs.line.line.Tie as tie
@@ -23,13 +23,13 @@ scene-of-requires : tie.Need-scene-of-requires
 scene-of-requires c κs = search rules
 
 past-requires : tie.Need-past-requires
-past-requires c κs = past-ready c.before.before.before.before.before.before.before.before.before.requires c.before.before.before.Line-of.ensures
+past-requires c κs = past_ready c.before.before.before.before.before.before.before.before.before.requires c.before.before.before.Line-of.ensures
 
 inputs-of-requires : tie.Need-inputs-of-requires
 inputs-of-requires c κs = search rules
 
 work-out-requires : tie.Need-work-out-requires
-work-out-requires c κs = inputs-ready c.before.before.before.before.before.before.before.before.before.before.before.before.before.before.before.requires c.before.before.before.before.before.before.before.before.before.Line-of.ensures c.before.before.before.before.before.before.scene-of.ensures c.before.before.before.before.before.past.ensures (form-parsed c.before.before.before.before.before.before.before.before.before.before.before.before.before.before.before.requires c.before.before.before.before.before.before.before.before.before.Line-of.ensures c.before.before.before.before.before.before.before.before.form_of.ensures) _ c.before.before.before.before.inputs-of.ensures
+work-out-requires c κs = inputs_ready c.before.before.before.before.before.before.before.before.before.before.before.before.before.before.before.requires c.before.before.before.before.before.before.before.before.before.Line-of.ensures c.before.before.before.before.before.before.scene-of.ensures c.before.before.before.before.before.past.ensures (form_parsed c.before.before.before.before.before.before.before.before.before.before.before.before.before.before.before.requires c.before.before.before.before.before.before.before.before.before.Line-of.ensures c.before.before.before.before.before.before.before.before.form_of.ensures) _ c.before.before.before.before.inputs-of.ensures
 
 enum_told : tie.Need-enum-told
 enum_told c = search rules
@@ -41,16 +41,16 @@ onward-requires : tie.Need-onward-requires
 onward-requires c κs = search rules
 
 returns : tie.Need-returns
-returns c = (line-over c.before.before.before.before.before.before.before.before.before.before.before.before.before.before.before.before.before.before.before.requires c.before.before.before.before.before.before.before.before.before.before.before.before.before.Line-of.ensures c.before.before.before.before.before.before.before.before.before.before.scene-of.ensures c.before.before.before.before.before.before.before.before.before.past.ensures (form-parsed c.before.before.before.before.before.before.before.before.before.before.before.before.before.before.before.before.before.before.before.requires c.before.before.before.before.before.before.before.before.before.before.before.before.before.Line-of.ensures c.before.before.before.before.before.before.before.before.before.before.before.before.form_of.ensures) _ _ _ c.before.before.before.before.before.before.before.before.inputs-of.ensures _ _ c.before.before.before.work-out.ensures _ _ _ c.before.enum-told2.given.1 c.onward.ensures, c.before.before.before.before.before.before.before.before.before.before.before.before.before.before.before.before.before.before.before.requires.remembered)
+returns c = (line_over c.before.before.before.before.before.before.before.before.before.before.before.before.before.before.before.before.before.before.before.requires c.before.before.before.before.before.before.before.before.before.before.before.before.before.Line-of.ensures c.before.before.before.before.before.before.before.before.before.before.scene-of.ensures c.before.before.before.before.before.before.before.before.before.past.ensures (form_parsed c.before.before.before.before.before.before.before.before.before.before.before.before.before.before.before.before.before.before.before.requires c.before.before.before.before.before.before.before.before.before.before.before.before.before.Line-of.ensures c.before.before.before.before.before.before.before.before.before.before.before.before.form_of.ensures) _ _ _ c.before.before.before.before.before.before.before.before.inputs-of.ensures _ _ c.before.before.before.work-out.ensures _ _ _ c.before.enum-told2.given.1 c.onward.ensures, c.before.before.before.before.before.before.before.before.before.before.before.before.before.before.before.before.before.before.before.requires.remembered)
 
 execute-requires : tie.Need-execute-requires
-execute-requires c κs = form-ready c.before.before.before.before.before.before.before.before.before.before.before.before.before.before.before.before.before.before.before.before.before.before.before.requires c.before.before.before.before.before.before.before.before.before.before.before.before.before.before.before.before.before.Line-of.ensures c.before.before.before.before.before.before.before.before.before.before.before.before.before.before.scene-of.ensures c.before.before.before.before.before.before.before.before.before.before.before.before.before.past.ensures (form-parsed c.before.before.before.before.before.before.before.before.before.before.before.before.before.before.before.before.before.before.before.before.before.before.before.requires c.before.before.before.before.before.before.before.before.before.before.before.before.before.before.before.before.before.Line-of.ensures c.before.before.before.before.before.before.before.before.before.before.before.before.before.before.before.before.form_of.ensures) _ c.before.before.before.before.before.before.before.work-out.ensures.few
+execute-requires c κs = form_ready c.before.before.before.before.before.before.before.before.before.before.before.before.before.before.before.before.before.before.before.before.before.before.before.requires c.before.before.before.before.before.before.before.before.before.before.before.before.before.before.before.before.before.Line-of.ensures c.before.before.before.before.before.before.before.before.before.before.before.before.before.before.scene-of.ensures c.before.before.before.before.before.before.before.before.before.before.before.before.before.past.ensures (form_parsed c.before.before.before.before.before.before.before.before.before.before.before.before.before.before.before.before.before.before.before.before.before.before.before.requires c.before.before.before.before.before.before.before.before.before.before.before.before.before.before.before.before.before.Line-of.ensures c.before.before.before.before.before.before.before.before.before.before.before.before.before.before.before.before.form_of.ensures) _ c.before.before.before.before.before.before.before.work-out.ensures.few
 
 same_length : tie.Need-same-length
 same_length c = search rules
 
 returns-2 : tie.Need-returns-2
-returns-2 c = (line-follows c.before.before.before.before.before.before.before.before.before.before.before.before.before.before.before.before.before.before.before.before.before.before.before.before.before.before.requires c.before.before.before.before.before.before.before.before.before.before.before.before.before.before.before.before.before.before.before.before.Line-of.ensures c.before.before.before.before.before.before.before.before.before.before.before.before.before.before.before.before.before.scene-of.ensures c.before.before.before.before.before.before.before.before.before.before.before.before.before.before.before.before.past.ensures (form-parsed c.before.before.before.before.before.before.before.before.before.before.before.before.before.before.before.before.before.before.before.before.before.before.before.before.before.before.requires c.before.before.before.before.before.before.before.before.before.before.before.before.before.before.before.before.before.before.before.before.Line-of.ensures c.before.before.before.before.before.before.before.before.before.before.before.before.before.before.before.before.before.before.before.form_of.ensures) _ _ _ c.before.before.before.before.before.before.before.before.before.before.before.before.before.before.before.inputs-of.ensures _ _ c.before.before.before.before.before.before.before.before.before.before.work-out.ensures _ _ _ _ c.before.before.before.before.before.before.before.before.enum_told.given.1 c.before.before.execute.ensures, c.before.before.execute.ensures.remembered)
+returns-2 c = (line_follows c.before.before.before.before.before.before.before.before.before.before.before.before.before.before.before.before.before.before.before.before.before.before.before.before.before.before.requires c.before.before.before.before.before.before.before.before.before.before.before.before.before.before.before.before.before.before.before.before.Line-of.ensures c.before.before.before.before.before.before.before.before.before.before.before.before.before.before.before.before.before.scene-of.ensures c.before.before.before.before.before.before.before.before.before.before.before.before.before.before.before.before.past.ensures (form_parsed c.before.before.before.before.before.before.before.before.before.before.before.before.before.before.before.before.before.before.before.before.before.before.before.before.before.before.requires c.before.before.before.before.before.before.before.before.before.before.before.before.before.before.before.before.before.before.before.before.Line-of.ensures c.before.before.before.before.before.before.before.before.before.before.before.before.before.before.before.before.before.before.before.form_of.ensures) _ _ _ c.before.before.before.before.before.before.before.before.before.before.before.before.before.before.before.inputs-of.ensures _ _ c.before.before.before.before.before.before.before.before.before.before.work-out.ensures _ _ _ _ c.before.before.before.before.before.before.before.before.enum_told.given.1 c.before.before.execute.ensures, c.before.before.execute.ensures.remembered)
 
 pub line-spec : {M : Type 1} → statement M
 line-spec =

@@ -2,35 +2,35 @@
 use mathlib.Core.Path.{◌≡◌}
 use native.Mathlib.Omega.{arith}
 use Prim.Native.Nat.{◌+◌, ◌≤◌}
-use Rattle.fields.specs.Digits.{digitCount}
-use Rattle.fields.proofs.DigitLaws.{counted-more, counted-all}
+use Rattle.fields.specs.Digits.{digit_count}
+use Rattle.fields.proofs.DigitLaws.{counted_more, counted_all}
 use borrow.Author.Rules.{rules}
 use Rattle.fields.proofs.digits.digit_count.Statement.{statement}
 use Rattle.fields.proofs.digits.digit_count.Tie as tie
 
-abbrev invariant-loop : tie.invariant-loop
-invariant-loop n m₀ count₀ m count = (count + digitCount m ≡ 1 + digitCount n) × (count + m ≤ n + 1)
+abbrev invariant_loop : tie.invariant_loop
+invariant_loop n m₀ count₀ m count = (count + digit_count m ≡ 1 + digit_count n) × (count + m ≤ n + 1)
 
-abbrev decreases-loop : tie.decreases-loop
-decreases-loop n m₀ count₀ m count = m
+abbrev decreases_loop : tie.decreases_loop
+decreases_loop n m₀ count₀ m count = m
 
-loop-holds : tie.Need-loop-init invariant-loop decreases-loop
+loop-holds : tie.Need-loop-init invariant_loop decreases_loop
 loop-holds c = search rules
 
-add-count : tie.Need-overflow-add-count invariant-loop decreases-loop
+add-count : tie.Need-overflow-add-count invariant_loop decreases_loop
 add-count c = search rules
 
-loop-less : tie.Need-loop-smaller invariant-loop decreases-loop
+loop-less : tie.Need-loop-smaller invariant_loop decreases_loop
 loop-less c = search rules
 
-loop-again : tie.Need-loop-preserved invariant-loop decreases-loop
+loop-again : tie.Need-loop-preserved invariant_loop decreases_loop
 loop-again c =
     let l = c.before.loop in
-    (counted-more _ _ _ l.invariant.0 c.loop-test.true, omega arith)
+    (counted_more _ _ _ l.invariant.0 c.loop-test.true, omega arith)
 
-returns : tie.Need-returns invariant-loop decreases-loop
-returns c = counted-all _ _ _ c.before.loop.invariant.0 c.loop-test.false
+returns : tie.Need-returns invariant_loop decreases_loop
+returns c = counted_all _ _ _ c.before.loop.invariant.0 c.loop-test.false
 
 pub digit-count-spec : {M : Type 1} → statement M
 digit-count-spec =
-    tie.close (tie.spec invariant-loop decreases-loop loop-holds add-count loop-less loop-again returns)
+    tie.close (tie.spec invariant_loop decreases_loop loop-holds add-count loop-less loop-again returns)

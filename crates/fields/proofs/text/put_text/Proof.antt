@@ -1,6 +1,6 @@
 -- Three pieces, one behind the other, are one.
 use native.Mathlib.Omega.{arith}
-use Rattle.fields.proofs.FieldLaws.{text-put}
+use Rattle.fields.proofs.FieldLaws.{text_put}
 use borrow.Author.Rules.{rules}
 use Rattle.fields.proofs.text.put_text.Statement.{statement}
 use Rattle.fields.proofs.text.put_text.Tie as tie
@@ -30,7 +30,7 @@ returns : tie.Need-returns
 returns c =
     let k = c.before.before.before.before.before.before in
     let l = k.before.before.before.before in
-    text-put _ _ _ _ _ _ _ _ _ _ (omega arith) l.fill.ensures.buffer k.put-digits.ensures c.before.before.put-fraction.ensures
+    text_put _ _ _ _ _ _ _ _ _ _ (omega arith) l.fill.ensures.buffer k.put-digits.ensures c.before.before.put-fraction.ensures
 
 pub put-text-spec : {M : Type 1} → statement M
 put-text-spec =

@@ -3,26 +3,26 @@ use mathlib.Core.Path.{◌≡◌, ap, ◌∙◌}
 use Prim.Native.Nat.{ℕ, ◌/◌, ◌^◌, ◌≤◌}
 use native.Mathlib.Omega.{arith}
 use native.Mathlib.Nat.{one-le-pow, div-le_self}
-use Rattle.numbers.proofs.Laws.{scale-power}
-use Rattle.fields.proofs.DigitLaws.{count-bound}
-use Rattle.fields.proofs.FieldLaws.{starred, spaced, sign-short, fraction-short, fraction-same}
+use Rattle.numbers.proofs.Laws.{scale_power}
+use Rattle.fields.proofs.DigitLaws.{count_bound}
+use Rattle.fields.proofs.FieldLaws.{starred, spaced, sign_short, fraction_short, fraction_same}
 use borrow.Author.Rules.{rules}
 use Rattle.fields.proofs.text.put_units.Statement.{statement}
 use Rattle.fields.proofs.text.put_units.Tie as tie
 
 -- the quotient is the whole part
 whole : (k : tie.After-scale) → k.before.before.args.u / k.scale.result ≡ k.before.before.args.u / 10 ^ k.before.before.args.d
-whole k = ap (λ (n : ℕ). k.before.before.args.u / n) (k.scale.ensures ∙ scale-power _ k.before.before.requires.1)
+whole k = ap (λ (n : ℕ). k.before.before.args.u / n) (k.scale.ensures ∙ scale_power _ k.before.before.requires.1)
 
 -- a u64 has at most 20 digits
 few : (k : tie.After-digit-count) → k.digit-count.result ≤ 20
-few k = omega (arith, k.digit-count.ensures, count-bound 19 (k.before.before.before.args.u / k.before.scale.result) (omega (arith, div-le_self k.before.before.before.args.u k.before.scale.result)))
+few k = omega (arith, k.digit-count.ensures, count_bound 19 (k.before.before.before.args.u / k.before.scale.result) (omega (arith, div-le_self k.before.before.before.args.u k.before.scale.result)))
 
 scale-requires : tie.Need-scale-requires
 scale-requires c κs = search rules
 
 div-whole : tie.Need-nonzero-div-whole
-div-whole c = rw (c.scale.ensures ∙ scale-power _ c.before.before.requires.1) (one-le-pow _ _ (omega arith))
+div-whole c = rw (c.scale.ensures ∙ scale_power _ c.before.before.requires.1) (one-le-pow _ _ (omega arith))
 
 digit-count-requires : tie.Need-digit-count-requires
 digit-count-requires c κs = search rules
@@ -32,13 +32,13 @@ sign-length-requires c κs = search rules
 
 add-length : tie.Need-overflow-add-length
 add-length c =
-    omega (arith, c.sign-length.ensures, sign-short c.before.before.before.before.args.below c.before.before.before.before.args.u, few c.before)
+    omega (arith, c.sign-length.ensures, sign_short c.before.before.before.before.args.below c.before.before.before.before.args.u, few c.before)
 
 fraction-length-requires : tie.Need-fraction-length-requires
 fraction-length-requires c κs = search rules
 
 add-length-2 : tie.Need-overflow-add-length-2
-add-length-2 c = omega (arith, c.fraction-length.ensures, fraction-short _ 0 c.before.before.before.before.before.requires.1, c.before.sign-length.ensures, sign-short c.before.before.before.before.before.args.below c.before.before.before.before.before.args.u, few c.before.before)
+add-length-2 c = omega (arith, c.fraction-length.ensures, fraction_short _ 0 c.before.before.before.before.before.requires.1, c.before.sign-length.ensures, sign_short c.before.before.before.before.before.args.below c.before.before.before.before.before.args.u, few c.before.before)
 
 fill-requires : tie.Need-fill-requires
 fill-requires c κs = search rules
@@ -61,7 +61,7 @@ add-put-text c = search rules
 put-text-requires : tie.Need-put-text-requires
 put-text-requires c κs =
     let a = c.before.before.before.before.before.before.before.before.before.before.before.args in
-    (omega (arith, fraction-same a.d a.u 0), omega arith)
+    (omega (arith, fraction_same a.d a.u 0), omega arith)
 
 same-length-2 : tie.Need-same-length-2
 same-length-2 c = search rules

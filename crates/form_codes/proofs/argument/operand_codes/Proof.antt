@@ -1,5 +1,5 @@
 -- By the kinds of an operand.
-use Rattle.form_codes.specs.Argument.{operandCodes}
+use Rattle.form_codes.specs.Argument.{operand_codes}
 use borrow.Author.Rules.{rules}
 use Rattle.form_codes.proofs.argument.operand_codes.Statement.{statement}
 use Rattle.form_codes.proofs.argument.operand_codes.Tie as tie
@@ -62,55 +62,55 @@ cell-codes-requires-2 : tie.Need-cell-codes-requires-2
 cell-codes-requires-2 c κs = search rules
 
 returns : tie.Need-returns
-unfolding operandCodes
+unfolding operand_codes
 returns c = rw c.before.before.operand.given.1 c.literal-codes.ensures
 
 returns-2 : tie.Need-returns-2
-unfolding operandCodes
+unfolding operand_codes
 returns-2 c = rw c.before.operand2.given.1
 
 returns-3 : tie.Need-returns-3
-unfolding operandCodes
+unfolding operand_codes
 returns-3 c = rw c.before.operand3.given.1
 
 returns-4 : tie.Need-returns-4
-unfolding operandCodes
+unfolding operand_codes
 returns-4 c = rw c.before.operand4.given.1
 
 returns-5 : tie.Need-returns-5
-unfolding operandCodes
+unfolding operand_codes
 returns-5 c = rw c.before.operand5.given.1
 
 returns-6 : tie.Need-returns-6
-unfolding operandCodes
+unfolding operand_codes
 returns-6 c = rw c.enum_told.given.1
 
 returns-7 : tie.Need-returns-7
-unfolding operandCodes
+unfolding operand_codes
 returns-7 c = rw c.enum-told2.given.1
 
 returns-8 : tie.Need-returns-8
-unfolding operandCodes
+unfolding operand_codes
 returns-8 c = rw c.enum-told3.given.1
 
 returns-9 : tie.Need-returns-9
-unfolding operandCodes
+unfolding operand_codes
 returns-9 c = rw c.before.operand6.given.1
 
 returns-10 : tie.Need-returns-10
-unfolding operandCodes
+unfolding operand_codes
 returns-10 c = rw c.before.operand7.given.1
 
 returns-11 : tie.Need-returns-11
-unfolding operandCodes
+unfolding operand_codes
 returns-11 c = rw c.before.operand8.given.1
 
 returns-12 : tie.Need-returns-12
-unfolding operandCodes
+unfolding operand_codes
 returns-12 c = rw (c.before.before.before.operand9.given.1, ← c.before.index-codes.ensures) c.cell-codes.ensures
 
 returns-13 : tie.Need-returns-13
-unfolding operandCodes
+unfolding operand_codes
 returns-13 c = rw (c.before.before.before.before.operand10.given.1, ← c.before.before.index-codes2.ensures, ← c.before.index-codes3.ensures) c.cell-codes2.ensures
 
 pub operand-codes-spec : {M : Type 1} → statement M

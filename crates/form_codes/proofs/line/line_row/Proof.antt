@@ -1,5 +1,5 @@
 -- By the forms of a line, each with what its calls say.
-use Rattle.form_codes.specs.Line.{lineRow}
+use Rattle.form_codes.specs.Line.{line_row}
 use borrow.Author.Rules.{rules}
 use Rattle.form_codes.proofs.line.line_row.Statement.{statement}
 use Rattle.form_codes.proofs.line.line_row.Tie as tie
@@ -146,79 +146,79 @@ bare-row-requires-7 : tie.Need-bare-row-requires-7
 bare-row-requires-7 c κs = search rules
 
 returns : tie.Need-returns
-unfolding lineRow
+unfolding line_row
 returns c = rw c.before.enum_told.given.1 c.bare-row.ensures
 
 returns-2 : tie.Need-returns-2
-unfolding lineRow
+unfolding line_row
 returns-2 c = rw c.before.enum-told2.given.1 c.bare-row2.ensures
 
 returns-3 : tie.Need-returns-3
-unfolding lineRow
+unfolding line_row
 returns-3 c = rw c.before.before.line.given.1 c.row-with.ensures
 
 returns-4 : tie.Need-returns-4
-unfolding lineRow
+unfolding line_row
 returns-4 c = rw (c.before.before.before.before.line2.given.1, ← c.before.before.operation-code.ensures, ← c.before.target-codes.ensures, ← c.argument-codes.ensures)
 
 returns-5 : tie.Need-returns-5
-unfolding lineRow
+unfolding line_row
 returns-5 c = rw (c.before.before.before.line3.given.1, ← c.before.argument-codes2.ensures) c.row-with2.ensures
 
 returns-6 : tie.Need-returns-6
-unfolding lineRow
+unfolding line_row
 returns-6 c = rw (c.before.before.before.line4.given.1, ← c.before.argument-codes3.ensures) c.row-with3.ensures
 
 returns-7 : tie.Need-returns-7
-unfolding lineRow
+unfolding line_row
 returns-7 c = rw (c.before.before.before.before.line5.given.1, ← c.before.before.comparison-code.ensures, ← c.before.argument-codes4.ensures, ← c.argument-codes5.ensures)
 
 returns-8 : tie.Need-returns-8
-unfolding lineRow
+unfolding line_row
 returns-8 c = rw c.before.enum-told3.given.1 c.bare-row3.ensures
 
 returns-9 : tie.Need-returns-9
-unfolding lineRow
+unfolding line_row
 returns-9 c = rw c.before.enum-told4.given.1 c.bare-row4.ensures
 
 returns-10 : tie.Need-returns-10
-unfolding lineRow
+unfolding line_row
 returns-10 c = rw (c.before.before.before.line6.given.1, ← c.before.argument-codes6.ensures) c.row-with4.ensures
 
 returns-11 : tie.Need-returns-11
-unfolding lineRow
+unfolding line_row
 returns-11 c = rw (c.before.before.before.line7.given.1, ← c.before.optional-codes.ensures) c.row-with5.ensures
 
 returns-12 : tie.Need-returns-12
-unfolding lineRow
+unfolding line_row
 returns-12 c = rw c.before.before.line8.given.1 c.fetch-row.ensures
 
 returns-13 : tie.Need-returns-13
-unfolding lineRow
+unfolding line_row
 returns-13 c = rw c.before.before.line9.given.1 c.fetch-row2.ensures
 
 returns-14 : tie.Need-returns-14
-unfolding lineRow
+unfolding line_row
 returns-14 c = rw c.before.before.line10.given.1 c.datasource-row.ensures
 
 returns-15 : tie.Need-returns-15
-unfolding lineRow
+unfolding line_row
 returns-15 c = rw c.before.enum-told5.given.1 c.bare-row5.ensures
 
 returns-16 : tie.Need-returns-16
-unfolding lineRow
+unfolding line_row
 returns-16 c = rw (c.before.before.before.line11.given.1, ← c.before.optional-codes2.ensures) c.row-with6.ensures
 
 returns-17 : tie.Need-returns-17
-unfolding lineRow
+unfolding line_row
 returns-17 c = rw c.before.before.line12.given.1 c.row-with7.ensures
 
 returns-18 : tie.Need-returns-18
-unfolding lineRow
+unfolding line_row
 returns-18 c = rw c.before.before.line13.given.1 c.bare-row6.ensures
 
 returns-19 : tie.Need-returns-19
-unfolding lineRow
+unfolding line_row
 returns-19 c = rw c.before.enum-told6.given.1 c.bare-row7.ensures
 
 pub line-row-spec : {M : Type 1} → statement M

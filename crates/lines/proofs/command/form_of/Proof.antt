@@ -1,6 +1,6 @@
 -- The definition makes the code's tests in the code's order.
 use borrow.Author.Tests.{eq-eqb, ne_eqb}
-use Rattle.lines.specs.inner.Known.{form_of}
+use Rattle.lines.specs.Inner.Known.{form_of}
 use borrow.Author.Rules.{rules}
 use Rattle.lines.proofs.command.form_of.Statement.{statement}
 use Rattle.lines.proofs.command.form_of.Tie as tie
@@ -20,7 +20,7 @@ known-heading-requires c κs = search rules
 
 returns-2 : tie.Need-returns-2
 unfolding form_of
-returns-2 c = rw (← c.before.before.before.before.byte.ensures, eq-eqb _ _ c.before.before.before.if1.false, ← c.before.before.byte2.ensures, eq-eqb _ _ c.before.if2.true) c.known-heading.ensures
+returns-2 c = rw (← c.before.before.before.before.byte.ensures, eq-eqb _ _ c.before.before.before.if1.false, ← c.before.before.byte2.ensures, eq-eqb _ _ c.before.if2.true) c.known_heading_law.ensures
 
 command-in-requires : tie.Need-command-in-requires
 command-in-requires c κs = search rules

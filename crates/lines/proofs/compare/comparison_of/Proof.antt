@@ -1,39 +1,39 @@
 -- The definition makes the code's tests in the code's order.
 use borrow.Author.Tests.{eq-eqb, ne_eqb}
-use Rattle.lines.specs.inner.Dispatch.{comparisonOf}
+use Rattle.lines.specs.Inner.Dispatch.{comparison_of}
 use Rattle.lines.proofs.compare.comparison_of.Statement.{statement}
 use Rattle.lines.proofs.compare.comparison_of.Tie as tie
 
 returns : tie.Need-returns
-unfolding comparisonOf
+unfolding comparison_of
 returns c = rw (eq-eqb _ _ c.if1.true)
 
 returns-2 : tie.Need-returns-2
-unfolding comparisonOf
+unfolding comparison_of
 returns-2 c = rw (ne_eqb _ _ c.before.if1.false, eq-eqb _ _ c.if2.true)
 
 returns-3 : tie.Need-returns-3
-unfolding comparisonOf
+unfolding comparison_of
 returns-3 c = rw (ne_eqb _ _ c.before.before.if1.false, ne_eqb _ _ c.before.if2.false, eq-eqb _ _ c.if3.true)
 
 returns-4 : tie.Need-returns-4
-unfolding comparisonOf
+unfolding comparison_of
 returns-4 c = rw (ne_eqb _ _ c.before.before.before.if1.false, ne_eqb _ _ c.before.before.if2.false, ne_eqb _ _ c.before.if3.false, eq-eqb _ _ c.if4.true)
 
 returns-5 : tie.Need-returns-5
-unfolding comparisonOf
+unfolding comparison_of
 returns-5 c = rw (ne_eqb _ _ c.before.before.before.before.if1.false, ne_eqb _ _ c.before.before.before.if2.false, ne_eqb _ _ c.before.before.if3.false, ne_eqb _ _ c.before.if4.false, eq-eqb _ _ c.if5.true)
 
 returns-6 : tie.Need-returns-6
-unfolding comparisonOf
+unfolding comparison_of
 returns-6 c = rw (ne_eqb _ _ c.before.before.before.before.before.if1.false, ne_eqb _ _ c.before.before.before.before.if2.false, ne_eqb _ _ c.before.before.before.if3.false, ne_eqb _ _ c.before.before.if4.false, ne_eqb _ _ c.before.if5.false, eq-eqb _ _ c.if6.true)
 
 returns-7 : tie.Need-returns-7
-unfolding comparisonOf
+unfolding comparison_of
 returns-7 c = rw (ne_eqb _ _ c.before.before.before.before.before.before.if1.false, ne_eqb _ _ c.before.before.before.before.before.if2.false, ne_eqb _ _ c.before.before.before.before.if3.false, ne_eqb _ _ c.before.before.before.if4.false, ne_eqb _ _ c.before.before.if5.false, ne_eqb _ _ c.before.if6.false, eq-eqb _ _ c.if7.true)
 
 returns-8 : tie.Need-returns-8
-unfolding comparisonOf
+unfolding comparison_of
 returns-8 c = rw (ne_eqb _ _ c.before.before.before.before.before.before.if1.false, ne_eqb _ _ c.before.before.before.before.before.if2.false, ne_eqb _ _ c.before.before.before.before.if3.false, ne_eqb _ _ c.before.before.before.if4.false, ne_eqb _ _ c.before.before.if5.false, ne_eqb _ _ c.before.if6.false, ne_eqb _ _ c.if7.false)
 
 pub comparison-of-spec : {M : Type 1} → statement M

@@ -1,6 +1,6 @@
 -- The definition makes the code's tests in the code's order.
 use mathlib.Core.Path.{sym, ◌∙◌}
-use Rattle.lines.specs.readers.Fetch.{fetchedAt}
+use Rattle.lines.specs.Readers.Fetch.{fetched_at}
 use borrow.Author.Rules.{rules}
 use Rattle.lines.proofs.fetch.fetched_at.Statement.{statement}
 use Rattle.lines.proofs.fetch.fetched_at.Tie as tie
@@ -18,7 +18,7 @@ enum_told : tie.Need-enum-told
 enum_told c = search rules
 
 returns : tie.Need-returns
-unfolding fetchedAt
+unfolding fetched_at
 returns c = rw (← c.before.before.before.behind-space.ensures, sym c.before.before.index_at.ensures ∙ c.enum_told.given.1)
 
 behind-space-requires-2 : tie.Need-behind-space-requires-2
@@ -34,7 +34,7 @@ enum-told-2 : tie.Need-enum-told-2
 enum-told-2 c = search rules
 
 returns-2 : tie.Need-returns-2
-unfolding fetchedAt
+unfolding fetched_at
 returns-2 c = rw (← c.before.before.before.before.before.before.before.before.behind-space.ensures, sym c.before.before.before.before.before.before.before.index_at.ensures ∙ c.before.before.before.before.before.first.given.1, ← c.before.before.before.behind-space2.ensures, sym c.before.before.index-at2.ensures ∙ c.enum-told2.given.1)
 
 behind-space-requires-3 : tie.Need-behind-space-requires-3
@@ -50,11 +50,11 @@ enum-told-3 : tie.Need-enum-told-3
 enum-told-3 c = search rules
 
 returns-3 : tie.Need-returns-3
-unfolding fetchedAt
+unfolding fetched_at
 returns-3 c = rw (← c.before.before.before.before.before.before.before.before.before.before.before.before.before.behind-space.ensures, sym c.before.before.before.before.before.before.before.before.before.before.before.before.index_at.ensures ∙ c.before.before.before.before.before.before.before.before.before.before.first.given.1, ← c.before.before.before.before.before.before.before.before.behind-space2.ensures, sym c.before.before.before.before.before.before.before.index-at2.ensures ∙ c.before.before.before.before.before.second.given.1, ← c.before.before.before.behind-space3.ensures, sym c.before.before.index-at3.ensures ∙ c.enum-told3.given.1)
 
 returns-4 : tie.Need-returns-4
-unfolding fetchedAt
+unfolding fetched_at
 returns-4 c = rw (← c.before.before.before.before.before.before.before.before.before.before.before.before.before.before.behind-space.ensures, sym c.before.before.before.before.before.before.before.before.before.before.before.before.before.index_at.ensures ∙ c.before.before.before.before.before.before.before.before.before.before.before.first.given.1, ← c.before.before.before.before.before.before.before.before.before.behind-space2.ensures, sym c.before.before.before.before.before.before.before.before.index-at2.ensures ∙ c.before.before.before.before.before.before.second.given.1, ← c.before.before.before.before.behind-space3.ensures, sym c.before.before.before.index-at3.ensures ∙ c.before.count.given.1)
 
 pub fetched-at-spec : {M : Type 1} → statement M

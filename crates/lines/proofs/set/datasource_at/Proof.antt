@@ -1,7 +1,7 @@
 -- The definition makes the code's tests in the code's order.
 use mathlib.Core.Path.{sym, ◌∙◌}
 use borrow.Author.Tests.{le-ltb, lt-ltb}
-use Rattle.lines.specs.readers.Set.{datasourceAt}
+use Rattle.lines.specs.Readers.Set.{datasource_at}
 use borrow.Author.Rules.{rules}
 use Rattle.lines.proofs.set.datasource_at.Statement.{statement}
 use Rattle.lines.proofs.set.datasource_at.Tie as tie
@@ -19,15 +19,15 @@ enum_told : tie.Need-enum-told
 enum_told c = search rules
 
 returns : tie.Need-returns
-unfolding datasourceAt
+unfolding datasource_at
 returns c = rw (← c.before.before.before.behind-space.ensures, sym c.before.before.index_at.ensures ∙ c.enum_told.given.1)
 
 returns-2 : tie.Need-returns-2
-unfolding datasourceAt
+unfolding datasource_at
 returns-2 c = rw (← c.before.before.before.before.before.behind-space.ensures, sym c.before.before.before.before.index_at.ensures ∙ c.before.before.index.given.1, lt-ltb _ _ c.if1.true)
 
 returns-3 : tie.Need-returns-3
-unfolding datasourceAt
+unfolding datasource_at
 returns-3 c = rw (← c.before.before.before.before.before.behind-space.ensures, sym c.before.before.before.before.index_at.ensures ∙ c.before.before.index.given.1, le-ltb _ _ c.if1.false)
 
 pub datasource-at-spec : {M : Type 1} → statement M

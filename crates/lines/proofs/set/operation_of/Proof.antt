@@ -1,27 +1,27 @@
 -- The definition makes the code's tests in the code's order.
 use borrow.Author.Tests.{eq-eqb, ne_eqb}
-use Rattle.lines.specs.inner.Dispatch.{operationOf}
+use Rattle.lines.specs.Inner.Dispatch.{operation_of}
 use Rattle.lines.proofs.set.operation_of.Statement.{statement}
 use Rattle.lines.proofs.set.operation_of.Tie as tie
 
 returns : tie.Need-returns
-unfolding operationOf
+unfolding operation_of
 returns c = rw (eq-eqb _ _ c.if1.true)
 
 returns-2 : tie.Need-returns-2
-unfolding operationOf
+unfolding operation_of
 returns-2 c = rw (ne_eqb _ _ c.before.if1.false, eq-eqb _ _ c.if2.true)
 
 returns-3 : tie.Need-returns-3
-unfolding operationOf
+unfolding operation_of
 returns-3 c = rw (ne_eqb _ _ c.before.before.if1.false, ne_eqb _ _ c.before.if2.false, eq-eqb _ _ c.if3.true)
 
 returns-4 : tie.Need-returns-4
-unfolding operationOf
+unfolding operation_of
 returns-4 c = rw (ne_eqb _ _ c.before.before.before.if1.false, ne_eqb _ _ c.before.before.if2.false, ne_eqb _ _ c.before.if3.false, eq-eqb _ _ c.if4.true)
 
 returns-5 : tie.Need-returns-5
-unfolding operationOf
+unfolding operation_of
 returns-5 c = rw (ne_eqb _ _ c.before.before.before.if1.false, ne_eqb _ _ c.before.before.if2.false, ne_eqb _ _ c.before.if3.false, ne_eqb _ _ c.if4.false)
 
 pub operation-of-spec : {M : Type 1} → statement M

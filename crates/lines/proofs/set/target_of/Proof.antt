@@ -1,9 +1,9 @@
 -- The definition makes the code's tests in the code's order.
 use mathlib.Core.Path.{sym}
 use borrow.Author.Tests.{eq-eqb}
-use Rattle.lines.specs.inner.Dispatch.{operationOf}
-use Rattle.lines.specs.readers.Set.{stringTarget, target_of}
-use Rattle.lines.proofs.DispatchLaws.{not-assigned}
+use Rattle.lines.specs.Inner.Dispatch.{operation_of}
+use Rattle.lines.specs.Readers.Set.{string_target, target_of}
+use Rattle.lines.proofs.DispatchLaws.{not_assigned}
 use borrow.Author.Rules.{rules}
 use Rattle.lines.proofs.set.target_of.Statement.{statement}
 use Rattle.lines.proofs.set.target_of.Tie as tie
@@ -18,7 +18,7 @@ enum-known-operand-3 : tie.Need-enum-known-operand-3
 enum-known-operand-3 c = search rules
 
 returns : tie.Need-returns
-unfolding operationOf stringTarget target_of
+unfolding operation_of string_target target_of
 returns c = rw (c.before.before.operand3.given.1, eq-eqb _ _ c.if1.true)
 
 enum_told : tie.Need-enum-told
@@ -61,7 +61,7 @@ returns-3 c = rw c.before.operand2.given.1
 
 returns-4 : tie.Need-returns-4
 unfolding target_of
-returns-4 c = rw c.before.before.operand3.given.1 (sym (not-assigned _ _ c.if1.false))
+returns-4 c = rw c.before.before.operand3.given.1 (sym (not_assigned _ _ c.if1.false))
 
 returns-5 : tie.Need-returns-5
 unfolding target_of

@@ -1,6 +1,6 @@
 -- The definition makes the code's tests in the code's order.
 use mathlib.Core.Path.{sym, ◌∙◌}
-use Rattle.lines.specs.readers.Title.{headingAt}
+use Rattle.lines.specs.Readers.Title.{heading_at}
 use borrow.Author.Rules.{rules}
 use Rattle.lines.proofs.title.heading_at.Statement.{statement}
 use Rattle.lines.proofs.title.heading_at.Tie as tie
@@ -18,14 +18,14 @@ heading-of-requires : tie.Need-heading-of-requires
 heading-of-requires c κs = search rules
 
 returns : tie.Need-returns
-unfolding headingAt
-returns c = rw (sym c.before.before.before.number_at.ensures ∙ c.before.enum_told.given.1) c.heading-of.ensures
+unfolding heading_at
+returns c = rw (sym c.before.before.before.number_at.ensures ∙ c.before.enum_told.given.1) c.heading_of_law.ensures
 
 heading-of-requires-2 : tie.Need-heading-of-requires-2
 heading-of-requires-2 c κs = search rules
 
 returns-2 : tie.Need-returns-2
-unfolding headingAt
+unfolding heading_at
 returns-2 c = rw (sym c.before.before.before.before.number_at.ensures ∙ c.before.before.n.given.1) c.heading-of2.ensures
 
 pub heading-at-spec : {M : Type 1} → statement M

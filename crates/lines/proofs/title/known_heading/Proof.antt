@@ -1,6 +1,6 @@
 -- The definition makes the code's tests in the code's order.
 use mathlib.Core.Path.{sym, ◌∙◌}
-use Rattle.lines.specs.inner.Known.{knownHeading}
+use Rattle.lines.specs.Inner.Known.{known_heading}
 use borrow.Author.Rules.{rules}
 use Rattle.lines.proofs.title.known_heading.Statement.{statement}
 use Rattle.lines.proofs.title.known_heading.Tie as tie
@@ -18,14 +18,14 @@ known-of-requires : tie.Need-known-of-requires
 known-of-requires c κs = search rules
 
 returns : tie.Need-returns
-unfolding knownHeading
-returns c = rw (sym c.before.before.before.number_at.ensures ∙ c.before.enum_told.given.1) c.known-of.ensures
+unfolding known_heading
+returns c = rw (sym c.before.before.before.number_at.ensures ∙ c.before.enum_told.given.1) c.known_of_law.ensures
 
 known-of-requires-2 : tie.Need-known-of-requires-2
 known-of-requires-2 c κs = search rules
 
 returns-2 : tie.Need-returns-2
-unfolding knownHeading
+unfolding known_heading
 returns-2 c = rw (sym c.before.before.before.before.number_at.ensures ∙ c.before.before.n.given.1) c.known-of2.ensures
 
 pub known-heading-spec : {M : Type 1} → statement M

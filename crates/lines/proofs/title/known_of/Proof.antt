@@ -1,6 +1,6 @@
 -- The definition makes the code's tests in the code's order.
 use borrow.Author.Tests.{le-leb, lt-leb}
-use Rattle.lines.specs.inner.Known.{known_of}
+use Rattle.lines.specs.Inner.Known.{known_of}
 use borrow.Author.Rules.{rules}
 use Rattle.lines.proofs.title.known_of.Statement.{statement}
 use Rattle.lines.proofs.title.known_of.Tie as tie

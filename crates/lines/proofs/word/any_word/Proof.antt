@@ -1,5 +1,5 @@
 -- The table is the definition's.
-use Rattle.lines.specs.inner.Dispatch.{commandWord}
+use Rattle.lines.specs.Inner.Dispatch.{command_word}
 use borrow.Author.Rules.{rules}
 use Rattle.lines.proofs.word.any_word.Statement.{statement}
 use Rattle.lines.proofs.word.any_word.Tie as tie
@@ -8,7 +8,7 @@ word-at-requires : tie.Need-word-at-requires
 word-at-requires c κs = search rules
 
 returns : tie.Need-returns
-unfolding commandWord
+unfolding command_word
 returns c = c.word_at.ensures
 
 pub any-word-spec : {M : Type 1} → statement M

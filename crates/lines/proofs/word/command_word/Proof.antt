@@ -1,6 +1,6 @@
 -- By its letters the line can have only the words that are compared with it.
 use mathlib.Core.Path.{sym, ◌∙◌}
-use Rattle.lines.proofs.WordLetters.{first-b, first-e, first-n, first-p, first_r, first_t}
+use Rattle.lines.proofs.WordLetters.{first_b, first_e, first_n, first_p, first_r, first_t}
 use borrow.Author.Rules.{rules}
 use Rattle.lines.proofs.word.command_word.Statement.{statement}
 use Rattle.lines.proofs.word.command_word.Tie as tie
@@ -84,16 +84,16 @@ returns-2 : tie.Need-returns-2
 returns-2 c = search rules
 
 returns-3 : tie.Need-returns-3
-returns-3 c = rw (c.word-or.ensures, first-b _ (sym c.before.before.before.byte.ensures ∙ c.before.before.match.keys3))
+returns-3 c = rw (c.word-or.ensures, first_b _ (sym c.before.before.before.byte.ensures ∙ c.before.before.match.keys3))
 
 returns-4 : tie.Need-returns-4
-returns-4 c = rw (c.word-or4.ensures, c.before.before.word-or3.ensures, c.before.before.before.before.word-or2.ensures, first-e _ (sym c.before.before.before.before.before.before.before.byte.ensures ∙ c.before.before.before.before.before.before.match.keys4))
+returns-4 c = rw (c.word-or4.ensures, c.before.before.word-or3.ensures, c.before.before.before.before.word-or2.ensures, first_e _ (sym c.before.before.before.before.before.before.before.byte.ensures ∙ c.before.before.before.before.before.before.match.keys4))
 
 returns-5 : tie.Need-returns-5
-returns-5 c = rw (c.word-or6.ensures, c.before.before.word-or5.ensures, first-n _ (sym c.before.before.before.before.before.byte.ensures ∙ c.before.before.before.before.match.keys5))
+returns-5 c = rw (c.word-or6.ensures, c.before.before.word-or5.ensures, first_n _ (sym c.before.before.before.before.before.byte.ensures ∙ c.before.before.before.before.match.keys5))
 
 returns-6 : tie.Need-returns-6
-returns-6 c = rw (c.word-or7.ensures, first-p _ (sym c.before.before.before.byte.ensures ∙ c.before.before.match.keys6))
+returns-6 c = rw (c.word-or7.ensures, first_p _ (sym c.before.before.before.byte.ensures ∙ c.before.before.match.keys6))
 
 returns-7 : tie.Need-returns-7
 returns-7 c = rw (c.word-or9.ensures, c.before.before.word-or8.ensures, first_r _ (sym c.before.before.before.before.before.byte.ensures ∙ c.before.before.before.before.match.keys7))

@@ -1,6 +1,6 @@
 -- By its letters the line can have only the words that are compared with it.
 use mathlib.Core.Path.{sym, ◌∙◌}
-use Rattle.lines.proofs.WordLetters.{set_a, set-d, set-e, set-m, set-s, set-space}
+use Rattle.lines.proofs.WordLetters.{set_a, set_d, set_e, set_m, set_s, set_space}
 use borrow.Author.Rules.{rules}
 use Rattle.lines.proofs.word.set_word.Statement.{statement}
 use Rattle.lines.proofs.word.set_word.Tie as tie
@@ -57,19 +57,19 @@ returns : tie.Need-returns
 returns c = rw (c.word-or2.ensures, c.before.before.before.before.word-or.ensures, set_a _ c.before.before.before.before.before.before.before.requires (sym c.before.before.before.byte.ensures ∙ c.before.before.match.keys1))
 
 returns-2 : tie.Need-returns-2
-returns-2 c = rw (c.word-or4.ensures, c.before.before.word-or3.ensures, c.before.before.before.before.before.before.word-or.ensures, set-d _ c.before.before.before.before.before.before.before.before.before.requires (sym c.before.before.before.before.before.byte.ensures ∙ c.before.before.before.before.match.keys2))
+returns-2 c = rw (c.word-or4.ensures, c.before.before.word-or3.ensures, c.before.before.before.before.before.before.word-or.ensures, set_d _ c.before.before.before.before.before.before.before.before.before.requires (sym c.before.before.before.before.before.byte.ensures ∙ c.before.before.before.before.match.keys2))
 
 returns-3 : tie.Need-returns-3
-returns-3 c = rw (c.word-or5.ensures, c.before.before.before.before.word-or.ensures, set-e _ c.before.before.before.before.before.before.before.requires (sym c.before.before.before.byte.ensures ∙ c.before.before.match.keys3))
+returns-3 c = rw (c.word-or5.ensures, c.before.before.before.before.word-or.ensures, set_e _ c.before.before.before.before.before.before.before.requires (sym c.before.before.before.byte.ensures ∙ c.before.before.match.keys3))
 
 returns-4 : tie.Need-returns-4
-returns-4 c = rw (c.word-or6.ensures, c.before.before.before.before.word-or.ensures, set-m _ c.before.before.before.before.before.before.before.requires (sym c.before.before.before.byte.ensures ∙ c.before.before.match.keys4))
+returns-4 c = rw (c.word-or6.ensures, c.before.before.before.before.word-or.ensures, set_m _ c.before.before.before.before.before.before.before.requires (sym c.before.before.before.byte.ensures ∙ c.before.before.match.keys4))
 
 returns-5 : tie.Need-returns-5
-returns-5 c = rw (c.word-or7.ensures, c.before.before.before.before.word-or.ensures, set-s _ c.before.before.before.before.before.before.before.requires (sym c.before.before.before.byte.ensures ∙ c.before.before.match.keys5))
+returns-5 c = rw (c.word-or7.ensures, c.before.before.before.before.word-or.ensures, set_s _ c.before.before.before.before.before.before.before.requires (sym c.before.before.before.byte.ensures ∙ c.before.before.match.keys5))
 
 returns-6 : tie.Need-returns-6
-returns-6 c = rw (c.before.before.word-or.ensures, set-space _ c.before.before.before.before.before.requires (sym c.before.byte.ensures ∙ c.match.keys6))
+returns-6 c = rw (c.before.before.word-or.ensures, set_space _ c.before.before.before.before.before.requires (sym c.before.byte.ensures ∙ c.match.keys6))
 
 returns-7 : tie.Need-returns-7
 returns-7 c = search rules

@@ -1,6 +1,6 @@
 -- By its letters the line can have only the words that are compared with it.
 use mathlib.Core.Path.{sym, ◌∙◌}
-use Rattle.lines.proofs.WordLetters.{test-e, test-g, test-l, test-n, test-space}
+use Rattle.lines.proofs.WordLetters.{test_e, test_g, test_l, test_n, test_space}
 use borrow.Author.Rules.{rules}
 use Rattle.lines.proofs.word.test_word.Statement.{statement}
 use Rattle.lines.proofs.word.test_word.Tie as tie
@@ -72,19 +72,19 @@ any-word-requires : tie.Need-any-word-requires
 any-word-requires c κs = search rules
 
 returns : tie.Need-returns
-returns c = rw (c.word-or4.ensures, c.before.before.word-or3.ensures, c.before.before.before.before.word-or2.ensures, c.before.before.before.before.before.before.before.before.word-or.ensures, test-e _ c.before.before.before.before.before.before.before.before.before.before.before.requires (sym c.before.before.before.before.before.before.before.byte.ensures ∙ c.before.before.before.before.before.before.match.keys1))
+returns c = rw (c.word-or4.ensures, c.before.before.word-or3.ensures, c.before.before.before.before.word-or2.ensures, c.before.before.before.before.before.before.before.before.word-or.ensures, test_e _ c.before.before.before.before.before.before.before.before.before.before.before.requires (sym c.before.before.before.before.before.before.before.byte.ensures ∙ c.before.before.before.before.before.before.match.keys1))
 
 returns-2 : tie.Need-returns-2
-returns-2 c = rw (c.word-or6.ensures, c.before.before.word-or5.ensures, c.before.before.before.before.before.before.word-or.ensures, test-g _ c.before.before.before.before.before.before.before.before.before.requires (sym c.before.before.before.before.before.byte.ensures ∙ c.before.before.before.before.match.keys2))
+returns-2 c = rw (c.word-or6.ensures, c.before.before.word-or5.ensures, c.before.before.before.before.before.before.word-or.ensures, test_g _ c.before.before.before.before.before.before.before.before.before.requires (sym c.before.before.before.before.before.byte.ensures ∙ c.before.before.before.before.match.keys2))
 
 returns-3 : tie.Need-returns-3
-returns-3 c = rw (c.word-or8.ensures, c.before.before.word-or7.ensures, c.before.before.before.before.before.before.word-or.ensures, test-l _ c.before.before.before.before.before.before.before.before.before.requires (sym c.before.before.before.before.before.byte.ensures ∙ c.before.before.before.before.match.keys3))
+returns-3 c = rw (c.word-or8.ensures, c.before.before.word-or7.ensures, c.before.before.before.before.before.before.word-or.ensures, test_l _ c.before.before.before.before.before.before.before.before.before.requires (sym c.before.before.before.before.before.byte.ensures ∙ c.before.before.before.before.match.keys3))
 
 returns-4 : tie.Need-returns-4
-returns-4 c = rw (c.word-or10.ensures, c.before.before.word-or9.ensures, c.before.before.before.before.before.before.word-or.ensures, test-n _ c.before.before.before.before.before.before.before.before.before.requires (sym c.before.before.before.before.before.byte.ensures ∙ c.before.before.before.before.match.keys4))
+returns-4 c = rw (c.word-or10.ensures, c.before.before.word-or9.ensures, c.before.before.before.before.before.before.word-or.ensures, test_n _ c.before.before.before.before.before.before.before.before.before.requires (sym c.before.before.before.before.before.byte.ensures ∙ c.before.before.before.before.match.keys4))
 
 returns-5 : tie.Need-returns-5
-returns-5 c = rw (c.before.before.word-or.ensures, test-space _ c.before.before.before.before.before.requires (sym c.before.byte.ensures ∙ c.match.keys5))
+returns-5 c = rw (c.before.before.word-or.ensures, test_space _ c.before.before.before.before.before.requires (sym c.before.byte.ensures ∙ c.match.keys5))
 
 returns-6 : tie.Need-returns-6
 returns-6 c = search rules

@@ -4,17 +4,17 @@ use native.Mathlib.Omega.{arith}
 use mathlib.Core.Path.{sym, ap, ◌∙◌}
 use Prim.Native.Nat.{ℕ, ◌*◌, ◌<◌}
 use Rattle.numbers.specs.Sign.{signed}
-use Rattle.numbers.specs.Range.{decimalLimit}
+use Rattle.numbers.specs.Range.{decimal_limit}
 use Rattle.numbers.specs.Rounding.{rounded}
 use Rattle.numbers.specs.Arithmetic.{checked}
-use Rattle.numbers.proofs.Machine.{abs-signed}
-use Rattle.numbers.proofs.Millionths.{Product, ProductFits, product_is, product-fits}
-use Rattle.numbers.proofs.Laws.{checked-out}
+use Rattle.numbers.proofs.Machine.{abs_signed}
+use Rattle.numbers.proofs.Millionths.{Product, ProductFits, product_is, product_fits}
+use Rattle.numbers.proofs.Laws.{checked_out}
 use Rattle.numbers.proofs.decimal.product.Statement.{statement}
 use Rattle.numbers.proofs.decimal.product.Tie as tie
 
 fits : (s : tie.Start) → ProductFits s.args.a s.args.b
-fits s = product-fits s.args.a s.args.b s.requires.0 s.requires.1
+fits s = product_fits s.args.a s.args.b s.requires.0 s.requires.1
 
 mul-high : tie.Need-overflow-mul-high
 mul-high c = omega (arith, fits c)
@@ -22,8 +22,8 @@ mul-high c = omega (arith, fits c)
 returns : tie.Need-returns
 returns c =
     let s = c.before.args in
-    let h : decimalLimit < Product s.a s.b = omega arith in
-    sym (checked-out _ _ (rw (abs-signed s.negative (rounded (s.a * s.b) 1000000), product_is s.a s.b) h))
+    let h : decimal_limit < Product s.a s.b = omega arith in
+    sym (checked_out _ _ (rw (abs_signed s.negative (rounded (s.a * s.b) 1000000), product_is s.a s.b) h))
 
 mul-check-signed : tie.Need-overflow-mul-check-signed
 mul-check-signed c = search rules
@@ -55,7 +55,7 @@ check-signed-requires c κs = search rules
 returns-2 : tie.Need-returns-2
 returns-2 c =
     let s = c.before.before.args in
-    c.check-signed.ensures ∙ ap (λ (m : ℕ). checked decimalLimit (signed s.negative m)) (sym (product_is s.a s.b))
+    c.check-signed.ensures ∙ ap (λ (m : ℕ). checked decimal_limit (signed s.negative m)) (sym (product_is s.a s.b))
 
 pub product-spec : {M : Type 1} → statement M
 product-spec =

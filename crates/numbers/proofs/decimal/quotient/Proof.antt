@@ -4,12 +4,12 @@ use native.Mathlib.Omega.{arith}
 use mathlib.Core.Path.{sym, ap, ◌∙◌}
 use Prim.Native.Nat.{ℕ, ◌*◌, ◌<◌}
 use Rattle.numbers.specs.Sign.{signed}
-use Rattle.numbers.specs.Range.{decimalLimit}
+use Rattle.numbers.specs.Range.{decimal_limit}
 use Rattle.numbers.specs.Rounding.{rounded}
 use Rattle.numbers.specs.Arithmetic.{checked}
-use Rattle.numbers.proofs.Machine.{abs-signed}
+use Rattle.numbers.proofs.Machine.{abs_signed}
 use Rattle.numbers.proofs.Millionths.{Quotient, QuotientFits, quotient_is, quotient_fits}
-use Rattle.numbers.proofs.Laws.{checked-out}
+use Rattle.numbers.proofs.Laws.{checked_out}
 use Rattle.numbers.proofs.decimal.quotient.Statement.{statement}
 use Rattle.numbers.proofs.decimal.quotient.Tie as tie
 
@@ -37,10 +37,10 @@ rem-last c = search rules
 returns : tie.Need-returns
 returns c =
     let s = c.before in
-    let h : decimalLimit < Quotient s.args.a s.args.b = omega arith in
+    let h : decimal_limit < Quotient s.args.a s.args.b = omega arith in
     sym
-    (checked-out _ _
-    (rw (abs-signed s.args.negative (rounded (s.args.a * 1000000) s.args.b), quotient_is s.args.a s.args.b s.requires.1.1) h))
+    (checked_out _ _
+    (rw (abs_signed s.args.negative (rounded (s.args.a * 1000000) s.args.b), quotient_is s.args.a s.args.b s.requires.1.1) h))
 
 mul-check-signed : tie.Need-overflow-mul-check-signed
 mul-check-signed c = search rules
@@ -76,7 +76,7 @@ returns-2 : tie.Need-returns-2
 returns-2 c =
     let s = c.before.before in
     c.check-signed.ensures
-    ∙ ap (λ (m : ℕ). checked decimalLimit (signed s.args.negative m)) (sym (quotient_is s.args.a s.args.b s.requires.1.1))
+    ∙ ap (λ (m : ℕ). checked decimal_limit (signed s.args.negative m)) (sym (quotient_is s.args.a s.args.b s.requires.1.1))
 
 pub quotient-spec : {M : Type 1} → statement M
 quotient-spec =

@@ -1,7 +1,7 @@
 -- `integer::absolute` meets its contract.
 use borrow.Author.Rules.{rules}
-use Rattle.numbers.specs.Range.{integerLimit}
-use Rattle.numbers.specs.Arithmetic.{absoluteOf}
+use Rattle.numbers.specs.Range.{integer_limit}
+use Rattle.numbers.specs.Arithmetic.{absolute_of}
 use Rattle.numbers.proofs.Machine.{read}
 use Rattle.numbers.proofs.integer.absolute.Statement.{statement}
 use Rattle.numbers.proofs.integer.absolute.Tie as tie
@@ -10,7 +10,7 @@ absolute-requires : tie.Need-absolute-requires
 absolute-requires c κs = search rules
 
 returns : tie.Need-returns
-returns c = read (absoluteOf integerLimit) c.before.ranges.n c.absolute.ensures
+returns c = read (absolute_of integer_limit) c.before.ranges.n c.absolute.ensures
 
 pub absolute-spec : {M : Type 1} → statement M
 absolute-spec = tie.close (tie.spec absolute-requires returns)

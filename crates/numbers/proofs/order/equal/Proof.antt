@@ -3,7 +3,7 @@ use borrow.Author.Rules.{rules}
 use mathlib.Core.Path.{sym, ap, ◌∙◌}
 use mathlib.Core.Bool.{Bool, false, not, cond}
 use Rattle.numbers.specs.Range.{millionths}
-use Rattle.numbers.specs.Order.{lessThan}
+use Rattle.numbers.specs.Order.{less_than}
 use Rattle.numbers.proofs.Comparison.{equal_by}
 use Rattle.numbers.proofs.order.equal.Statement.{statement}
 use Rattle.numbers.proofs.order.equal.Tie as tie
@@ -14,7 +14,7 @@ less-requires c κs = search rules
 returns : tie.Need-returns
 returns c =
     let s = c.before.before.args in
-    ap (λ (t : Bool). cond t false (not (lessThan s.q s.p))) (sym c.if1.true ∙ c.before.less.ensures)
+    ap (λ (t : Bool). cond t false (not (less_than s.q s.p))) (sym c.if1.true ∙ c.before.less.ensures)
     ∙ equal_by (millionths s.p) (millionths s.q)
 
 less-requires-2 : tie.Need-less-requires-2

@@ -6,7 +6,7 @@ use mir.Val.{SFits, of_z}
 use mir.ValLaws.{to_z-of_z}
 use Rattle.numbers.specs.Range.{millionths}
 use Rattle.numbers.specs.Parts.{whole_of}
-use Rattle.numbers.proofs.Comparison.{by_whole, by-rest, same_bits}
+use Rattle.numbers.proofs.Comparison.{by_whole, by_rest, same_bits}
 use Rattle.numbers.proofs.order.less.Statement.{statement}
 use Rattle.numbers.proofs.order.less.Tie as tie
 
@@ -30,7 +30,7 @@ returns c =
     let g : SFits w64 c.rest2.result = record { sfits = c.rest2.type-inv } in
     let e = same_bits (record { sfits = k.before.whole.type-inv }) (record { sfits = k.whole2.type-inv }) c.before.before.if1.true in
     rw (to_z-of_z w64 _ f, to_z-of_z w64 _ g, c.before.rest.ensures, c.rest2.ensures)
-    (sym (by-rest (millionths s.p) (millionths s.q) (sym k.before.whole.ensures ∙ e ∙ k.whole2.ensures)))
+    (sym (by_rest (millionths s.p) (millionths s.q) (sym k.before.whole.ensures ∙ e ∙ k.whole2.ensures)))
 
 returns-2 : tie.Need-returns-2
 returns-2 c =

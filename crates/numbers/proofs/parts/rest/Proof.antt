@@ -8,9 +8,9 @@ use lib.Dec.{lit<}
 use mir.Syntax.{w64}
 use mir.Val.{SFits}
 use mir.ValLaws.{to_z-of_z, sfits_le}
-use Rattle.numbers.specs.inner.Parts.{rest_of}
+use Rattle.numbers.specs.Inner.Parts.{rest_of}
 use Rattle.numbers.proofs.Machine.{quot_fits}
-use Rattle.numbers.proofs.Comparison.{rest-integer}
+use Rattle.numbers.proofs.Comparison.{rest_integer}
 use Rattle.numbers.proofs.parts.rest.Statement.{statement}
 use Rattle.numbers.proofs.parts.rest.Tie as tie
 
@@ -27,7 +27,7 @@ rem-result c =
     (omega arith, rw (to_z-of_z w64 v.0.0 f) (quot_fits v.0.0 _ (lit< tt) f))
 
 returns : tie.Need-returns
-returns c = let v = c.enum_told.given in sym (ap rest_of v.1 ∙ rest-integer v.0.0)
+returns c = let v = c.enum_told.given in sym (ap rest_of v.1 ∙ rest_integer v.0.0)
 
 returns-2 : tie.Need-returns-2
 returns-2 c =

@@ -8,7 +8,7 @@ use mir.Val.{SFits}
 use mir.ValLaws.{to_z-of_z}
 use Rattle.numbers.specs.Parts.{whole_of}
 use Rattle.numbers.proofs.Machine.{quot_fits}
-use Rattle.numbers.proofs.Comparison.{whole-integer}
+use Rattle.numbers.proofs.Comparison.{whole_integer}
 use Rattle.numbers.proofs.parts.whole.Statement.{statement}
 use Rattle.numbers.proofs.parts.whole.Tie as tie
 
@@ -28,7 +28,7 @@ returns : tie.Need-returns
 returns c =
     let v = c.before.q.given in
     let f : SFits w64 v.0.0 = search rules in
-    to_z-of_z w64 v.0.0 f ∙ sym (ap whole_of v.1 ∙ whole-integer v.0.0)
+    to_z-of_z w64 v.0.0 f ∙ sym (ap whole_of v.1 ∙ whole_integer v.0.0)
 
 returns-2 : tie.Need-returns-2
 returns-2 c =

@@ -8,8 +8,8 @@ use mir.Syntax.{w64}
 use mir.Val.{SFits}
 use Rattle.numbers.specs.declared.Quantity.{Quantity}
 use Rattle.numbers.specs.Range.{millionths}
-use Rattle.numbers.proofs.Machine.{read, abs-mul}
-use Rattle.numbers.proofs.Laws.{places-out, sixth}
+use Rattle.numbers.proofs.Machine.{read, abs_mul}
+use Rattle.numbers.proofs.Laws.{places_out, sixth}
 use Rattle.numbers.proofs.places.millionths.Statement.{statement}
 use Rattle.numbers.proofs.places.millionths.Tie as tie
 
@@ -25,11 +25,11 @@ integer k =
     let v = k.before.before.q.given in
     let f : SFits w64 v.0.0 = search rules in
     ap (λ (q : Quantity). nat_abs (millionths q)) v.1
-    ∙ abs-mul v.0.0 (pos 1000000)
+    ∙ abs_mul v.0.0 (pos 1000000)
     ∙ ap (λ (m : ℕ). m * 1000000) (sym (read nat_abs f k.magnitude.ensures))
 
 returns : tie.Need-returns
-returns c = sym (places-out _ 6 (omega arith) (omega (arith, integer c.before)))
+returns c = sym (places_out _ 6 (omega arith) (omega (arith, integer c.before)))
 
 mul-t8 : tie.Need-overflow-mul-t8
 mul-t8 c = search rules
@@ -47,7 +47,7 @@ decimal k =
     ap (λ (q : Quantity). nat_abs (millionths q)) v.1 ∙ sym (read nat_abs f k.magnitude2.ensures)
 
 returns-2 : tie.Need-returns-2
-returns-2 c = sym (places-out _ 6 (omega arith) (omega (arith, decimal c.before)))
+returns-2 c = sym (places_out _ 6 (omega arith) (omega (arith, decimal c.before)))
 
 returns-3 : tie.Need-returns-3
 returns-3 c = sym (sixth _ _ (integer c.before) (omega arith))

@@ -1,6 +1,6 @@
 -- `places::scale` meets its contract.
 use borrow.Author.Tests.{le-leb, lt-leb}
-use Rattle.numbers.specs.inner.Places.{scale_of}
+use Rattle.numbers.specs.Inner.Places.{scale_of}
 use borrow.Author.Rules.{rules}
 use Rattle.numbers.proofs.places.scale.Statement.{statement}
 use Rattle.numbers.proofs.places.scale.Tie as tie

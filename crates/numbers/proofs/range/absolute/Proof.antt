@@ -3,7 +3,7 @@ use borrow.Author.Rules.{rules}
 use mathlib.Core.Path.{ap, ◌∙◌}
 use Prim.Native.Nat.{ℕ}
 use lib.IntN.{pos, nat_abs}
-use Rattle.numbers.specs.Arithmetic.{checked, absoluteOf}
+use Rattle.numbers.specs.Arithmetic.{checked, absolute_of}
 use Rattle.numbers.proofs.Machine.{read}
 use Rattle.numbers.proofs.range.absolute.Statement.{statement}
 use Rattle.numbers.proofs.range.absolute.Tie as tie
@@ -15,7 +15,7 @@ check-signed-requires : tie.Need-check-signed-requires
 check-signed-requires c κs = search rules
 
 returns : tie.Need-returns
-unfolding absoluteOf
+unfolding absolute_of
 returns c =
     let s = c.before.before in
     c.check-signed.ensures ∙ ap (λ (m : ℕ). checked s.args.limit (pos m)) (read nat_abs s.ranges.z c.before.magnitude.ensures)

@@ -6,7 +6,7 @@ use mir.Syntax.{w64}
 use mir.Val.{SFits}
 use mir.ValLaws.{to_z-of_z}
 use Rattle.numbers.specs.Arithmetic.{sum_of}
-use Rattle.numbers.proofs.Machine.{abs-add, abs-fits}
+use Rattle.numbers.proofs.Machine.{abs_add, abs_fits}
 use Rattle.numbers.proofs.Laws.{Inside, inside, outside, calculated}
 use Rattle.numbers.proofs.range.sum.Statement.{statement}
 use Rattle.numbers.proofs.range.sum.Tie as tie
@@ -22,7 +22,7 @@ kept : (c : tie.Else1) → let s = c.before.before in Inside s.args.limit s.args
 kept c = let s = c.before.before in inside s.args.limit s.ranges.a s.ranges.b c.before.both-in-range.ensures c.if1.false
 
 fits : (c : tie.Else1) → let s = c.before.before.args in SFits w64 (s.a +ℤ s.b)
-fits c = let s = c.before.before.args in abs-fits _ (omega (arith, abs-add s.a s.b, kept c, c.before.before.requires))
+fits c = let s = c.before.before.args in abs_fits _ (omega (arith, abs_add s.a s.b, kept c, c.before.before.requires))
 
 add-check : tie.Need-overflow-add-check
 add-check c = let s = c.before.before in rw (to_z-of_z w64 s.args.a s.ranges.a, to_z-of_z w64 s.args.b s.ranges.b) (fits c)

@@ -4,34 +4,34 @@ use native.Mathlib.Omega.{arith}
 use mir.Syntax.{w64}
 use mir.ValLaws.{to_z-of_z, to_z_pos}
 use mir.Facts.{Fits-nat_abs}
-use Rattle.numbers.proofs.Machine.{neg-back, mag-back, nonneg-back}
+use Rattle.numbers.proofs.Machine.{neg_back, mag_back, nonneg_back}
 use Rattle.numbers.proofs.sign.magnitude.Statement.{statement}
 use Rattle.numbers.proofs.sign.magnitude.Tie as tie
 
 sub-result : tie.Need-overflow-sub-result
 sub-result c =
     let s = c.before in
-    rw (neg-back s.args.x s.ranges.x c.if1.true) (record { sfits = s.ranges.x.sfits })
+    rw (neg_back s.args.x s.ranges.x c.if1.true) (record { sfits = s.ranges.x.sfits })
 
 cast-result : tie.Need-overflow-cast-result
 cast-result c =
     let s = c.before in
-    rw (neg-back s.args.x s.ranges.x c.if1.true, to_z_pos w64 _ s.ranges.x.sfits) (tt, omega arith)
+    rw (neg_back s.args.x s.ranges.x c.if1.true, to_z_pos w64 _ s.ranges.x.sfits) (tt, omega arith)
 
 add-result : tie.Need-overflow-add-result
 add-result c =
     let s = c.before in
-    rw (neg-back s.args.x s.ranges.x c.if1.true, to_z_pos w64 _ s.ranges.x.sfits) (omega arith)
+    rw (neg_back s.args.x s.ranges.x c.if1.true, to_z_pos w64 _ s.ranges.x.sfits) (omega arith)
 
 cast-result-2 : tie.Need-overflow-cast-result-2
 cast-result-2 c =
     let s = c.before in
-    rw (to_z-of_z w64 s.args.x s.ranges.x) (nonneg-back s.args.x s.ranges.x c.if1.false, Fits-nat_abs tt s.ranges.x)
+    rw (to_z-of_z w64 s.args.x s.ranges.x) (nonneg_back s.args.x s.ranges.x c.if1.false, Fits-nat_abs tt s.ranges.x)
 
 returns : tie.Need-returns
 returns c =
     let s = c.before in
-    rw (neg-back s.args.x s.ranges.x c.if1.true, to_z_pos w64 _ s.ranges.x.sfits) (mag-back s.args.x s.ranges.x c.if1.true)
+    rw (neg_back s.args.x s.ranges.x c.if1.true, to_z_pos w64 _ s.ranges.x.sfits) (mag_back s.args.x s.ranges.x c.if1.true)
 
 returns-2 : tie.Need-returns-2
 returns-2 c = search rules

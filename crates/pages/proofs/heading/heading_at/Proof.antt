@@ -1,5 +1,5 @@
 -- One of nine, or none.
-use Rattle.pages.proofs.Heads.{heading-inside, heading-outside}
+use Rattle.pages.proofs.Heads.{heading_inside, heading_outside}
 use borrow.Author.Rules.{rules}
 use Rattle.pages.proofs.heading.heading_at.Statement.{statement}
 use Rattle.pages.proofs.heading.heading_at.Tie as tie
@@ -14,10 +14,10 @@ unpacked-requires : tie.Need-unpacked-requires
 unpacked-requires c κs = search rules
 
 returns : tie.Need-returns
-returns c = heading-inside _ _ _ _ c.before.heading-word.ensures c.unpacked.ensures
+returns c = heading_inside _ _ _ _ c.before.heading_word.ensures c.unpacked.ensures
 
 returns-2 : tie.Need-returns-2
-returns-2 c = heading-outside _ _ c.if1.false
+returns-2 c = heading_outside _ _ c.if1.false
 
 pub heading-at-spec : {M : Type 1} → statement M
 heading-at-spec =

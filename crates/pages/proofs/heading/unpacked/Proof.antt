@@ -1,4 +1,4 @@
-use Rattle.pages.specs.inner.Packed.{headingIn}
+use Rattle.pages.specs.Inner.Packed.{heading_in}
 use mathlib.Core.Path.{refl}
 use borrow.Author.Rules.{rules}
 use Rattle.pages.proofs.heading.unpacked.Statement.{statement}
@@ -8,7 +8,7 @@ cast-t11 : tie.Need-overflow-cast-t11
 cast-t11 c = search rules
 
 returns : tie.Need-returns
-unfolding headingIn
+unfolding heading_in
 returns c = refl
 
 pub unpacked-spec : {M : Type 1} → statement M

@@ -1,7 +1,7 @@
 -- No field, or its argument.
 use mathlib.Core.Path.{sym, ◌∙◌}
 use borrow.Author.Rules.{rules}
-use Rattle.pages.proofs.FieldValues.{field-there, no_field}
+use Rattle.pages.proofs.FieldValues.{field_there, no_field}
 use Rattle.pages.proofs.text.any_field.Statement.{statement}
 use Rattle.pages.proofs.text.any_field.Tie as tie
 
@@ -21,7 +21,7 @@ argument-value-requires : tie.Need-argument-value-requires
 argument-value-requires c κs = (c.before.before.before.before.before.before.before.before.before.requires.asks _ _ (sym c.before.before.before.before.before.field_at.ensures ∙ c.before.before.before.f.given.1), c.before.before.before.before.before.before.before.before.before.requires.sized)
 
 returns-2 : tie.Need-returns-2
-returns-2 c = field-there _ _ _ _ _ _ _ _ _ _ _ _ _ _ _ _ c.before.before.before.before.before.before.field_at.ensures c.before.before.before.before.f.given.1 c.argument-value.ensures
+returns-2 c = field_there _ _ _ _ _ _ _ _ _ _ _ _ _ _ _ _ c.before.before.before.before.before.before.field_at.ensures c.before.before.before.before.f.given.1 c.argument-value.ensures
 
 pub any-field-spec : {M : Type 1} → statement M
 any-field-spec =

@@ -1,6 +1,6 @@
 -- A cell's field, or any.
 use borrow.Author.Rules.{rules}
-use Rattle.pages.proofs.FieldValues.{cell-askable, cell-there}
+use Rattle.pages.proofs.FieldValues.{cell_askable, cell_there}
 use Rattle.pages.proofs.text.field_value.Statement.{statement}
 use Rattle.pages.proofs.text.field_value.Tie as tie
 
@@ -20,10 +20,10 @@ returns : tie.Need-returns
 returns c = search rules
 
 cell-value-requires : tie.Need-cell-value-requires
-cell-value-requires c κs = cell-askable _ _ _ _ _ _ c.before.before.before.before.before.before.before.before.requires (c.before.before.before.before.cell-field-at.ensures.reads _ c.before.before.c.given.1)
+cell-value-requires c κs = cell_askable _ _ _ _ _ _ c.before.before.before.before.before.before.before.before.requires (c.before.before.before.before.cell-field-at.ensures.reads _ c.before.before.c.given.1)
 
 returns-2 : tie.Need-returns-2
-returns-2 c = cell-there _ _ _ _ _ _ _ _ _ _ _ _ _ _ (c.before.before.before.before.before.cell-field-at.ensures.reads _ c.before.before.before.c.given.1) c.cell-value.ensures
+returns-2 c = cell_there _ _ _ _ _ _ _ _ _ _ _ _ _ _ (c.before.before.before.before.before.cell-field-at.ensures.reads _ c.before.before.before.c.given.1) c.cell-value.ensures
 
 pub field-value-spec : {M : Type 1} → statement M
 field-value-spec =

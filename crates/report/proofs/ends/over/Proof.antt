@@ -1,4 +1,4 @@
-use Rattle.report.specs.inner.Start.{overAt}
+use Rattle.report.specs.Inner.Start.{over_at}
 use borrow.Author.Rules.{rules}
 use Rattle.report.proofs.ends.over.Statement.{statement}
 use Rattle.report.proofs.ends.over.Tie as tie
@@ -16,7 +16,7 @@ add-questions : tie.Need-overflow-add-questions
 add-questions c = search rules
 
 returns : tie.Need-returns
-unfolding overAt
+unfolding over_at
 returns c = rw (c.line.ensures, c.before.number.ensures, c.before.before.before.nothing.ensures)
 
 pub over-spec : {M : Type 1} → statement M

@@ -49,17 +49,17 @@ use denote.Triple.Table.{entered, cited}
 use denote.Triple.Walked.{says, Stays, stay_slice, stay_none, stay_none_slice, walk_of, Goes-slice, Goes-none, Goes-none_slice, Walks, ends_at, walked, walk_Meets}
 use denote.Exit.{yes}
 use Rattle.meaning.specs.declared.question.Question.{Question}
-use Rattle.values.specs.inner.Word.{questions}
+use Rattle.values.specs.Inner.Word.{questions}
 use Rattle.report.specs.declared.Report.{Report}
 use Rattle.report.specs.declared.state.Log.{Log}
 use Rattle.report.specs.declared.state.Stretch.{Stretch}
 use Rattle.report.specs.Reported.{Reported}
-use Rattle.report.specs.inner.Begun.{Begun}
-use Rattle.report.specs.inner.Stretch.{RunReady, Ran}
+use Rattle.report.specs.Inner.Begun.{Begun}
+use Rattle.report.specs.Inner.Stretch.{RunReady, Ran}
 use Rattle.report.proofs.Loan.{Slice, Kept, lent, back}
-use Rattle.report.proofs.Local.{arrayTy, is-repeat, lends_local, local_back}
+use Rattle.report.proofs.Local.{array_ty, is_repeat, lends_local, local_back}
 use Rattle.report.proofs.Walk.{tests}
-use Rattle.report.proofs.Driving.{Reached, left_of, begins, run-ready, log-fits, falls, goes_on, ended}
+use Rattle.report.proofs.Driving.{Reached, left_of, begins, run_ready, log_fits, falls, goes_on, ended}
 use Rattle.meaning.specs.contracts.question.Question as Q
 use Rattle.report.specs.contracts.state.Log as L
 use Rattle.report.proofs.state.Log.TheLaws as L'
@@ -95,17 +95,17 @@ word = ty_int w64
 abbrev shared : Ty
 shared = slice_ty (ty_ref (named 0) imm (ty_int w8))
 
-abbrev ptrT : Ty
-ptrT = ty_ref erased mut (ty_int w8)
+abbrev ptr_t : Ty
+ptr_t = ty_ref erased mut (ty_int w8)
 
-abbrev ptrR : Ty
-ptrR = ty_ref erased mut (pointee (Q.the_row).written)
+abbrev ptr_r : Ty
+ptr_r = ty_ref erased mut (pointee (Q.the_row).written)
 
-abbrev sliceT : Ty
-sliceT = slice_ty (ty_ref (named 1) mut (ty_int w8))
+abbrev slice_t : Ty
+slice_t = slice_ty (ty_ref (named 1) mut (ty_int w8))
 
-abbrev sliceR : Ty
-sliceR = slice_ty (ty_ref (named 2) mut (pointee (Q.the_row).written))
+abbrev slice_r : Ty
+slice_r = slice_ty (ty_ref (named 2) mut (pointee (Q.the_row).written))
 
 -- ---- the index, and the rows of SV: local arrays, their machine values, and what relates the two
 abbrev Places : RattleType
@@ -117,57 +117,57 @@ Str = Array u8 16
 abbrev Rows : RattleType
 Rows = Array Str 99
 
-abbrev tyI : Ty
-tyI = arrayTy u16 5461
+abbrev ty_i : Ty
+ty_i = array_ty u16 5461
 
 abbrev ty_s : Ty
 ty_s = ty_array (ty_int w8) 16
 
 abbrev ty_v : Ty
-ty_v = arrayTy Str 99
+ty_v = array_ty Str 99
 
-abbrev ptrI : Ty
-ptrI = ty_ref erased mut (ty_array (ty_int w16) 5461)
+abbrev ptr_i : Ty
+ptr_i = ty_ref erased mut (ty_array (ty_int w16) 5461)
 
 abbrev ptr_v : Ty
 ptr_v = ty_ref erased mut (ty_array ty_s 99)
 
-abbrev machI : List ℕ → Val
-machI i = only (array_vals (uint_vals w16) i)
+abbrev mach_i : List ℕ → Val
+mach_i i = only (array_vals (uint_vals w16) i)
 
-abbrev machV : List (List ℕ) → Val
-machV rows = only (array_vals (array_vals (uint_vals w8)) rows)
+abbrev mach_v : List (List ℕ) → Val
+mach_v rows = only (array_vals (array_vals (uint_vals w8)) rows)
 
 abbrev IsI : List ℕ → Type 0
-IsI i = Is Places i (machI i ∷ [])
+IsI i = Is Places i (mach_i i ∷ [])
 
 abbrev IsV : List (List ℕ) → Type 0
-IsV rows = Is Rows rows (machV rows ∷ [])
+IsV rows = Is Rows rows (mach_v rows ∷ [])
 
-at-mach-i : (i : List ℕ) (v : Val) → Is Places i (v ∷ []) → v ≡ machI i
-at-mach-i i v is = ap only (Array-Tells u16 (uint_vals w16) (uint_Tells w16) 5461 i (v ∷ []) is)
+at_mach_i : (i : List ℕ) (v : Val) → Is Places i (v ∷ []) → v ≡ mach_i i
+at_mach_i i v is = ap only (Array-Tells u16 (uint_vals w16) (uint_Tells w16) 5461 i (v ∷ []) is)
 
-at-mach-v : (rows : List (List ℕ)) (v : Val) → Is Rows rows (v ∷ []) → v ≡ machV rows
-at-mach-v rows v is = ap only (Array-Tells Str (array_vals (uint_vals w8)) (Array-Tells u8 (uint_vals w8) (uint_Tells w8) 16) 99 rows (v ∷ []) is)
+at_mach_v : (rows : List (List ℕ)) (v : Val) → Is Rows rows (v ∷ []) → v ≡ mach_v rows
+at_mach_v rows v is = ap only (Array-Tells Str (array_vals (uint_vals w8)) (Array-Tells u8 (uint_vals w8) (uint_Tells w8) 16) 99 rows (v ∷ []) is)
 
 -- at first: names that don't unfold, so that no check writes the elements out
 index₀ : List ℕ
 index₀ = replicate 5461 0
 
-indexVal : Val
-indexVal = array_val (replicate 5461 (vint w16 0))
+index_val : Val
+index_val = array_val (replicate 5461 (vint w16 0))
 
-index-val : array_val (replicate 5461 (vint w16 0)) ≡ indexVal
-unfolding indexVal
-index-val = refl
+index_val_law : array_val (replicate 5461 (vint w16 0)) ≡ index_val
+unfolding index_val
+index_val_law = refl
 
-index-long : length index₀ ≡ 5461
+index_long : length index₀ ≡ 5461
 unfolding index₀
-index-long = length-replicate {A = ℕ} 5461 0
+index_long = length-replicate {A = ℕ} 5461 0
 
-is-index : Is Places index₀ (indexVal ∷ [])
-unfolding index₀ indexVal
-is-index = is-repeat u16 0 (vint w16 0) (refl, lit< tt) 5461
+is_index : Is Places index₀ (index_val ∷ [])
+unfolding index₀ index_val
+is_index = is_repeat u16 0 (vint w16 0) (refl, lit< tt) 5461
 
 row₀ : List ℕ
 row₀ = replicate 16 0
@@ -175,70 +175,70 @@ row₀ = replicate 16 0
 row_val : Val
 row_val = array_val (replicate 16 (vint w8 0))
 
-row-val : array_val (replicate 16 (vint w8 0)) ≡ row_val
+row_value : array_val (replicate 16 (vint w8 0)) ≡ row_val
 unfolding row_val
-row-val = refl
+row_value = refl
 
 is_row : Is Str row₀ (row_val ∷ [])
 unfolding row₀ row_val
-is_row = is-repeat u8 0 (vint w8 0) (refl, lit< tt) 16
+is_row = is_repeat u8 0 (vint w8 0) (refl, lit< tt) 16
 
 rows₀ : List (List ℕ)
 rows₀ = replicate 99 row₀
 
-rows-99 : length rows₀ ≡ 99
+rows_99 : length rows₀ ≡ 99
 unfolding rows₀
-rows-99 = length-replicate {A = List ℕ} 99 row₀
+rows_99 = length-replicate {A = List ℕ} 99 row₀
 
-rowsVal : Val
-rowsVal = array_val (replicate 99 row_val)
+rows_val : Val
+rows_val = array_val (replicate 99 row_val)
 
-rows-val : array_val (replicate 99 row_val) ≡ rowsVal
-unfolding rowsVal
-rows-val = refl
+rows_val_law : array_val (replicate 99 row_val) ≡ rows_val
+unfolding rows_val
+rows_val_law = refl
 
-is-rows : Is Rows rows₀ (rowsVal ∷ [])
-unfolding rows₀ rowsVal
-is-rows = is-repeat Str row₀ row_val is_row 99
+is_rows : Is Rows rows₀ (rows_val ∷ [])
+unfolding rows₀ rows_val
+is_rows = is_repeat Str row₀ row_val is_row 99
 
-is-index-mach : IsI index₀
-is-index-mach = subst (λ (u : Val). Is Places index₀ (u ∷ [])) (at-mach-i index₀ indexVal is-index) is-index
+is_index_mach : IsI index₀
+is_index_mach = subst (λ (u : Val). Is Places index₀ (u ∷ [])) (at_mach_i index₀ index_val is_index) is_index
 
-is-rows-mach : IsV rows₀
-is-rows-mach = subst (λ (u : Val). Is Rows rows₀ (u ∷ [])) (at-mach-v rows₀ rowsVal is-rows) is-rows
+is_rows_mach : IsV rows₀
+is_rows_mach = subst (λ (u : Val). Is Rows rows₀ (u ∷ [])) (at_mach_v rows₀ rows_val is_rows) is_rows
 
 -- ---- the stretch's machine value, and what relates the two
-abbrev machS : Stretch → Val
-machS s = LL.tuple_val S.the_type S'.the_laws ((S.the_type).to s)
+abbrev mach_s : Stretch → Val
+mach_s s = LL.tuple_val S.the_type S'.the_laws ((S.the_type).to s)
 
-abbrev machL : Log → Val
-machL l = LL.tuple_val L.the_type L'.the_laws ((L.the_type).to l)
+abbrev mach_l : Log → Val
+mach_l l = LL.tuple_val L.the_type L'.the_laws ((L.the_type).to l)
 
-abbrev machO : Report → Val
-machO r = LL.tuple_val O.the_type O'.the_laws ((O.the_type).to r)
+abbrev mach_o : Report → Val
+mach_o r = LL.tuple_val O.the_type O'.the_laws ((O.the_type).to r)
 
 abbrev IsS : Stretch → Type 0
-IsS s = Is S.the_row s (machS s ∷ [])
+IsS s = Is S.the_row s (mach_s s ∷ [])
 
-is-mach : (s : Stretch) (v : Val) → Is S.the_row s (v ∷ []) → v ≡ machS s
-is-mach s v is = ap only (LL.tells S.the_type S'.the_laws s (v ∷ []) is)
+is_mach : (s : Stretch) (v : Val) → Is S.the_row s (v ∷ []) → v ≡ mach_s s
+is_mach s v is = ap only (LL.tells S.the_type S'.the_laws s (v ∷ []) is)
 
-at-mach : (s : Stretch) (v : Val) → Is S.the_row s (v ∷ []) → IsS s
-at-mach s v is = subst (λ (u : Val). Is S.the_row s (u ∷ [])) (is-mach s v is) is
+at_mach : (s : Stretch) (v : Val) → Is S.the_row s (v ∷ []) → IsS s
+at_mach s v is = subst (λ (u : Val). Is S.the_row s (u ∷ [])) (is_mach s v is) is
 
-is-log : (s : Stretch) → IsS s → Is L.the_row s.log (machL s.log ∷ [])
-is-log s is = (LL.owed S.the_type S'.the_laws s _ is).1.0
+is_log : (s : Stretch) → IsS s → Is L.the_row s.log (mach_l s.log ∷ [])
+is_log s is = (LL.owed S.the_type S'.the_laws s _ is).1.0
 
-is-report : (s : Stretch) → IsS s → Is O.the_row s.report (machO s.report ∷ [])
-is-report s is = (LL.owed S.the_type S'.the_laws s _ is).1.1.0
+is_report : (s : Stretch) → IsS s → Is O.the_row s.report (mach_o s.report ∷ [])
+is_report s is = (LL.owed S.the_type S'.the_laws s _ is).1.1.0
 
-held-true : (b : Bool) → Holds b → b ≡ true
-held-true true _ = refl
-held-true false h = absurd h
+held_true : (b : Bool) → Holds b → b ≡ true
+held_true true _ = refl
+held_true false h = absurd h
 
-held-false : (b : Bool) → Holds (not b) → b ≡ false
-held-false true h = absurd h
-held-false false _ = refl
+held_false : (b : Bool) → Holds (not b) → b ≡ false
+held_false true h = absurd h
+held_false false _ = refl
 
 enough : (i : List ℕ) → length i ≡ 5461 → 5461 ≤ length i
 enough i e = omega (arith, e)
@@ -256,20 +256,20 @@ module _ {M : Type 1} {𝓤 : Ura M} (𝓛 : Logic 𝓤) (mem : Memory → SProp
   abbrev Append : Contract 𝓤
   Append = triple_of 𝓛 append.signature (append.spec 𝓛 mem run)
 
-  wtS : (s : Stretch) (v : Val) → Is S.the_row s (v ∷ []) → Holds (has_ty S'.mir v) × WT v
-  wtS s v is = ((LL.lawful S.the_type S'.the_laws 𝓛).typed s _ is).0
+  wt_s : (s : Stretch) (v : Val) → Is S.the_row s (v ∷ []) → Holds (has_ty S'.mir v) × WT v
+  wt_s s v is = ((LL.lawful S.the_type S'.the_laws 𝓛).typed s _ is).0
 
-  wtO : (s : Stretch) → IsS s → Holds (has_ty O'.mir (machO s.report)) × WT (machO s.report)
-  wtO s is = ((LL.lawful O.the_type O'.the_laws 𝓛).typed s.report _ (is-report s is)).0
+  wt_o : (s : Stretch) → IsS s → Holds (has_ty O'.mir (mach_o s.report)) × WT (mach_o s.report)
+  wt_o s is = ((LL.lawful O.the_type O'.the_laws 𝓛).typed s.report _ (is_report s is)).0
 
-  wtI : Holds (has_ty tyI (array_val (replicate 5461 (vint w16 0)))) × WT (array_val (replicate 5461 (vint w16 0)))
-  wtI = subst (λ (u : Val). Holds (has_ty tyI u) × WT u) (sym index-val) ((Array-Lawful 𝓛 u16 (uint_Lawful 𝓛 w16) 5461).typed index₀ _ is-index).0
+  wt_i : Holds (has_ty ty_i (array_val (replicate 5461 (vint w16 0)))) × WT (array_val (replicate 5461 (vint w16 0)))
+  wt_i = subst (λ (u : Val). Holds (has_ty ty_i u) × WT u) (sym index_val_law) ((Array-Lawful 𝓛 u16 (uint_Lawful 𝓛 w16) 5461).typed index₀ _ is_index).0
 
-  wtR : Holds (has_ty ty_s (array_val (replicate 16 (vint w8 0)))) × WT (array_val (replicate 16 (vint w8 0)))
-  wtR = subst (λ (u : Val). Holds (has_ty ty_s u) × WT u) (sym row-val) ((Array-Lawful 𝓛 u8 (uint_Lawful 𝓛 w8) 16).typed row₀ _ is_row).0
+  wt_r : Holds (has_ty ty_s (array_val (replicate 16 (vint w8 0)))) × WT (array_val (replicate 16 (vint w8 0)))
+  wt_r = subst (λ (u : Val). Holds (has_ty ty_s u) × WT u) (sym row_value) ((Array-Lawful 𝓛 u8 (uint_Lawful 𝓛 w8) 16).typed row₀ _ is_row).0
 
-  wtV : Holds (has_ty ty_v (array_val (replicate 99 row_val))) × WT (array_val (replicate 99 row_val))
-  wtV = subst (λ (u : Val). Holds (has_ty ty_v u) × WT u) (sym rows-val) ((Array-Lawful 𝓛 Str (Array-Lawful 𝓛 u8 (uint_Lawful 𝓛 w8) 16) 99).typed rows₀ _ is-rows).0
+  wt_v : Holds (has_ty ty_v (array_val (replicate 99 row_val))) × WT (array_val (replicate 99 row_val))
+  wt_v = subst (λ (u : Val). Holds (has_ty ty_v u) × WT u) (sym rows_val_law) ((Array-Lawful 𝓛 Str (Array-Lawful 𝓛 u8 (uint_Lawful 𝓛 w8) 16) 99).typed rows₀ _ is_rows).0
 
   module _ (κ₀ κ₁ κ₂ : Lft) (q₀ q₁ q₂ : Share) (tm sc st : MutBor (List ℕ)) (n : ℕ) (bt ot : ℕ) (γt : GName) (xs₀ : List ℕ) (br or : ℕ) (γr : GName) (ys₀ : List Question)
       (room-tm : Room u8 (length tm.now)) (room_Sc : Room u8 (length sc.now)) (room-st : Room u8 (length st.now)) (n-fits : n < 2 ^ 64) (room-t : Room u8 (length xs₀)) (room-r : Room Q.the_row (length ys₀)) where
@@ -337,53 +337,53 @@ module _ {M : Type 1} {𝓤 : Ura M} (𝓛 : Logic 𝓤) (mem : Memory → SProp
     abbrev Had : List ℕ → List Question → List (Item 𝓤)
     Had xs ys = ‵ (Text xs) ∷ ‵ (flft κ₁ q₁) ∷ ‵ Tm ∷ ‵ St ∷ ‵ (flft κ₀ q₀) ∷ ‵ (Row ys) ∷ ‵ (flft κ₂ q₂) ∷ ‵ Sc ∷ []
 
-    exits : (s : Stretch) (xs : List ℕ) (ys : List Question) → IsS s → length xs ≡ length xs₀ → length ys ≡ length ys₀ → Told xs ys s.report → ent 𝓤 (⋆ 𝓛 (Had xs ys)) (Post' (machO s.report))
+    exits : (s : Stretch) (xs : List ℕ) (ys : List Question) → IsS s → length xs ≡ length xs₀ → length ys ≡ length ys₀ → Told xs ys s.report → ent 𝓤 (⋆ 𝓛 (Had xs ys)) (Post' (mach_o s.report))
     exits s xs ys is ex ey said =
         qed 𝓛 (Had xs ys) ∵
-        suffices ! _ (ends_at 𝓛 f.ended stayed (f.clauses 𝓛 mem run) (((κ₀, (κ₁, (κ₂, tt))), (q₀, (q₁, (q₂, tt))), tt, a, vals), tt) (machO s.report) s.report (tt, (tt, (tt, (tt, (xs, (ys, tt)))))) (tt, (tt, (tt, (tt, (ex, (ey, tt))))))) $ says ! said $
+        suffices ! _ (ends_at 𝓛 f.ended stayed (f.clauses 𝓛 mem run) (((κ₀, (κ₁, (κ₂, tt))), (q₀, (q₁, (q₂, tt))), tt, a, vals), tt) (mach_o s.report) s.report (tt, (tt, (tt, (tt, (xs, (ys, tt)))))) (tt, (tt, (tt, (tt, (ex, (ey, tt))))))) $ says ! said $
         nothing ! $ move ! (7 ∷ 0 ∷ []) $ join ! $ move ! (2 ∷ 0 ∷ []) $ join ! $ move ! (4 ∷ 0 ∷ []) $ join ! $ frame ! $
         -- [the text; the template; the store; the read list; the section]
         nothing ! $ move ! (4 ∷ 0 ∷ []) $ fjoin ! $ move ! (1 ∷ 0 ∷ []) $ fjoin ! $ owned ! usize (Is usize) (uint_Makes 𝓛 w64) n _ (refl, n-fits) $ fjoin ! $
         move ! (2 ∷ 0 ∷ []) $ fjoin ! $ move ! (2 ∷ 0 ∷ []) $ fjoin ! $ move ! (1 ∷ 0 ∷ []) $ fjoin ! $
-        owned ! O.the_row (Is O.the_row) (LL.makes O.the_type O'.the_plain 𝓛) s.report _ (is-report s is) $ move ! (1 ∷ 0 ∷ []) $ done !
+        owned ! O.the_row (Is O.the_row) (LL.makes O.the_type O'.the_plain 𝓛) s.report _ (is_report s is) $ move ! (1 ∷ 0 ∷ []) $ done !
 
     -- ---- the calls
-    abbrev for-begin : ℕ → GName → MutBor (List ℕ) × (MutBor (List ℕ) × (MutBor (List ℕ) × (ℕ × (MutBor (List ℕ) × (ℕ × Unit {0})))))
-    for-begin p η = (tm, (sc, (st, (n, (xi p η index₀, (length ys₀, tt))))))
+    abbrev for_begin : ℕ → GName → MutBor (List ℕ) × (MutBor (List ℕ) × (MutBor (List ℕ) × (ℕ × (MutBor (List ℕ) × (ℕ × Unit {0})))))
+    for_begin p η = (tm, (sc, (st, (n, (xi p η index₀, (length ys₀, tt))))))
 
-    abbrev to-begin : ℕ → ℕ → GName → Begin.Ghost
-    to-begin p ν η = (((κ₀, (ν ∷ [], tt)), (q₀, (full_share, tt)), tt, for-begin p η, (v₁ ∷ [], (v₂ ∷ [], (v₃ ∷ [], (v₄ ∷ [], (vptr p 0 ∷ [], (vint w64 (length ys₀) ∷ [], tt))))))), tt)
+    abbrev to_begin : ℕ → ℕ → GName → Begin.Ghost
+    to_begin p ν η = (((κ₀, (ν ∷ [], tt)), (q₀, (full_share, tt)), tt, for_begin p η, (v₁ ∷ [], (v₂ ∷ [], (v₃ ∷ [], (v₄ ∷ [], (vptr p 0 ∷ [], (vint w64 (length ys₀) ∷ [], tt))))))), tt)
 
     abbrev ForBegin : ℕ → ℕ → GName → List (Item 𝓤)
     ForBegin p ν η = ‵ (flft (ν ∷ []) full_share) ∷ ‵ (flft κ₀ q₀) ∷ ‵ Tm ∷ ‵ Sc ∷ ‵ St ∷ ‵ ((MutRef (named 1) (ν ∷ []) Places).own_val (xi p η index₀) (vptr p 0 ∷ [])) ∷ []
 
-    goes-begin : (p ν : ℕ) (η : GName) → ent 𝓤 (⋆ 𝓛 (ForBegin p ν η)) (Begin.pre (to-begin p ν η))
-    goes-begin p ν η =
-        qed 𝓛 (ForBegin p ν η) ∵ says ! (enough index₀ index-long) $ nothing ! $ move ! (1 ∷ 0 ∷ []) $ join ! $ move ! (1 ∷ 0 ∷ []) $ join ! $
+    goes_begin : (p ν : ℕ) (η : GName) → ent 𝓤 (⋆ 𝓛 (ForBegin p ν η)) (Begin.pre (to_begin p ν η))
+    goes_begin p ν η =
+        qed 𝓛 (ForBegin p ν η) ∵ says ! (enough index₀ index_long) $ nothing ! $ move ! (1 ∷ 0 ∷ []) $ join ! $ move ! (1 ∷ 0 ∷ []) $ join ! $
         nothing ! $ owned ! usize (Is usize) (uint_Makes 𝓛 w64) (length ys₀) _ (refl, room-r.0) $ fjoin ! $ move ! (5 ∷ 0 ∷ []) $ fjoin ! $ owned ! usize (Is usize) (uint_Makes 𝓛 w64) n _ (refl, n-fits) $ fjoin ! $
         move ! (4 ∷ 0 ∷ []) $ fjoin ! $ move ! (3 ∷ 0 ∷ []) $ fjoin ! $ move ! (2 ∷ 0 ∷ []) $ fjoin ! $ move ! (1 ∷ 0 ∷ []) $ join ! $ done !
 
-    abbrev for-run : ℕ → ℕ → Stretch → List (List ℕ) → List ℕ → List ℕ → GName → GName → GName → MutBor (List ℕ) × (MutBor (List ℕ) × (MutBor (List ℕ) × (MutBor (List ℕ) × (MutBor (List (List ℕ)) × (Stretch × Unit {0})))))
-    for-run p o s rows ix xs δ ε η = (tm, (st, (xi p η ix, (xt δ xs, (xv o ε rows, (s, tt))))))
+    abbrev for_run : ℕ → ℕ → Stretch → List (List ℕ) → List ℕ → List ℕ → GName → GName → GName → MutBor (List ℕ) × (MutBor (List ℕ) × (MutBor (List ℕ) × (MutBor (List ℕ) × (MutBor (List (List ℕ)) × (Stretch × Unit {0})))))
+    for_run p o s rows ix xs δ ε η = (tm, (st, (xi p η ix, (xt δ xs, (xv o ε rows, (s, tt))))))
 
-    abbrev to-run : ℕ → ℕ → Stretch → List (List ℕ) → List ℕ → List ℕ → ℕ → ℕ → GName → GName → GName → Run.Ghost
-    to-run p o s rows ix xs ν ρ δ ε η = (((κ₀, (ρ ∷ [], (ν ∷ [], tt))), (q₀, (full_share, (full_share, tt))), tt, for-run p o s rows ix xs δ ε η, (v₁ ∷ [], (v₃ ∷ [], (vptr p 0 ∷ [], (v₅ ∷ [], (vptr o 0 ∷ [], (machS s ∷ [], tt))))))), tt)
+    abbrev to_run : ℕ → ℕ → Stretch → List (List ℕ) → List ℕ → List ℕ → ℕ → ℕ → GName → GName → GName → Run.Ghost
+    to_run p o s rows ix xs ν ρ δ ε η = (((κ₀, (ρ ∷ [], (ν ∷ [], tt))), (q₀, (full_share, (full_share, tt))), tt, for_run p o s rows ix xs δ ε η, (v₁ ∷ [], (v₃ ∷ [], (vptr p 0 ∷ [], (v₅ ∷ [], (vptr o 0 ∷ [], (mach_s s ∷ [], tt))))))), tt)
 
     abbrev ForRun : ℕ → ℕ → List (List ℕ) → List ℕ → List ℕ → ℕ → ℕ → GName → GName → GName → List (Item 𝓤)
     ForRun p o rows ix xs ν ρ δ ε η = ‵ (flft (ν ∷ []) full_share) ∷ ‵ (flft (ρ ∷ []) full_share) ∷ ‵ (flft κ₀ q₀) ∷ ‵ Tm ∷ ‵ St ∷ ‵ ((MutRef (named 1) (ρ ∷ []) Places).own_val (xi p η ix) (vptr p 0 ∷ [])) ∷ ‵ ((MutSlice (named 2) (ν ∷ []) u8).own_val (xt δ xs) (v₅ ∷ [])) ∷ ‵ ((MutRef (named 2) (ν ∷ []) Rows).own_val (xv o ε rows) (vptr o 0 ∷ [])) ∷ []
 
-    goes-run : (p o : ℕ) (s : Stretch) (rows : List (List ℕ)) (ix xs : List ℕ) (ν ρ : ℕ) (δ ε η : GName) → IsS s → RunReady tm.now st.now ix xs rows s.saved → ent 𝓤 (⋆ 𝓛 (ForRun p o rows ix xs ν ρ δ ε η)) (Run.pre (to-run p o s rows ix xs ν ρ δ ε η))
-    goes-run p o s rows ix xs ν ρ δ ε η is ready =
+    goes_run : (p o : ℕ) (s : Stretch) (rows : List (List ℕ)) (ix xs : List ℕ) (ν ρ : ℕ) (δ ε η : GName) → IsS s → RunReady tm.now st.now ix xs rows s.saved → ent 𝓤 (⋆ 𝓛 (ForRun p o rows ix xs ν ρ δ ε η)) (Run.pre (to_run p o s rows ix xs ν ρ δ ε η))
+    goes_run p o s rows ix xs ν ρ δ ε η is ready =
         qed 𝓛 (ForRun p o rows ix xs ν ρ δ ε η) ∵ says ! ready $ nothing ! $ move ! (1 ∷ 0 ∷ []) $ join ! $ move ! (1 ∷ 0 ∷ []) $ join ! $ move ! (1 ∷ 0 ∷ []) $ join ! $
         nothing ! $ owned ! S.the_row (Is S.the_row) (LL.makes S.the_type S'.the_plain 𝓛) s _ is $ fjoin ! $ move ! (6 ∷ 0 ∷ []) $ fjoin ! $ move ! (5 ∷ 0 ∷ []) $ fjoin ! $ move ! (4 ∷ 0 ∷ []) $ fjoin ! $ move ! (3 ∷ 0 ∷ []) $ fjoin ! $ move ! (2 ∷ 0 ∷ []) $ fjoin ! $
         move ! (1 ∷ 0 ∷ []) $ join ! $ done !
 
-    abbrev to-append : Log → List Question → ℕ → GName → Append.Ghost
-    to-append lg ys ν δ = (((ν ∷ [], tt), (full_share, tt), tt, (xr δ ys, (lg, tt)), (v₆ ∷ [], (machL lg ∷ [], tt))), tt)
+    abbrev to_append : Log → List Question → ℕ → GName → Append.Ghost
+    to_append lg ys ν δ = (((ν ∷ [], tt), (full_share, tt), tt, (xr δ ys, (lg, tt)), (v₆ ∷ [], (mach_l lg ∷ [], tt))), tt)
 
-    goes-append : (lg : Log) (ys : List Question) (ν : ℕ) (δ : GName) → Is L.the_row lg (machL lg ∷ []) → (lg.at + lg.n ≤ length ys) × (lg.n ≤ 512)
-        → ent 𝓤 (⋆ 𝓛 (‵ (flft (ν ∷ []) full_share) ∷ ‵ ((MutSlice (named 0) (ν ∷ []) Q.the_row).own_val (xr δ ys) (v₆ ∷ [])) ∷ [])) (Append.pre (to-append lg ys ν δ))
-    goes-append lg ys ν δ is within =
+    goes_append : (lg : Log) (ys : List Question) (ν : ℕ) (δ : GName) → Is L.the_row lg (mach_l lg ∷ []) → (lg.at + lg.n ≤ length ys) × (lg.n ≤ 512)
+        → ent 𝓤 (⋆ 𝓛 (‵ (flft (ν ∷ []) full_share) ∷ ‵ ((MutSlice (named 0) (ν ∷ []) Q.the_row).own_val (xr δ ys) (v₆ ∷ [])) ∷ [])) (Append.pre (to_append lg ys ν δ))
+    goes_append lg ys ν δ is within =
         qed 𝓛 (‵ (flft (ν ∷ []) full_share) ∷ ‵ ((MutSlice (named 0) (ν ∷ []) Q.the_row).own_val (xr δ ys) (v₆ ∷ [])) ∷ []) ∵ says ! within $ nothing ! $ move ! (1 ∷ 0 ∷ []) $ join ! $
         nothing ! $ owned ! L.the_row (Is L.the_row) (LL.makes L.the_type L'.the_plain 𝓛) lg _ is $ fjoin ! $ move ! (2 ∷ 0 ∷ []) $ fjoin ! $ move ! (1 ∷ 0 ∷ []) $ join ! $ done !
 
@@ -394,7 +394,7 @@ module _ {M : Type 1} {𝓤 : Ura M} (𝓛 : Logic 𝓤) (mem : Memory → SProp
     abbrev listed : List Question → Log → List Question
     listed ys lg = sets ys lg.at (take lg.n (questions lg.words))
 
-    module _ (𝓣 : Tables 𝓤 H) (known-begin : Triple 𝓤 (𝓣.C #begin) Begin) (known-run : Triple 𝓤 (𝓣.C #run) Run) (known-append : Triple 𝓤 (𝓣.C #append) Append) where
+    module _ (𝓣 : Tables 𝓤 H) (known_begin : Triple 𝓤 (𝓣.C #begin) Begin) (known_run : Triple 𝓤 (𝓣.C #run) Run) (known_append : Triple 𝓤 (𝓣.C #append) Append) where
       abbrev C : Calls 𝓤 H
       C = 𝓣.C
 
@@ -403,59 +403,59 @@ module _ {M : Type 1} {𝓤 : Ura M} (𝓛 : Logic 𝓤) (mem : Memory → SProp
 
       module _ {En : Env 𝓤 H} {Γ : List (Item 𝓤)} {os : List Operand} {d : Place} {p : Post 𝓤 H} where
         -- the index is lent for the call of `begin`, and is back
-        calls-begin : (l : ℕ) {rest : Body}
-            → ((ν : ℕ) (η : GName) → Opds Go 𝓛 (raw (Begin.pre (to-begin l ν η)) ∷ ‵ (flent (ν ∷ []) (Bor (mem_of Places) l 0 η)) ∷ ‵ Tm ∷ ‵ Sc ∷ ‵ St ∷ Γ) En os (v₁ ∷ v₂ ∷ v₃ ∷ v₄ ∷ vptr l 0 ∷ vint w64 (length ys₀) ∷ []))
-            → ((v : Val) (r : Stretch) (ix : List ℕ) → Is S.the_row r (v ∷ []) → IsI ix → Begun tm.now sc.now st.now n (length ys₀) ix r → Seq Go 𝓛 (‵ Tm ∷ ‵ Sc ∷ ‵ St ∷ ‵ (flft κ₀ q₀) ∷ ‵ (fat full_share tyI l 0 (machI ix)) ∷ Γ) (lands C Λ En d v rest p))
-            → Seq Go 𝓛 (‵ Tm ∷ ‵ Sc ∷ ‵ St ∷ ‵ (flft κ₀ q₀) ∷ ‵ (fat full_share tyI l 0 (machI index₀)) ∷ Γ) (runs C Λ En (seq (call #begin os d) rest) p)
-        calls-begin l opds k =
-            lft_new ! tt (λ ν. owned ! Places (Is Places) (Array-Makes 𝓛 u16 (uint_Makes 𝓛 w16) 5461) index₀ _ is-index-mach $ move ! (6 ∷ 0 ∷ []) $
-            use2 𝓛 (later (some (λ (η : GName). ‵ ((MutRef (named 1) (ν ∷ []) Places).own_val (xi l η index₀) (vptr l 0 ∷ [])) ⊛ ‵ (flent (ν ∷ []) (Bor (mem_of Places) l 0 η))))) (lends_local u16 5461 𝓛 (ν ∷ []) l (named 1) index₀ (machI index₀)) $ await ! tt $ pick ! (λ η. split ! $
+        calls_begin : (l : ℕ) {rest : Body}
+            → ((ν : ℕ) (η : GName) → Opds Go 𝓛 (raw (Begin.pre (to_begin l ν η)) ∷ ‵ (flent (ν ∷ []) (Bor (mem_of Places) l 0 η)) ∷ ‵ Tm ∷ ‵ Sc ∷ ‵ St ∷ Γ) En os (v₁ ∷ v₂ ∷ v₃ ∷ v₄ ∷ vptr l 0 ∷ vint w64 (length ys₀) ∷ []))
+            → ((v : Val) (r : Stretch) (ix : List ℕ) → Is S.the_row r (v ∷ []) → IsI ix → Begun tm.now sc.now st.now n (length ys₀) ix r → Seq Go 𝓛 (‵ Tm ∷ ‵ Sc ∷ ‵ St ∷ ‵ (flft κ₀ q₀) ∷ ‵ (fat full_share ty_i l 0 (mach_i ix)) ∷ Γ) (lands C Λ En d v rest p))
+            → Seq Go 𝓛 (‵ Tm ∷ ‵ Sc ∷ ‵ St ∷ ‵ (flft κ₀ q₀) ∷ ‵ (fat full_share ty_i l 0 (mach_i index₀)) ∷ Γ) (runs C Λ En (seq (call #begin os d) rest) p)
+        calls_begin l opds k =
+            lft_new ! tt (λ ν. owned ! Places (Is Places) (Array-Makes 𝓛 u16 (uint_Makes 𝓛 w16) 5461) index₀ _ is_index_mach $ move ! (6 ∷ 0 ∷ []) $
+            use2 𝓛 (later (some (λ (η : GName). ‵ ((MutRef (named 1) (ν ∷ []) Places).own_val (xi l η index₀) (vptr l 0 ∷ [])) ⊛ ‵ (flent (ν ∷ []) (Bor (mem_of Places) l 0 η))))) (lends_local u16 5461 𝓛 (ν ∷ []) l (named 1) index₀ (mach_i index₀)) $ await ! tt $ pick ! (λ η. split ! $
             -- [the index at ν; its lender's part; [ν]; the template; the section; the store; [κ₀]; …]: what is shared is had twice
             move ! (3 ∷ []) $ use1 𝓛 (‵ Tm ⊛ ‵ Tm) ((shr_slice_copy 𝓛 (named 0) κ₀ u8).twice tm (v₁ ∷ [])) $ split ! $
             move ! (5 ∷ []) $ use1 𝓛 (‵ Sc ⊛ ‵ Sc) ((shr_slice_copy 𝓛 (named 0) κ₀ u8).twice sc (v₂ ∷ [])) $ split ! $
             move ! (7 ∷ []) $ use1 𝓛 (‵ St ⊛ ‵ St) ((shr_slice_copy 𝓛 (named 0) κ₀ u8).twice st (v₃ ∷ [])) $ split ! $ move ! (8 ∷ 9 ∷ 4 ∷ 2 ∷ 0 ∷ 6 ∷ []) $
-            cut (ForBegin l ν η) (raw (Begin.pre (to-begin l ν η)) ∷ []) _ (goes-begin l ν η) $ move ! (0 ∷ 4 ∷ 3 ∷ 2 ∷ 1 ∷ []) $
-            calls_at ! (fm_of 𝓤 H 𝓛.laws 𝓣) Begin known-begin (to-begin l ν η) (opds ν η) (λ v.
-            use1 𝓛 (later (some (λ (r : Stretch). ((‵ (flft κ₀ q₀) ⊛ ‵ (flft (ν ∷ []) full_share) ⊛ ‵ ftrue) ⊛ ‵ ((S.the_row).own_val r (v ∷ []))) ⊛ raw (ensured 𝓛 begin.ended (begin.clauses 𝓛 mem run) (κ₀, (ν ∷ [], tt)) (for-begin l η) tt r)))) (id⊢ 𝓤 _) $ await ! tt $ pick ! (λ r.
-            split ! $ move ! (1 ∷ []) $ use1 𝓛 (some (λ (ws : Unit {0} × (Unit {0} × (Unit {0} × (Unit {0} × (List ℕ × (Unit {0} × Unit {0})))))). ‵ (lasts begin.ended (κ₀, (ν ∷ [], tt)) (for-begin l η) ws) ⊛ raw (fact 𝓤 (Begun tm.now sc.now st.now n (length ys₀) ws.1.1.1.1.0 r)))) (id⊢ 𝓤 _) $ pick ! (λ ws.
+            cut (ForBegin l ν η) (raw (Begin.pre (to_begin l ν η)) ∷ []) _ (goes_begin l ν η) $ move ! (0 ∷ 4 ∷ 3 ∷ 2 ∷ 1 ∷ []) $
+            calls_at ! (fm_of 𝓤 H 𝓛.laws 𝓣) Begin known_begin (to_begin l ν η) (opds ν η) (λ v.
+            use1 𝓛 (later (some (λ (r : Stretch). ((‵ (flft κ₀ q₀) ⊛ ‵ (flft (ν ∷ []) full_share) ⊛ ‵ ftrue) ⊛ ‵ ((S.the_row).own_val r (v ∷ []))) ⊛ raw (ensured 𝓛 begin.ended (begin.clauses 𝓛 mem run) (κ₀, (ν ∷ [], tt)) (for_begin l η) tt r)))) (id⊢ 𝓤 _) $ await ! tt $ pick ! (λ r.
+            split ! $ move ! (1 ∷ []) $ use1 𝓛 (some (λ (ws : Unit {0} × (Unit {0} × (Unit {0} × (Unit {0} × (List ℕ × (Unit {0} × Unit {0})))))). ‵ (lasts begin.ended (κ₀, (ν ∷ [], tt)) (for_begin l η) ws) ⊛ raw (fact 𝓤 (Begun tm.now sc.now st.now n (length ys₀) ws.1.1.1.1.0 r)))) (id⊢ 𝓤 _) $ pick ! (λ ws.
             split ! $ move ! (1 ∷ []) $ heard ! (Begun tm.now sc.now st.now n (length ys₀) ws.1.1.1.1.0 r) (λ e. fsplit ! $ drop ! $ fsplit ! $ drop ! $ fsplit ! $ drop ! $ fsplit ! $ drop ! $ fsplit ! $
             -- [the index's last value; the rest; the tokens and the stretch; the lender's part; …]
             move ! (2 ∷ []) $ split ! $ move ! (1 ∷ []) $ facts ! S.the_row (Is S.the_row) (shows 𝓛 S.the_row) r (v ∷ []) (λ isr.
             split ! $ move ! (1 ∷ []) $ split ! $ lft_end ! tt $ move ! (0 ∷ 5 ∷ 3 ∷ []) $
-            use3 𝓛 (later (raw (fact 𝓤 (IsI ws.1.1.1.1.0)) ⊛ ‵ (fat full_share tyI l 0 (machI ws.1.1.1.1.0)))) (local_back u16 5461 𝓛 (ν ∷ []) l (uint_vals w16) (uint_Tells w16) η ws.1.1.1.1.0) $ await ! tt $ split ! $
+            use3 𝓛 (later (raw (fact 𝓤 (IsI ws.1.1.1.1.0)) ⊛ ‵ (fat full_share ty_i l 0 (mach_i ws.1.1.1.1.0)))) (local_back u16 5461 𝓛 (ν ∷ []) l (uint_vals w16) (uint_Tells w16) η ws.1.1.1.1.0) $ await ! tt $ split ! $
             heard ! (IsI ws.1.1.1.1.0) (λ isi. move ! (1 ∷ []) $ drop ! $ move ! (2 ∷ []) $ drop ! $ move ! (2 ∷ 3 ∷ 4 ∷ 1 ∷ 0 ∷ []) $
             k v r ws.1.1.1.1.0 isr isi e))))))))
 
         -- the text is lent again and the arrays are lent for a call of `run`, and all are back
-        calls-run : (l o : ℕ) (s : Stretch) (rows : List (List ℕ)) (ix xs : List ℕ) → IsS s → IsV rows → IsI ix → length xs ≡ length xs₀ → RunReady tm.now st.now ix xs rows s.saved → {rest : Body}
-            → ((ν ρ : ℕ) (δ ε η : GName) → Opds Go 𝓛 (raw (Run.pre (to-run l o s rows ix xs ν ρ δ ε η)) ∷ ‵ (Kept u8 (length xs₀) bt ot κ₁ q₁ γt (ν ∷ []) δ xs) ∷ ‵ (flent (ν ∷ []) (Bor (mem_of Rows) o 0 ε)) ∷ ‵ (flent (ρ ∷ []) (Bor (mem_of Places) l 0 η)) ∷ ‵ Tm ∷ ‵ St ∷ Γ) En os (v₁ ∷ v₃ ∷ vptr l 0 ∷ v₅ ∷ vptr o 0 ∷ machS s ∷ []))
-            → ((v : Val) (r : Stretch) (rows' : List (List ℕ)) (ix' xs' : List ℕ) → Is S.the_row r (v ∷ []) → IsV rows' → IsI ix' → RanTo s rows ix xs r rows' ix' xs' → Seq Go 𝓛 (‵ (Text xs') ∷ ‵ (flft κ₁ q₁) ∷ ‵ Tm ∷ ‵ St ∷ ‵ (flft κ₀ q₀) ∷ ‵ (fat full_share tyI l 0 (machI ix')) ∷ ‵ (fat full_share ty_v o 0 (machV rows')) ∷ Γ) (lands C Λ En d v rest p))
-            → Seq Go 𝓛 (‵ (Text xs) ∷ ‵ (flft κ₁ q₁) ∷ ‵ Tm ∷ ‵ St ∷ ‵ (flft κ₀ q₀) ∷ ‵ (fat full_share tyI l 0 (machI ix)) ∷ ‵ (fat full_share ty_v o 0 (machV rows)) ∷ Γ) (runs C Λ En (seq (call #run os d) rest) p)
-        calls-run l o s rows ix xs is isv isi ex ready opds k =
+        calls_run : (l o : ℕ) (s : Stretch) (rows : List (List ℕ)) (ix xs : List ℕ) → IsS s → IsV rows → IsI ix → length xs ≡ length xs₀ → RunReady tm.now st.now ix xs rows s.saved → {rest : Body}
+            → ((ν ρ : ℕ) (δ ε η : GName) → Opds Go 𝓛 (raw (Run.pre (to_run l o s rows ix xs ν ρ δ ε η)) ∷ ‵ (Kept u8 (length xs₀) bt ot κ₁ q₁ γt (ν ∷ []) δ xs) ∷ ‵ (flent (ν ∷ []) (Bor (mem_of Rows) o 0 ε)) ∷ ‵ (flent (ρ ∷ []) (Bor (mem_of Places) l 0 η)) ∷ ‵ Tm ∷ ‵ St ∷ Γ) En os (v₁ ∷ v₃ ∷ vptr l 0 ∷ v₅ ∷ vptr o 0 ∷ mach_s s ∷ []))
+            → ((v : Val) (r : Stretch) (rows' : List (List ℕ)) (ix' xs' : List ℕ) → Is S.the_row r (v ∷ []) → IsV rows' → IsI ix' → RanTo s rows ix xs r rows' ix' xs' → Seq Go 𝓛 (‵ (Text xs') ∷ ‵ (flft κ₁ q₁) ∷ ‵ Tm ∷ ‵ St ∷ ‵ (flft κ₀ q₀) ∷ ‵ (fat full_share ty_i l 0 (mach_i ix')) ∷ ‵ (fat full_share ty_v o 0 (mach_v rows')) ∷ Γ) (lands C Λ En d v rest p))
+            → Seq Go 𝓛 (‵ (Text xs) ∷ ‵ (flft κ₁ q₁) ∷ ‵ Tm ∷ ‵ St ∷ ‵ (flft κ₀ q₀) ∷ ‵ (fat full_share ty_i l 0 (mach_i ix)) ∷ ‵ (fat full_share ty_v o 0 (mach_v rows)) ∷ Γ) (runs C Λ En (seq (call #run os d) rest) p)
+        calls_run l o s rows ix xs is isv isi ex ready opds k =
             lft_new ! tt (λ ν. move ! (1 ∷ 2 ∷ []) $
             use2 𝓛 (later (some (λ (δ : GName). ‵ (Slice u8 (length xs₀) bt ot (named 2) (ν ∷ []) δ xs) ⊛ ‵ (Kept u8 (length xs₀) bt ot κ₁ q₁ γt (ν ∷ []) δ xs))))
             (lent u8 (length xs₀) bt ot 𝓛 (named 1) κ₁ q₁ γt (ν ∷ []) xs (named 2) ex) $ await ! tt $ pick ! (λ δ. split ! $
             -- [the text at ν; its lender's part; [ν]; the template; the store; [κ₀]; the index; the rows; …]: the rows are lent
             owned ! Rows (Is Rows) (Array-Makes 𝓛 Str (Array-Makes 𝓛 u8 (uint_Makes 𝓛 w8) 16) 99) rows _ isv $ move ! (8 ∷ 0 ∷ []) $
-            use2 𝓛 (later (some (λ (ε : GName). ‵ ((MutRef (named 2) (ν ∷ []) Rows).own_val (xv o ε rows) (vptr o 0 ∷ [])) ⊛ ‵ (flent (ν ∷ []) (Bor (mem_of Rows) o 0 ε))))) (lends_local Str 99 𝓛 (ν ∷ []) o (named 2) rows (machV rows)) $ await ! tt $ pick ! (λ ε. split ! $
+            use2 𝓛 (later (some (λ (ε : GName). ‵ ((MutRef (named 2) (ν ∷ []) Rows).own_val (xv o ε rows) (vptr o 0 ∷ [])) ⊛ ‵ (flent (ν ∷ []) (Bor (mem_of Rows) o 0 ε))))) (lends_local Str 99 𝓛 (ν ∷ []) o (named 2) rows (mach_v rows)) $ await ! tt $ pick ! (λ ε. split ! $
             -- and the index
             lft_new ! tt (λ ρ. owned ! Places (Is Places) (Array-Makes 𝓛 u16 (uint_Makes 𝓛 w16) 5461) ix _ isi $ move ! (10 ∷ 0 ∷ []) $
-            use2 𝓛 (later (some (λ (η : GName). ‵ ((MutRef (named 1) (ρ ∷ []) Places).own_val (xi l η ix) (vptr l 0 ∷ [])) ⊛ ‵ (flent (ρ ∷ []) (Bor (mem_of Places) l 0 η))))) (lends_local u16 5461 𝓛 (ρ ∷ []) l (named 1) ix (machI ix)) $ await ! tt $ pick ! (λ η. split ! $
+            use2 𝓛 (later (some (λ (η : GName). ‵ ((MutRef (named 1) (ρ ∷ []) Places).own_val (xi l η ix) (vptr l 0 ∷ [])) ⊛ ‵ (flent (ρ ∷ []) (Bor (mem_of Places) l 0 η))))) (lends_local u16 5461 𝓛 (ρ ∷ []) l (named 1) ix (mach_i ix)) $ await ! tt $ pick ! (λ η. split ! $
             -- [the index; its lender's part; [ρ]; the rows; theirs; the text; its; [ν]; the template; the store; [κ₀]; …]: the two that are shared are had twice
             move ! (8 ∷ []) $ use1 𝓛 (‵ Tm ⊛ ‵ Tm) ((shr_slice_copy 𝓛 (named 0) κ₀ u8).twice tm (v₁ ∷ [])) $ split ! $
             move ! (10 ∷ []) $ use1 𝓛 (‵ St ⊛ ‵ St) ((shr_slice_copy 𝓛 (named 0) κ₀ u8).twice st (v₃ ∷ [])) $ split ! $ move ! (11 ∷ 6 ∷ 12 ∷ 2 ∷ 0 ∷ 4 ∷ 9 ∷ 7 ∷ []) $
-            cut (ForRun l o rows ix xs ν ρ δ ε η) (raw (Run.pre (to-run l o s rows ix xs ν ρ δ ε η)) ∷ []) _ (goes-run l o s rows ix xs ν ρ δ ε η is ready) $ move ! (0 ∷ 5 ∷ 4 ∷ 3 ∷ 2 ∷ 1 ∷ []) $
-            calls_at ! (fm_of 𝓤 H 𝓛.laws 𝓣) Run known-run (to-run l o s rows ix xs ν ρ δ ε η) (opds ν ρ δ ε η) (λ v.
-            use1 𝓛 (later (some (λ (r : Stretch). ((‵ (flft κ₀ q₀) ⊛ ‵ (flft (ρ ∷ []) full_share) ⊛ ‵ (flft (ν ∷ []) full_share) ⊛ ‵ ftrue) ⊛ ‵ ((S.the_row).own_val r (v ∷ []))) ⊛ raw (ensured 𝓛 run-fn.ended (run-fn.clauses 𝓛 mem run) (κ₀, (ρ ∷ [], (ν ∷ [], tt))) (for-run l o s rows ix xs δ ε η) tt r)))) (id⊢ 𝓤 _) $ await ! tt $ pick ! (λ r.
-            split ! $ move ! (1 ∷ []) $ use1 𝓛 (some (λ (ws : Unit {0} × (Unit {0} × (List ℕ × (List ℕ × (List (List ℕ) × (Unit {0} × Unit {0})))))). ‵ (lasts run-fn.ended (κ₀, (ρ ∷ [], (ν ∷ [], tt))) (for-run l o s rows ix xs δ ε η) ws) ⊛ raw (fact 𝓤 (RanTo s rows ix xs r ws.1.1.1.1.0 ws.1.1.0 ws.1.1.1.0)))) (id⊢ 𝓤 _) $ pick ! (λ ws.
+            cut (ForRun l o rows ix xs ν ρ δ ε η) (raw (Run.pre (to_run l o s rows ix xs ν ρ δ ε η)) ∷ []) _ (goes_run l o s rows ix xs ν ρ δ ε η is ready) $ move ! (0 ∷ 5 ∷ 4 ∷ 3 ∷ 2 ∷ 1 ∷ []) $
+            calls_at ! (fm_of 𝓤 H 𝓛.laws 𝓣) Run known_run (to_run l o s rows ix xs ν ρ δ ε η) (opds ν ρ δ ε η) (λ v.
+            use1 𝓛 (later (some (λ (r : Stretch). ((‵ (flft κ₀ q₀) ⊛ ‵ (flft (ρ ∷ []) full_share) ⊛ ‵ (flft (ν ∷ []) full_share) ⊛ ‵ ftrue) ⊛ ‵ ((S.the_row).own_val r (v ∷ []))) ⊛ raw (ensured 𝓛 run-fn.ended (run-fn.clauses 𝓛 mem run) (κ₀, (ρ ∷ [], (ν ∷ [], tt))) (for_run l o s rows ix xs δ ε η) tt r)))) (id⊢ 𝓤 _) $ await ! tt $ pick ! (λ r.
+            split ! $ move ! (1 ∷ []) $ use1 𝓛 (some (λ (ws : Unit {0} × (Unit {0} × (List ℕ × (List ℕ × (List (List ℕ) × (Unit {0} × Unit {0})))))). ‵ (lasts run-fn.ended (κ₀, (ρ ∷ [], (ν ∷ [], tt))) (for_run l o s rows ix xs δ ε η) ws) ⊛ raw (fact 𝓤 (RanTo s rows ix xs r ws.1.1.1.1.0 ws.1.1.0 ws.1.1.1.0)))) (id⊢ 𝓤 _) $ pick ! (λ ws.
             split ! $ move ! (1 ∷ []) $ heard ! (RanTo s rows ix xs r ws.1.1.1.1.0 ws.1.1.0 ws.1.1.1.0) (λ e. fsplit ! $ drop ! $ fsplit ! $ drop ! $ fsplit ! $ move ! (1 ∷ []) $ fsplit ! $ fsplit ! $ move ! (1 ∷ []) $ feq_l ! (λ len. move ! (1 ∷ []) $ fsplit ! $
             -- [the rows' last value; the rest; the text's last list; the index's last value; the tokens and the stretch; the lenders' parts; …]
             move ! (4 ∷ []) $ split ! $ move ! (1 ∷ []) $ facts ! S.the_row (Is S.the_row) (shows 𝓛 S.the_row) r (v ∷ []) (λ isr.
             split ! $ move ! (1 ∷ []) $ split ! $ lft_end ! tt $ move ! (1 ∷ []) $ split ! $ lft_end ! tt $ use1 𝓛 (‵ (fdead (ν ∷ [])) ⊛ ‵ (fdead (ν ∷ []))) (𝓛.lfts.dead_dup (ν ∷ [])) $ split ! $
             -- [[†ν]; [†ν]; true; [†ρ]; [κ₀]; the rows' last value; the rest; the text's last list; the index's; the text's lender's part; the rows'; the index's; the template; the store; …]
-            move ! (0 ∷ 10 ∷ 5 ∷ []) $ use3 𝓛 (later (raw (fact 𝓤 (IsV ws.1.1.1.1.0)) ⊛ ‵ (fat full_share ty_v o 0 (machV ws.1.1.1.1.0)))) (local_back Str 99 𝓛 (ν ∷ []) o (array_vals (uint_vals w8)) (Array-Tells u8 (uint_vals w8) (uint_Tells w8) 16) ε ws.1.1.1.1.0) $ await ! tt $ split ! $
+            move ! (0 ∷ 10 ∷ 5 ∷ []) $ use3 𝓛 (later (raw (fact 𝓤 (IsV ws.1.1.1.1.0)) ⊛ ‵ (fat full_share ty_v o 0 (mach_v ws.1.1.1.1.0)))) (local_back Str 99 𝓛 (ν ∷ []) o (array_vals (uint_vals w8)) (Array-Tells u8 (uint_vals w8) (uint_Tells w8) 16) ε ws.1.1.1.1.0) $ await ! tt $ split ! $
             heard ! (IsV ws.1.1.1.1.0) (λ isv'. move ! (3 ∷ 9 ∷ 7 ∷ []) $
-            use3 𝓛 (later (raw (fact 𝓤 (IsI ws.1.1.0)) ⊛ ‵ (fat full_share tyI l 0 (machI ws.1.1.0)))) (local_back u16 5461 𝓛 (ρ ∷ []) l (uint_vals w16) (uint_Tells w16) η ws.1.1.0) $ await ! tt $ split ! $
+            use3 𝓛 (later (raw (fact 𝓤 (IsI ws.1.1.0)) ⊛ ‵ (fat full_share ty_i l 0 (mach_i ws.1.1.0)))) (local_back u16 5461 𝓛 (ρ ∷ []) l (uint_vals w16) (uint_Tells w16) η ws.1.1.0) $ await ! tt $ split ! $
             heard ! (IsI ws.1.1.0) (λ isi'. move ! (2 ∷ 7 ∷ 6 ∷ []) $
             use3 𝓛 (later (‵ (Text ws.1.1.1.0) ⊛ ‵ (flft κ₁ q₁))) (back u8 (length xs₀) bt ot 𝓛 (named 1) κ₁ q₁ γt (ν ∷ []) xs δ ws.1.1.1.0 room-t (len ∙ ex)) $ await ! tt $ split ! $
             -- [the text; [κ₁]; the index; the rows; true; [κ₀]; what is said of the stretch; the template; the store; …]
@@ -463,16 +463,16 @@ module _ {M : Type 1} {𝓤 : Ura M} (𝓛 : Logic 𝓤) (mem : Memory → SProp
             k v r ws.1.1.1.1.0 ws.1.1.0 ws.1.1.1.0 isr isv' isi' e)))))))))))))
 
         -- the read list is lent again for a call of `append`, and is back
-        calls-append : (lg : Log) (ys : List Question) → Is L.the_row lg (machL lg ∷ []) → (lg.at + lg.n ≤ length ys) × (lg.n ≤ 512) → length ys ≡ length ys₀
-            → ((ν : ℕ) (δ : GName) → Opds Go 𝓛 (raw (Append.pre (to-append lg ys ν δ)) ∷ ‵ (Kept Q.the_row (length ys₀) br or κ₂ q₂ γr (ν ∷ []) δ ys) ∷ Γ) En os (v₆ ∷ machL lg ∷ []))
+        calls_append : (lg : Log) (ys : List Question) → Is L.the_row lg (mach_l lg ∷ []) → (lg.at + lg.n ≤ length ys) × (lg.n ≤ 512) → length ys ≡ length ys₀
+            → ((ν : ℕ) (δ : GName) → Opds Go 𝓛 (raw (Append.pre (to_append lg ys ν δ)) ∷ ‵ (Kept Q.the_row (length ys₀) br or κ₂ q₂ γr (ν ∷ []) δ ys) ∷ Γ) En os (v₆ ∷ mach_l lg ∷ []))
             → Seq Go 𝓛 (‵ (Row (listed ys lg)) ∷ ‵ (flft κ₂ q₂) ∷ Γ) (settles En d vunit p)
             → Seq Go 𝓛 (‵ (Row ys) ∷ ‵ (flft κ₂ q₂) ∷ Γ) (runs C Λ En (call #append os d) p)
-        calls-append lg ys is within ey opds k =
+        calls_append lg ys is within ey opds k =
             lft_new ! tt (λ ν. move ! (1 ∷ 2 ∷ []) $
             use2 𝓛 (later (some (λ (δ : GName). ‵ (Slice Q.the_row (length ys₀) br or (named 0) (ν ∷ []) δ ys) ⊛ ‵ (Kept Q.the_row (length ys₀) br or κ₂ q₂ γr (ν ∷ []) δ ys))))
             (lent Q.the_row (length ys₀) br or 𝓛 (named 2) κ₂ q₂ γr (ν ∷ []) ys (named 0) ey) $ await ! tt $ pick ! (λ δ. split ! $
-            move ! (2 ∷ 0 ∷ []) $ use2 𝓛 (raw (Append.pre (to-append lg ys ν δ))) (goes-append lg ys ν δ is within) $
-            calls_at_last ! (fm_of 𝓤 H 𝓛.laws 𝓣) Append known-append (to-append lg ys ν δ) (opds ν δ) (λ v.
+            move ! (2 ∷ 0 ∷ []) $ use2 𝓛 (raw (Append.pre (to_append lg ys ν δ))) (goes_append lg ys ν δ is within) $
+            calls_at_last ! (fm_of 𝓤 H 𝓛.laws 𝓣) Append known_append (to_append lg ys ν δ) (opds ν δ) (λ v.
             use1 𝓛 (later (some (λ (r : Unit {0}). ((‵ (flft (ν ∷ []) full_share) ⊛ ‵ ftrue) ⊛ ‵ (unit.own_val r (v ∷ []))) ⊛ raw (ensured 𝓛 append.ended (append.clauses 𝓛 mem run) (ν ∷ [], tt) (xr δ ys, (lg, tt)) tt r)))) (id⊢ 𝓤 _) $ await ! tt $ pick ! (λ r.
             split ! $ move ! (1 ∷ []) $ use1 𝓛 (some (λ (ws : List Question × (Unit {0} × Unit {0})). ‵ (lasts append.ended (ν ∷ [], tt) (xr δ ys, (lg, tt)) ws) ⊛ raw (fact 𝓤 (ws.0 ≡ listed ys lg)))) (id⊢ 𝓤 _) $ pick ! (λ ws.
             split ! $ move ! (1 ∷ []) $ heard ! (ws.0 ≡ listed ys lg) (λ e. fsplit ! $ fsplit ! $ move ! (1 ∷ []) $ feq_l ! (λ l.
@@ -483,13 +483,13 @@ module _ {M : Type 1} {𝓤 : Ura M} (𝓛 : Logic 𝓤) (mem : Memory → SProp
 
       module _ (l₀ l₁ l₂ l₃ l₄ l₅ l₆ l₇ l₈ l₉ l₁₀ l₁₁ l₁₂ l₁₃ l₁₄ l₁₅ l₁₆ l₁₇ l₁₈ l₁₉ l₂₀ : ℕ) where
         abbrev En : Env 𝓤 H
-        En = (O'.mir, l₀) ∷ (shared, l₁) ∷ (shared, l₂) ∷ (shared, l₃) ∷ (word, l₄) ∷ (sliceT, l₅) ∷ (sliceR, l₆) ∷ (tyI, l₇) ∷ (ty_v, l₈) ∷ (S'.mir, l₉) ∷ (ty_s, l₁₀) ∷ (ptrI, l₁₁) ∷ (word, l₁₂) ∷ (ty_bool, l₁₃) ∷ (ptrI, l₁₄) ∷ (ptrT, l₁₅) ∷ (slice_ty ptrT, l₁₆) ∷ (ptr_v, l₁₇) ∷ (ty_unit, l₁₈) ∷ (ptrR, l₁₉) ∷ (slice_ty ptrR, l₂₀) ∷ []
+        En = (O'.mir, l₀) ∷ (shared, l₁) ∷ (shared, l₂) ∷ (shared, l₃) ∷ (word, l₄) ∷ (slice_t, l₅) ∷ (slice_r, l₆) ∷ (ty_i, l₇) ∷ (ty_v, l₈) ∷ (S'.mir, l₉) ∷ (ty_s, l₁₀) ∷ (ptr_i, l₁₁) ∷ (word, l₁₂) ∷ (ty_bool, l₁₃) ∷ (ptr_i, l₁₄) ∷ (ptr_t, l₁₅) ∷ (slice_ty ptr_t, l₁₆) ∷ (ptr_v, l₁₇) ∷ (ty_unit, l₁₈) ∷ (ptr_r, l₁₉) ∷ (slice_ty ptr_r, l₂₀) ∷ []
 
         -- the text is xs and the read list ys, and the two arrays, _9, _10, _11 and _12 are as said
         abbrev With : List ℕ → List Question → Item 𝓤 → Item 𝓤 → Item 𝓤 → Item 𝓤 → Item 𝓤 → Item 𝓤 → List (Item 𝓤)
         With xs ys i₇ i₈ i₉ i₁₀ i₁₁ i₁₂ = ‵ (Text xs) ∷ ‵ (flft κ₁ q₁) ∷ ‵ Tm ∷ ‵ St ∷ ‵ (flft κ₀ q₀) ∷ i₇ ∷ i₈ ∷ ‵ (Row ys) ∷ ‵ (flft κ₂ q₂) ∷ ‵ Sc
-            ∷ ‵ (froom (slice_ty ptrR) l₂₀ 0) ∷ ‵ (fdies (slice_ty ptrR) l₂₀) ∷ ‵ (froom ptrR l₁₉ 0) ∷ ‵ (fdies ptrR l₁₉) ∷ ‵ (froom ty_unit l₁₈ 0) ∷ ‵ (fdies ty_unit l₁₈) ∷ ‵ (froom ptr_v l₁₇ 0) ∷ ‵ (fdies ptr_v l₁₇) ∷ ‵ (froom (slice_ty ptrT) l₁₆ 0) ∷ ‵ (fdies (slice_ty ptrT) l₁₆) ∷ ‵ (froom ptrT l₁₅ 0) ∷ ‵ (fdies ptrT l₁₅) ∷ ‵ (froom ptrI l₁₄ 0) ∷ ‵ (fdies ptrI l₁₄) ∷ ‵ (froom ty_bool l₁₃ 0) ∷ ‵ (fdies ty_bool l₁₃) ∷ i₁₂ ∷ ‵ (fdies word l₁₂) ∷ i₁₁ ∷ ‵ (fdies ptrI l₁₁)
-            ∷ i₁₀ ∷ ‵ (fdies ty_s l₁₀) ∷ i₉ ∷ ‵ (fdies S'.mir l₉) ∷ ‵ (fdies ty_v l₈) ∷ ‵ (fdies tyI l₇) ∷ ‵ (fat full_share sliceR l₆ 0 v₆) ∷ ‵ (fdies sliceR l₆) ∷ ‵ (fat full_share sliceT l₅ 0 v₅) ∷ ‵ (fdies sliceT l₅) ∷ ‵ (fat full_share word l₄ 0 v₄) ∷ ‵ (fdies word l₄) ∷ ‵ (fat full_share shared l₃ 0 v₃) ∷ ‵ (fdies shared l₃) ∷ ‵ (fat full_share shared l₂ 0 v₂) ∷ ‵ (fdies shared l₂) ∷ ‵ (fat full_share shared l₁ 0 v₁) ∷ ‵ (fdies shared l₁) ∷ ‵ (froom O'.mir l₀ 0) ∷ ‵ (fdies O'.mir l₀) ∷ []
+            ∷ ‵ (froom (slice_ty ptr_r) l₂₀ 0) ∷ ‵ (fdies (slice_ty ptr_r) l₂₀) ∷ ‵ (froom ptr_r l₁₉ 0) ∷ ‵ (fdies ptr_r l₁₉) ∷ ‵ (froom ty_unit l₁₈ 0) ∷ ‵ (fdies ty_unit l₁₈) ∷ ‵ (froom ptr_v l₁₇ 0) ∷ ‵ (fdies ptr_v l₁₇) ∷ ‵ (froom (slice_ty ptr_t) l₁₆ 0) ∷ ‵ (fdies (slice_ty ptr_t) l₁₆) ∷ ‵ (froom ptr_t l₁₅ 0) ∷ ‵ (fdies ptr_t l₁₅) ∷ ‵ (froom ptr_i l₁₄ 0) ∷ ‵ (fdies ptr_i l₁₄) ∷ ‵ (froom ty_bool l₁₃ 0) ∷ ‵ (fdies ty_bool l₁₃) ∷ i₁₂ ∷ ‵ (fdies word l₁₂) ∷ i₁₁ ∷ ‵ (fdies ptr_i l₁₁)
+            ∷ i₁₀ ∷ ‵ (fdies ty_s l₁₀) ∷ i₉ ∷ ‵ (fdies S'.mir l₉) ∷ ‵ (fdies ty_v l₈) ∷ ‵ (fdies ty_i l₇) ∷ ‵ (fat full_share slice_r l₆ 0 v₆) ∷ ‵ (fdies slice_r l₆) ∷ ‵ (fat full_share slice_t l₅ 0 v₅) ∷ ‵ (fdies slice_t l₅) ∷ ‵ (fat full_share word l₄ 0 v₄) ∷ ‵ (fdies word l₄) ∷ ‵ (fat full_share shared l₃ 0 v₃) ∷ ‵ (fdies shared l₃) ∷ ‵ (fat full_share shared l₂ 0 v₂) ∷ ‵ (fdies shared l₂) ∷ ‵ (fat full_share shared l₁ 0 v₁) ∷ ‵ (fdies shared l₁) ∷ ‵ (froom O'.mir l₀ 0) ∷ ‵ (fdies O'.mir l₀) ∷ []
 
         -- the stretch, the rows of SV, the index, the text and the read list
         abbrev Y : Type 0
@@ -502,7 +502,7 @@ module _ {M : Type 1} {𝓤 : Ura M} (𝓛 : Logic 𝓤) (mem : Memory → SProp
         Here y = At y × IsS y.0 × IsV y.1.0 × IsI y.1.1.0
 
         abbrev I : Y → List (Item 𝓤)
-        I y = raw (fact 𝓤 (Here y)) ∷ With y.1.1.1.0 y.1.1.1.1 (‵ (fat full_share tyI l₇ 0 (machI y.1.1.0))) (‵ (fat full_share ty_v l₈ 0 (machV y.1.0))) (‵ (fat full_share S'.mir l₉ 0 (machS y.0))) (‵ (froom ty_s l₁₀ 0)) (‵ (froom ptrI l₁₁ 0)) (‵ (froom word l₁₂ 0))
+        I y = raw (fact 𝓤 (Here y)) ∷ With y.1.1.1.0 y.1.1.1.1 (‵ (fat full_share ty_i l₇ 0 (mach_i y.1.1.0))) (‵ (fat full_share ty_v l₈ 0 (mach_v y.1.0))) (‵ (fat full_share S'.mir l₉ 0 (mach_s y.0))) (‵ (froom ty_s l₁₀ 0)) (‵ (froom ptr_i l₁₁ 0)) (‵ (froom word l₁₂ 0))
 
         abbrev Less : Y → Y → Type 0
         Less y' y = left_of y'.0 < left_of y.0
@@ -515,74 +515,74 @@ module _ {M : Type 1} {𝓤 : Ura M} (𝓛 : Logic 𝓤) (mem : Memory → SProp
         turn (s, (rows, (ix, (xs, ys)))) = heard ! (Here (s, (rows, (ix, (xs, ys))))) (λ here. let at = here.0 in let is = here.1 in
             assigns ! (of_opd ! (load ! (from ! (fld ! refl (stop !))) (look_in ! 32 (sub ! 0 refl (whole !))))) (from ! (stop !)) (init ! 24 refl (tt, tt)) $
             tests ! (load ! (from ! (stop !)) (look ! 24 refl))
-            (λ held. let go = held-true s.more held in
+            (λ held. let go = held_true s.more held in
             assigns ! (addr ! (from ! (stop !))) (from ! (stop !)) (init ! 22 refl (tt, tt)) $
             assigns ! (addr ! (from ! (fld ! refl (hop ! (look_in ! 38 (sub ! 0 refl (whole !))) (stop !))))) (from ! (stop !)) (init ! 20 refl (tt, tt)) $
             assigns ! (agg ! (and_then ! (load ! (from ! (stop !)) (look ! 20 refl)) (and_then ! (load ! (from ! (fld ! refl (stop !))) (look_in ! 38 (sub ! 1 refl (whole !)))) (no_more !)))) (from ! (stop !)) (init ! 18 refl (tt, (tt, (record { fits = room-t.0 }, tt)))) $
             assigns ! (addr ! (from ! (stop !))) (from ! (stop !)) (init ! 16 refl (tt, tt)) $
-            calls-run l₇ l₈ s rows ix xs is here.2 here.3 at.text_same (run-ready tm.now sc.now st.now n xs₀ ys₀ s rows ix xs ys at go)
+            calls_run l₇ l₈ s rows ix xs is here.2 here.3 at.text_same (run_ready tm.now sc.now st.now n xs₀ ys₀ s rows ix xs ys at go)
             (λ ν ρ δ ε η. and_then ! (load ! (from ! (stop !)) (look ! 45 refl)) (and_then ! (load ! (from ! (stop !)) (look ! 41 refl)) (and_then ! (load ! (from ! (stop !)) (look ! 21 refl)) (and_then ! (load ! (from ! (stop !)) (look ! 17 refl)) (and_then ! (load ! (from ! (stop !)) (look ! 15 refl)) (and_then ! (load ! (from ! (stop !)) (look ! 31 refl)) (no_more !))))))) (λ v r rows' ix' xs' isr isv' isi' ran.
-            land ! (from ! (stop !)) (store ! 32 refl (wtS r v isr)) $ rewrite ! 32 (λ (u : Val). ‵ (fat full_share S'.mir l₉ 0 u)) (is-mach r v isr) refl $
+            land ! (from ! (stop !)) (store ! 32 refl (wt_s r v isr)) $ rewrite ! 32 (λ (u : Val). ‵ (fat full_share S'.mir l₉ 0 u)) (is_mach r v isr) refl $
             assigns ! (addr ! (from ! (fld ! refl (hop ! (look_in ! 36 (sub ! 0 refl (whole !))) (stop !))))) (from ! (stop !)) (init ! 12 refl (tt, tt)) $
             assigns ! (agg ! (and_then ! (load ! (from ! (stop !)) (look ! 12 refl)) (and_then ! (load ! (from ! (fld ! refl (stop !))) (look_in ! 36 (sub ! 1 refl (whole !)))) (no_more !)))) (from ! (stop !)) (init ! 10 refl (tt, (tt, (record { fits = room-r.0 }, tt)))) $
-            move ! (7 ∷ 8 ∷ []) $ calls-append r.log ys (is-log r (at-mach r v isr)) (log-fits tm.now sc.now st.now n xs₀ ys₀ s rows ix xs ys at go xs' rows' r ran.0) at.reads_same
+            move ! (7 ∷ 8 ∷ []) $ calls_append r.log ys (is_log r (at_mach r v isr)) (log_fits tm.now sc.now st.now n xs₀ ys₀ s rows ix xs ys at go xs' rows' r ran.0) at.reads_same
             (λ ν δ. and_then ! (load ! (from ! (stop !)) (look ! 10 refl)) (and_then ! (load ! (from ! (fld ! refl (stop !))) (look_in ! 32 (sub ! 1 refl (whole !)))) (no_more !)))
             (land_last ! (from ! (stop !)) (init ! 14 refl (tt, tt)) $ forget ! 10 refl $ forget ! 12 refl $ forget ! 14 refl $ forget ! 16 refl $ forget ! 18 refl $ forget ! 20 refl $ forget ! 22 refl $ forget ! 24 refl $ move ! (2 ∷ 3 ∷ 4 ∷ 5 ∷ 6 ∷ 7 ∷ 8 ∷ 0 ∷ 1 ∷ []) $
-            use0 𝓛 (raw (fact 𝓤 (Here (r, (rows', (ix', (xs', listed ys r.log))))))) (fact_i 𝓤 _ (emp 𝓤) (goes_on tm.now sc.now st.now n xs₀ ys₀ s rows ix xs ys at go xs' rows' r ran.0 ix' ran.1, at-mach r v isr, isv', isi')) $
+            use0 𝓛 (raw (fact 𝓤 (Here (r, (rows', (ix', (xs', listed ys r.log))))))) (fact_i 𝓤 _ (emp 𝓤) (goes_on tm.now sc.now st.now n xs₀ ys₀ s rows ix xs ys at go xs' rows' r ran.0 ix' ran.1, at_mach r v isr, isv', isi')) $
             again ! Less I (s, (rows, (ix, (xs, ys)))) (r, (rows', (ix', (xs', listed ys r.log)))) (falls tm.now sc.now st.now n xs₀ ys₀ s rows ix xs ys at go xs' rows' r ran.0))))
             (λ failed. exec ! C Λ En code-mir.t-8 (at_ret En Post') $
-            assigns ! (of_opd ! (load ! (from ! (fld ! refl (stop !))) (look_in ! 32 (sub ! 2 refl (whole !))))) (from ! (stop !)) (init ! 48 refl (wtO s is)) $ returns ! (look ! 48 refl) $
+            assigns ! (of_opd ! (load ! (from ! (fld ! refl (stop !))) (look_in ! 32 (sub ! 2 refl (whole !))))) (from ! (stop !)) (init ! 48 refl (wt_o s is)) $ returns ! (look ! 48 refl) $
             forget ! 5 refl $ forget ! 6 refl $ forget ! 24 refl $ forget ! 32 refl $ forget ! 36 refl $ forget ! 38 refl $ forget ! 40 refl $ forget ! 42 refl $ forget ! 44 refl $ forget ! 46 refl $ forget ! 48 refl $
             move ! (48 ∷ 49 ∷ []) $ free1 ! $ move ! (46 ∷ 47 ∷ []) $ free1 ! $ move ! (44 ∷ 45 ∷ []) $ free1 ! $ move ! (42 ∷ 43 ∷ []) $ free1 ! $ move ! (40 ∷ 41 ∷ []) $ free1 ! $ move ! (38 ∷ 39 ∷ []) $ free1 ! $ move ! (36 ∷ 37 ∷ []) $ free1 ! $ move ! (5 ∷ 35 ∷ []) $ free1 ! $ move ! (5 ∷ 33 ∷ []) $ free1 ! $ move ! (30 ∷ 31 ∷ []) $ free1 ! $ move ! (28 ∷ 29 ∷ []) $ free1 ! $ move ! (26 ∷ 27 ∷ []) $ free1 ! $ move ! (24 ∷ 25 ∷ []) $ free1 ! $ move ! (22 ∷ 23 ∷ []) $ free1 ! $ move ! (20 ∷ 21 ∷ []) $ free1 ! $ move ! (18 ∷ 19 ∷ []) $ free1 ! $ move ! (16 ∷ 17 ∷ []) $ free1 ! $ move ! (14 ∷ 15 ∷ []) $ free1 ! $ move ! (12 ∷ 13 ∷ []) $ free1 ! $ move ! (10 ∷ 11 ∷ []) $ free1 ! $ move ! (8 ∷ 9 ∷ []) $ free1 ! $ free0 ! $
-            by ! (exits s xs ys is at.text_same at.reads_same (ended tm.now sc.now st.now n xs₀ ys₀ s rows ix xs ys at (held-false s.more failed)))))
+            by ! (exits s xs ys is at.text_same at.reads_same (ended tm.now sc.now st.now n xs₀ ys₀ s rows ix xs ys at (held_false s.more failed)))))
 
         looped : (y : Y) → ent 𝓤 (⋆ 𝓛 (I y)) (Wp 𝓤 H C Λ En (loop code-mir.turn-1) (post 𝓤 H End))
         looped y = loop_rule 𝓤 H 𝓛.laws 𝓣 Less (InvImage.wf (λ (z : Y). left_of z.0) lt-wf_rel.wf) En code-mir.turn-1 (post 𝓤 H End) (λ z. ⋆ 𝓛 (I z)) (λ z. (turn z).prf) y
 
-        begun : Sq 𝓛 (With xs₀ ys₀ (‵ (froom tyI l₇ 0)) (‵ (froom ty_v l₈ 0)) (‵ (froom S'.mir l₉ 0)) (‵ (froom ty_s l₁₀ 0)) (‵ (froom ptrI l₁₁ 0)) (‵ (froom word l₁₂ 0))) (runs C Λ En code-mir.t-1 (at_ret En Post'))
+        begun : Sq 𝓛 (With xs₀ ys₀ (‵ (froom ty_i l₇ 0)) (‵ (froom ty_v l₈ 0)) (‵ (froom S'.mir l₉ 0)) (‵ (froom ty_s l₁₀ 0)) (‵ (froom ptr_i l₁₁ 0)) (‵ (froom word l₁₂ 0))) (runs C Λ En code-mir.t-1 (at_ret En Post'))
         begun =
-            assigns ! (rep ! 5461 (lit ! tt)) (from ! (stop !)) (init ! 5 refl wtI) $ rewrite ! 5 (λ (u : Val). ‵ (fat full_share tyI l₇ 0 u)) (index-val ∙ at-mach-i index₀ indexVal is-index) refl $
-            assigns ! (rep ! 16 (lit ! tt)) (from ! (stop !)) (init ! 30 refl wtR) $ rewrite ! 30 (λ (u : Val). ‵ (fat full_share ty_s l₁₀ 0 u)) row-val refl $
-            assigns ! (rep ! 99 (load ! (from ! (stop !)) (look ! 30 refl))) (from ! (stop !)) (init ! 6 refl wtV) $ rewrite ! 6 (λ (u : Val). ‵ (fat full_share ty_v l₈ 0 u)) (rows-val ∙ at-mach-v rows₀ rowsVal is-rows) refl $
+            assigns ! (rep ! 5461 (lit ! tt)) (from ! (stop !)) (init ! 5 refl wt_i) $ rewrite ! 5 (λ (u : Val). ‵ (fat full_share ty_i l₇ 0 u)) (index_val_law ∙ at_mach_i index₀ index_val is_index) refl $
+            assigns ! (rep ! 16 (lit ! tt)) (from ! (stop !)) (init ! 30 refl wt_r) $ rewrite ! 30 (λ (u : Val). ‵ (fat full_share ty_s l₁₀ 0 u)) row_value refl $
+            assigns ! (rep ! 99 (load ! (from ! (stop !)) (look ! 30 refl))) (from ! (stop !)) (init ! 6 refl wt_v) $ rewrite ! 6 (λ (u : Val). ‵ (fat full_share ty_v l₈ 0 u)) (rows_val_law ∙ at_mach_v rows₀ rows_val is_rows) refl $
             assigns ! (addr ! (from ! (stop !))) (from ! (stop !)) (init ! 28 refl (tt, tt)) $
             assigns ! (of_opd ! (load ! (from ! (fld ! refl (stop !))) (look_in ! 36 (sub ! 1 refl (whole !))))) (from ! (stop !)) (init ! 26 refl (tt, record { fits = room-r.0 })) $
-            move ! (2 ∷ 9 ∷ 3 ∷ 4 ∷ 5 ∷ []) $ calls-begin l₇
+            move ! (2 ∷ 9 ∷ 3 ∷ 4 ∷ 5 ∷ []) $ calls_begin l₇
             (λ ν η. and_then ! (load ! (from ! (stop !)) (look ! 46 refl)) (and_then ! (load ! (from ! (stop !)) (look ! 44 refl)) (and_then ! (load ! (from ! (stop !)) (look ! 42 refl)) (and_then ! (load ! (from ! (stop !)) (look ! 40 refl)) (and_then ! (load ! (from ! (stop !)) (look ! 28 refl)) (and_then ! (load ! (from ! (stop !)) (look ! 26 refl)) (no_more !))))))) (λ v r ix isr isi said.
-            land ! (from ! (stop !)) (init ! 32 refl (wtS r v isr)) $ rewrite ! 32 (λ (u : Val). ‵ (fat full_share S'.mir l₉ 0 u)) (is-mach r v isr) refl $ forget ! 30 refl $ forget ! 28 refl $ forget ! 26 refl $
+            land ! (from ! (stop !)) (init ! 32 refl (wt_s r v isr)) $ rewrite ! 32 (λ (u : Val). ‵ (fat full_share S'.mir l₉ 0 u)) (is_mach r v isr) refl $ forget ! 30 refl $ forget ! 28 refl $ forget ! 26 refl $
             move ! (5 ∷ 6 ∷ 0 ∷ 2 ∷ 3 ∷ 4 ∷ 7 ∷ 8 ∷ 9 ∷ 1 ∷ []) $
-            use0 𝓛 (raw (fact 𝓤 (Here (r, (rows₀, (ix, (xs₀, ys₀))))))) (fact_i 𝓤 _ (emp 𝓤) (begins tm.now sc.now st.now n xs₀ ys₀ ix r rows₀ rows-99 isi.1.0.1 said, at-mach r v isr, is-rows-mach, isi)) $
+            use0 𝓛 (raw (fact 𝓤 (Here (r, (rows₀, (ix, (xs₀, ys₀))))))) (fact_i 𝓤 _ (emp 𝓤) (begins tm.now sc.now st.now n xs₀ ys₀ ix r rows₀ rows_99 isi.1.0.1 said, at_mach r v isr, is_rows_mach, isi)) $
             by ! (looped (r, (rows₀, (ix, (xs₀, ys₀))))))
 
     enters : (𝓣 : Tables 𝓤 H) → Triple 𝓤 (𝓣.C #begin) Begin → Triple 𝓤 (𝓣.C #run) Run → Triple 𝓤 (𝓣.C #append) Append
         → ent 𝓤 (on_entry 𝓛 f.signature (κ₀, (κ₁, (κ₂, tt))) (q₀, (q₁, (q₂, tt))) a vals) (WpFn 𝓤 H 𝓣.C 𝓣.Λ code.function (v₁ ∷ v₂ ∷ v₃ ∷ v₄ ∷ v₅ ∷ v₆ ∷ []) Post')
-    enters 𝓣 known-begin known-run known-append =
+    enters 𝓣 known_begin known_run known_append =
         qed 𝓛 ((‵ (flft κ₀ q₀) ⊛ ‵ (flft κ₁ q₁) ⊛ ‵ (flft κ₂ q₂) ⊛ ‵ ftrue) ∷ ‵ (owns (ShrSlice (named 0) κ₀ u8 ∷ ShrSlice (named 0) κ₀ u8 ∷ ShrSlice (named 0) κ₀ u8 ∷ usize ∷ MutSlice (named 1) κ₁ u8 ∷ MutSlice (named 2) κ₂ Q.the_row ∷ []) a vals) ∷ []) ∵ enter ! 𝓣.C 𝓣.Λ code.function (v₁ ∷ v₂ ∷ v₃ ∷ v₄ ∷ v₅ ∷ v₆ ∷ []) _ $
         alloc1 ! (λ l₀. alloc1 ! (λ l₁. alloc1 ! (λ l₂. alloc1 ! (λ l₃. alloc1 ! (λ l₄. alloc1 ! (λ l₅. alloc1 ! (λ l₆. alloc1 ! (λ l₇. alloc1 ! (λ l₈. alloc1 ! (λ l₉. alloc1 ! (λ l₁₀. alloc1 ! (λ l₁₁. alloc1 ! (λ l₁₂. alloc1 ! (λ l₁₃. alloc1 ! (λ l₁₄. alloc1 ! (λ l₁₅. alloc1 ! (λ l₁₆. alloc1 ! (λ l₁₇. alloc1 ! (λ l₁₈. alloc1 ! (λ l₁₉. alloc1 ! (λ l₂₀. alloc0 ! $ params1 ! $
         pass1 ! (init ! 38 refl (tt, (tt, (record { fits = room-tm.0 }, tt)))) $ pass1 ! (init ! 36 refl (tt, (tt, (record { fits = room_Sc.0 }, tt)))) $ pass1 ! (init ! 34 refl (tt, (tt, (record { fits = room-st.0 }, tt)))) $ pass1 ! (init ! 32 refl (tt, record { fits = n-fits })) $
         pass1 ! (init ! 30 refl (tt, (tt, (record { fits = room-t.0 }, tt)))) $ pass1 ! (init ! 28 refl (tt, (tt, (record { fits = room-r.0 }, tt)))) $ pass0 ! $
         move ! (43 ∷ []) $ fsplit ! $ move ! (1 ∷ []) $ fsplit ! $ move ! (1 ∷ []) $ fsplit ! $ move ! (1 ∷ []) $ fsplit ! $ move ! (1 ∷ []) $ fsplit ! $ move ! (1 ∷ []) $ fsplit ! $ move ! (49 ∷ []) $ split ! $ move ! (1 ∷ []) $ split ! $ move ! (1 ∷ []) $ split ! $
         -- [[κ₂]; true; [κ₁]; [κ₀]; the read list; true; the text; the length; the store; the section; the template; _20; …]
-        keep ! (6 ∷ 2 ∷ 10 ∷ 8 ∷ 3 ∷ 37 ∷ 35 ∷ 4 ∷ 0 ∷ 9 ∷ 11 ∷ 12 ∷ 13 ∷ 14 ∷ 15 ∷ 16 ∷ 17 ∷ 18 ∷ 19 ∷ 20 ∷ 21 ∷ 22 ∷ 23 ∷ 24 ∷ 25 ∷ 26 ∷ 27 ∷ 28 ∷ 29 ∷ 30 ∷ 31 ∷ 32 ∷ 33 ∷ 34 ∷ 36 ∷ 38 ∷ 39 ∷ 40 ∷ 41 ∷ 42 ∷ 43 ∷ 44 ∷ 45 ∷ 46 ∷ 47 ∷ 48 ∷ 49 ∷ 50 ∷ 51 ∷ 52 ∷ []) $ begun 𝓣 known-begin known-run known-append l₀ l₁ l₂ l₃ l₄ l₅ l₆ l₇ l₈ l₉ l₁₀ l₁₁ l₁₂ l₁₃ l₁₄ l₁₅ l₁₆ l₁₇ l₁₈ l₁₉ l₂₀)))))))))))))))))))))
+        keep ! (6 ∷ 2 ∷ 10 ∷ 8 ∷ 3 ∷ 37 ∷ 35 ∷ 4 ∷ 0 ∷ 9 ∷ 11 ∷ 12 ∷ 13 ∷ 14 ∷ 15 ∷ 16 ∷ 17 ∷ 18 ∷ 19 ∷ 20 ∷ 21 ∷ 22 ∷ 23 ∷ 24 ∷ 25 ∷ 26 ∷ 27 ∷ 28 ∷ 29 ∷ 30 ∷ 31 ∷ 32 ∷ 33 ∷ 34 ∷ 36 ∷ 38 ∷ 39 ∷ 40 ∷ 41 ∷ 42 ∷ 43 ∷ 44 ∷ 45 ∷ 46 ∷ 47 ∷ 48 ∷ 49 ∷ 50 ∷ 51 ∷ 52 ∷ []) $ begun 𝓣 known_begin known_run known_append l₀ l₁ l₂ l₃ l₄ l₅ l₆ l₇ l₈ l₉ l₁₀ l₁₁ l₁₂ l₁₃ l₁₄ l₁₅ l₁₆ l₁₇ l₁₈ l₁₉ l₂₀)))))))))))))))))))))
 
-  module _ (𝓣 : Tables 𝓤 H) (known-begin : Triple 𝓤 (𝓣.C #begin) Begin) (known-run : Triple 𝓤 (𝓣.C #run) Run) (known-append : Triple 𝓤 (𝓣.C #append) Append) where
-    report-walks : Walks 𝓛 f.ended stayed (WpFn 𝓤 H 𝓣.C 𝓣.Λ code.function) (f.clauses 𝓛 mem run)
-    report-walks = walked 𝓛 f.ended stayed (f.clauses 𝓛 mem run) (WpFn 𝓤 H 𝓣.C 𝓣.Λ code.function)
+  module _ (𝓣 : Tables 𝓤 H) (known_begin : Triple 𝓤 (𝓣.C #begin) Begin) (known_run : Triple 𝓤 (𝓣.C #run) Run) (known_append : Triple 𝓤 (𝓣.C #append) Append) where
+    report_walks : Walks 𝓛 f.ended stayed (WpFn 𝓤 H 𝓣.C 𝓣.Λ code.function) (f.clauses 𝓛 mem run)
+    report_walks = walked 𝓛 f.ended stayed (f.clauses 𝓛 mem run) (WpFn 𝓤 H 𝓣.C 𝓣.Λ code.function)
         (λ κs. (shr_slice_vals, (shr_slice_vals, (shr_slice_vals, (uint_vals w64, (shr_slice_vals, (shr_slice_vals, tt)))))))
         (λ κs. (shr_slice_Tells (named 0) κs.0 u8, (shr_slice_Tells (named 0) κs.0 u8, (shr_slice_Tells (named 0) κs.0 u8, (uint_Tells w64, (mut_slice_Tells (named 1) κs.1.0 u8, (mut_slice_Tells (named 2) κs.1.1.0 Q.the_row, tt)))))))
         (λ κs qs bounds a g are. via 𝓤 _ (fst∗ 𝓤 _ (emp 𝓤))
         (enters κs.0 κs.1.0 κs.1.1.0 qs.0 qs.1.0 qs.1.1.0 a.0 a.1.0 a.1.1.0 a.1.1.1.0 a.1.1.1.1.0.ref_ptr.0 a.1.1.1.1.0.ref_ptr.1 a.1.1.1.1.0.ghost_name a.1.1.1.1.0.now a.1.1.1.1.1.0.ref_ptr.0 a.1.1.1.1.1.0.ref_ptr.1 a.1.1.1.1.1.0.ghost_name a.1.1.1.1.1.0.now
-        are.0.0.1 are.1.0.0.1 are.1.1.0.0.1 are.1.1.1.0.1 are.1.1.1.1.0.0.1 are.1.1.1.1.1.0.0.1 𝓣 known-begin known-run known-append))
+        are.0.0.1 are.1.0.0.1 are.1.1.0.0.1 are.1.1.1.0.1 are.1.1.1.1.0.0.1 are.1.1.1.1.1.0.0.1 𝓣 known_begin known_run known_append))
 
-    report-meets : Meets 𝓛 f.signature (WpFn 𝓤 H 𝓣.C 𝓣.Λ code.function) (f.spec 𝓛 mem run)
-    report-meets = walk_Meets 𝓛 f.ended stayed (Goes-none_slice 𝓛 3 (0 ∷ []) tt (plain (λ _. u8)) yes, (Goes-none_slice 𝓛 3 (0 ∷ []) tt (plain (λ _. u8)) yes, (Goes-none_slice 𝓛 3 (0 ∷ []) tt (plain (λ _. u8)) yes, (Goes-none 𝓛 3 (λ _. usize) yes (λ κs x f. refl), (Goes-slice 𝓛 3 1 tt (plain (λ _. u8)), (Goes-slice 𝓛 3 2 tt (plain (λ _. Q.the_row)), tt)))))) (f.clauses 𝓛 mem run)
-        (WpFn 𝓤 H 𝓣.C 𝓣.Λ code.function) (WpFn-mono 𝓤 H 𝓛.laws 𝓣 code.function) report-walks
+    report_meets : Meets 𝓛 f.signature (WpFn 𝓤 H 𝓣.C 𝓣.Λ code.function) (f.spec 𝓛 mem run)
+    report_meets = walk_Meets 𝓛 f.ended stayed (Goes-none_slice 𝓛 3 (0 ∷ []) tt (plain (λ _. u8)) yes, (Goes-none_slice 𝓛 3 (0 ∷ []) tt (plain (λ _. u8)) yes, (Goes-none_slice 𝓛 3 (0 ∷ []) tt (plain (λ _. u8)) yes, (Goes-none 𝓛 3 (λ _. usize) yes (λ κs x f. refl), (Goes-slice 𝓛 3 1 tt (plain (λ _. u8)), (Goes-slice 𝓛 3 2 tt (plain (λ _. Q.the_row)), tt)))))) (f.clauses 𝓛 mem run)
+        (WpFn 𝓤 H 𝓣.C 𝓣.Λ code.function) (WpFn-mono 𝓤 H 𝓛.laws 𝓣 code.function) report_walks
 
 pub report-spec : {M : Type 1} → stated.statement M
 unfolding code.routine tables_of
 report-spec 𝓤 𝓛 𝓜 𝓡 =
     entered 𝓤 𝓛.H (triple_of 𝓛 f.signature (f.spec 𝓛 𝓜.mem 𝓡.run))
     (tables 𝓤 𝓛.H 𝓜 𝓡 code.env).C (tables 𝓤 𝓛.H 𝓜 𝓡 code.env).Λ #report code.function (code.unfolded 𝓤 𝓛.H 𝓜 𝓡)
-    (report-meets 𝓛 𝓜.mem 𝓡.run (tables_of 𝓤 𝓛.H 𝓜 (tables 𝓤 𝓛.H 𝓜 𝓡 code.env))
+    (report_meets 𝓛 𝓜.mem 𝓡.run (tables_of 𝓤 𝓛.H 𝓜 (tables 𝓤 𝓛.H 𝓜 𝓡 code.env))
     (cited 𝓤 𝓛.H (Begin 𝓛 𝓜.mem 𝓡.run) 𝓜 𝓡 code.env #begin begin-def.routine code.calls-report::start::begin (begin-thm.met 𝓤 𝓛 𝓜 𝓡))
     (cited 𝓤 𝓛.H (Run 𝓛 𝓜.mem 𝓡.run) 𝓜 𝓡 code.env #run run-def.routine code.calls-report::stretch::run (run-thm.met 𝓤 𝓛 𝓜 𝓡))
     (cited 𝓤 𝓛.H (Append 𝓛 𝓜.mem 𝓡.run) 𝓜 𝓡 code.env #append append-def.routine code.calls-report::reads::append (append-thm.met 𝓤 𝓛 𝓜 𝓡)))

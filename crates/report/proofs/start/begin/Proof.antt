@@ -1,4 +1,4 @@
-use Rattle.report.proofs.Beginning.{bad-store, template-refused, may-start}
+use Rattle.report.proofs.Beginning.{bad_store, template_refused, may_start}
 use borrow.Author.Rules.{rules}
 use Rattle.report.proofs.start.begin.Statement.{statement}
 use Rattle.report.proofs.start.begin.Tie as tie
@@ -16,7 +16,7 @@ refused-requires : tie.Need-refused-requires
 refused-requires c κs = search rules
 
 returns : tie.Need-returns
-returns c = bad-store _ _ _ _ _ _ _ _ c.before.before.before.build.ensures _ c.before.enum_told.given.1 c.refused.ensures
+returns c = bad_store _ _ _ _ _ _ _ _ c.before.before.before.build.ensures _ c.before.enum_told.given.1 c.refused.ensures
 
 check-requires : tie.Need-check-requires
 check-requires c κs = search rules
@@ -34,10 +34,10 @@ started-requires : tie.Need-started-requires
 started-requires c κs = search rules
 
 returns-2 : tie.Need-returns-2
-returns-2 c = template-refused _ _ _ _ _ _ _ _ c.before.before.before.before.before.before.before.before.build.ensures _ _ c.before.before.before.before.before.before.count.given.1 (search rules) _ c.before.before.before.before.check.ensures _ _ c.before.before.checked.given.1 c.refused2.ensures
+returns-2 c = template_refused _ _ _ _ _ _ _ _ c.before.before.before.before.before.before.before.before.build.ensures _ _ c.before.before.before.before.before.before.count.given.1 (search rules) _ c.before.before.before.before.check.ensures _ _ c.before.before.checked.given.1 c.refused2.ensures
 
 returns-3 : tie.Need-returns-3
-returns-3 c = may-start _ _ _ _ _ _ _ _ c.before.before.before.before.before.before.before.before.build.ensures _ _ c.before.before.before.before.before.before.count.given.1 (search rules) _ c.before.before.before.before.check.ensures _ c.before.before.checked2.given.1 c.started.ensures
+returns-3 c = may_start _ _ _ _ _ _ _ _ c.before.before.before.before.before.before.before.before.build.ensures _ _ c.before.before.before.before.before.before.count.given.1 (search rules) _ c.before.before.before.before.check.ensures _ c.before.before.checked2.given.1 c.started.ensures
 
 pub begin-spec : {M : Type 1} → statement M
 begin-spec =

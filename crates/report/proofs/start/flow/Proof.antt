@@ -1,4 +1,4 @@
-use Rattle.report.specs.inner.Start.{startFlow}
+use Rattle.report.specs.Inner.Start.{start_flow}
 use borrow.Author.Rules.{rules}
 use Rattle.report.proofs.start.flow.Statement.{statement}
 use Rattle.report.proofs.start.flow.Tie as tie
@@ -7,7 +7,7 @@ new-requires : tie.Need-new-requires
 new-requires c κs = search rules
 
 returns : tie.Need-returns
-unfolding startFlow
+unfolding start_flow
 returns c = rw c.new.ensures
 
 pub flow-spec : {M : Type 1} → statement M

@@ -1,4 +1,4 @@
-use Rattle.report.specs.inner.Start.{nothingSaved}
+use Rattle.report.specs.Inner.Start.{nothing_saved}
 use borrow.Author.Rules.{rules}
 use Rattle.report.proofs.start.nothing.Statement.{statement}
 use Rattle.report.proofs.start.nothing.Tie as tie
@@ -7,7 +7,7 @@ saved-requires : tie.Need-saved-requires
 saved-requires c κs = search rules
 
 returns : tie.Need-returns
-unfolding nothingSaved
+unfolding nothing_saved
 returns c = c.saved.ensures
 
 pub nothing-spec : {M : Type 1} → statement M

@@ -1,4 +1,4 @@
-use Rattle.report.specs.inner.Start.{refusedAt}
+use Rattle.report.specs.Inner.Start.{refused_at}
 use borrow.Author.Rules.{rules}
 use Rattle.report.proofs.start.refused.Statement.{statement}
 use Rattle.report.proofs.start.refused.Tie as tie
@@ -13,7 +13,7 @@ number-requires : tie.Need-number-requires
 number-requires c κs = search rules
 
 returns : tie.Need-returns
-unfolding refusedAt
+unfolding refused_at
 returns c = rw (c.number.ensures, c.before.no-log.ensures, c.before.before.nothing.ensures)
 
 pub refused-spec : {M : Type 1} → statement M

@@ -1,4 +1,4 @@
-use Rattle.report.specs.inner.Start.{startedAt}
+use Rattle.report.specs.Inner.Start.{started_at}
 use borrow.Author.Rules.{rules}
 use Rattle.report.proofs.start.started.Statement.{statement}
 use Rattle.report.proofs.start.started.Tie as tie
@@ -10,7 +10,7 @@ no-log-requires : tie.Need-no-log-requires
 no-log-requires c κs = search rules
 
 returns : tie.Need-returns
-unfolding startedAt
+unfolding started_at
 returns c = rw (c.no-log.ensures, c.before.saved.ensures)
 
 pub started-spec : {M : Type 1} → statement M

@@ -2,116 +2,116 @@
 use mathlib.Core.Path.{◌≡◌, refl, sym}
 use lib.ListN.{length}
 use native.Mathlib.Omega.{arith}
-use Rattle.values.specs.inner.State.{held}
-use Rattle.report.proofs.Stretching.{Going, going_start, asked-fit, run_ends, run-exceeds, run-full, line-ready, asked-next, text-next, run-halts, going_next}
+use Rattle.values.specs.Inner.State.{held}
+use Rattle.report.proofs.Stretching.{Going, going_start, asked_fit, run_ends, run_exceeds, run_full, line_ready, asked_next, text_next, run_halts, going_next}
 use borrow.Author.Rules.{rules}
 use Rattle.report.proofs.stretch.run.Statement.{statement}
 use Rattle.report.proofs.stretch.run.Tie as tie
 
-abbrev invariant-loop : tie.invariant-loop
-invariant-loop template store text₀ strings₀ saved len part end count cells asked places numbers₀ words₀ flow₀ left₀ printed₀ log₀ logged₀ text strings numbers words flow left printed log logged =
+abbrev invariant_loop : tie.invariant_loop
+invariant_loop template store text₀ strings₀ saved len part end count cells asked places numbers₀ words₀ flow₀ left₀ printed₀ log₀ logged₀ text strings numbers words flow left printed log logged =
     Going template store saved strings₀ text₀ (held numbers strings words) flow text log left printed logged
 
-abbrev decreases-loop : tie.decreases-loop
-decreases-loop template store text₀ strings₀ saved len part end count cells asked places numbers₀ words₀ flow₀ left₀ printed₀ log₀ logged₀ text strings numbers words flow left printed log logged =
+abbrev decreases_loop : tie.decreases_loop
+decreases_loop template store text₀ strings₀ saved len part end count cells asked places numbers₀ words₀ flow₀ left₀ printed₀ log₀ logged₀ text strings numbers words flow left printed log logged =
     left
 
-sub_part : tie.Need-overflow-sub-part invariant-loop decreases-loop
+sub_part : tie.Need-overflow-sub-part invariant_loop decreases_loop
 sub_part c = omega arith
 
-part-part-start : tie.Need-slice-bounds-part-start invariant-loop decreases-loop
+part-part-start : tie.Need-slice-bounds-part-start invariant_loop decreases_loop
 part-part-start c = search rules
 
-part-part-end : tie.Need-slice-bounds-part-end invariant-loop decreases-loop
+part-part-end : tie.Need-slice-bounds-part-end invariant_loop decreases_loop
 part-part-end c = c.before.before.before.before.requires.stored
 
-sub-places : tie.Need-overflow-sub-places invariant-loop decreases-loop
+sub-places : tie.Need-overflow-sub-places invariant_loop decreases_loop
 sub-places c = c.before.before.before.before.before.before.before.before.before.requires.asked
 
-loop-holds : tie.Need-loop-init invariant-loop decreases-loop
+loop-holds : tie.Need-loop-init invariant_loop decreases_loop
 loop-holds c = let e : length c.before.before.before.before.before.before.before.before.before.before.before.before.args.s.saved.words ≡ 212 = search (rules, c.before.before.before.before.before.before.before.before.before.before.before.before.well-formed.1.1.1.1.1.0.1.1.1.1.1.0.1.1) in going_start _ _ _ _ _ c.before.before.before.before.before.before.before.before.before.before.before.before.args.s c.before.before.before.before.before.before.before.before.before.before.before.before.requires e
 
-over-requires : tie.Need-over-requires invariant-loop decreases-loop
-over-requires c κs = search (rules, asked-fit)
+over-requires : tie.Need-over-requires invariant_loop decreases_loop
+over-requires c κs = search (rules, asked_fit)
 
-same_length : tie.Need-same-length invariant-loop decreases-loop
+same_length : tie.Need-same-length invariant_loop decreases_loop
 same_length c = c.before.before.before.before.loop.invariant.text_same
 
-returns : tie.Need-returns invariant-loop decreases-loop
+returns : tie.Need-returns invariant_loop decreases_loop
 returns c = (run_ends _ _ _ _ _ c.before.before.before.before.before.before.before.before.before.before.before.before.before.before.before.before.before.args.s c.before.before.before.before.before.before.before.before.before.before.before.before.before.before.before.before.before.requires _ _ _ _ _ _ _ c.before.before.before.before.loop.invariant _ c.before.before.if1.true c.over.ensures, refl)
 
-add-t38 : tie.Need-overflow-add-t38 invariant-loop decreases-loop
-add-t38 c = search (rules, asked-fit)
+add-t38 : tie.Need-overflow-add-t38 invariant_loop decreases_loop
+add-t38 c = search (rules, asked_fit)
 
-full-requires : tie.Need-full-requires invariant-loop decreases-loop
+full-requires : tie.Need-full-requires invariant_loop decreases_loop
 full-requires c κs = tt
 
-same-length-2 : tie.Need-same-length-2 invariant-loop decreases-loop
+same-length-2 : tie.Need-same-length-2 invariant_loop decreases_loop
 same-length-2 c = c.before.before.before.before.before.loop.invariant.text_same
 
-returns-2 : tie.Need-returns-2 invariant-loop decreases-loop
-returns-2 c = (run-full _ _ _ _ _ c.before.before.before.before.before.before.before.before.before.before.before.before.before.before.before.before.before.before.args.s c.before.before.before.before.before.before.before.before.before.before.before.before.before.before.before.before.before.before.requires _ _ _ _ _ _ _ c.before.before.before.before.before.loop.invariant _ _ _ refl c.before.before.if2.true c.full.ensures, refl)
+returns-2 : tie.Need-returns-2 invariant_loop decreases_loop
+returns-2 c = (run_full _ _ _ _ _ c.before.before.before.before.before.before.before.before.before.before.before.before.before.before.before.before.before.before.args.s c.before.before.before.before.before.before.before.before.before.before.before.before.before.before.before.before.before.before.requires _ _ _ _ _ _ _ c.before.before.before.before.before.loop.invariant _ _ _ refl c.before.before.if2.true c.full.ensures, refl)
 
-line-requires : tie.Need-line-requires invariant-loop decreases-loop
-line-requires c κs = line-ready _ _ _ _ _ c.before.before.before.before.before.before.before.before.before.before.before.before.before.before.before.before.before.before.before.before.before.args.s c.before.before.before.before.before.before.before.before.before.before.before.before.before.before.before.before.before.before.before.before.before.requires _ _ _ _ _ _ _ c.before.before.before.before.before.before.before.before.loop.invariant c.before.before.before.before.before.before.before.loop-test.true c.before.before.before.before.before.before.if1.false c.before.before.before.before.before.if2.false
+line-requires : tie.Need-line-requires invariant_loop decreases_loop
+line-requires c κs = line_ready _ _ _ _ _ c.before.before.before.before.before.before.before.before.before.before.before.before.before.before.before.before.before.before.before.before.before.args.s c.before.before.before.before.before.before.before.before.before.before.before.before.before.before.before.before.before.before.before.before.before.requires _ _ _ _ _ _ _ c.before.before.before.before.before.before.before.before.loop.invariant c.before.before.before.before.before.before.before.loop-test.true c.before.before.before.before.before.before.if1.false c.before.before.before.before.before.if2.false
 
-enum_told : tie.Need-enum-told invariant-loop decreases-loop
+enum_told : tie.Need-enum-told invariant_loop decreases_loop
 enum_told c = search rules
 
-enum-told-2 : tie.Need-enum-told-2 invariant-loop decreases-loop
+enum-told-2 : tie.Need-enum-told-2 invariant_loop decreases_loop
 enum-told-2 c = search rules
 
-over-requires-2 : tie.Need-over-requires-2 invariant-loop decreases-loop
-over-requires-2 c κs = let h = asked-next _ _ _ _ _ c.before.before.before.before.before.before.before.before.before.before.before.before.before.before.before.before.before.before.before.before.before.before.before.before.before.before.before.before.args.s c.before.before.before.before.before.before.before.before.before.before.before.before.before.before.before.before.before.before.before.before.before.before.before.before.before.before.before.before.requires _ _ _ _ _ _ _ c.before.before.before.before.before.before.before.before.before.before.before.before.before.before.before.loop.invariant c.before.before.before.before.before.before.before.before.before.before.before.before.before.before.loop-test.true c.before.before.before.before.before.before.before.before.before.before.before.before.before.if1.false c.before.before.before.before.before.before.before.before.before.before.before.before.if2.false _ _ _ _ c.before.before.before.before.before.before.line.ensures in omega (arith, h, c.before.before.before.before.before.before.before.before.before.before.before.before.before.before.before.before.before.before.before.struct_known.given)
+over-requires-2 : tie.Need-over-requires-2 invariant_loop decreases_loop
+over-requires-2 c κs = let h = asked_next _ _ _ _ _ c.before.before.before.before.before.before.before.before.before.before.before.before.before.before.before.before.before.before.before.before.before.before.before.before.before.before.before.before.args.s c.before.before.before.before.before.before.before.before.before.before.before.before.before.before.before.before.before.before.before.before.before.before.before.before.before.before.before.before.requires _ _ _ _ _ _ _ c.before.before.before.before.before.before.before.before.before.before.before.before.before.before.before.loop.invariant c.before.before.before.before.before.before.before.before.before.before.before.before.before.before.loop-test.true c.before.before.before.before.before.before.before.before.before.before.before.before.before.if1.false c.before.before.before.before.before.before.before.before.before.before.before.before.if2.false _ _ _ _ c.before.before.before.before.before.before.line.ensures in omega (arith, h, c.before.before.before.before.before.before.before.before.before.before.before.before.before.before.before.before.before.before.before.struct_known.given)
 
-same-length-3 : tie.Need-same-length-3 invariant-loop decreases-loop
-same-length-3 c = text-next _ _ _ _ _ c.before.before.before.before.before.before.before.before.before.before.before.before.before.before.before.before.before.before.before.before.before.before.before.before.before.before.before.before.before.args.s c.before.before.before.before.before.before.before.before.before.before.before.before.before.before.before.before.before.before.before.before.before.before.before.before.before.before.before.before.before.requires _ _ _ _ _ _ _ c.before.before.before.before.before.before.before.before.before.before.before.before.before.before.before.before.loop.invariant c.before.before.before.before.before.before.before.before.before.before.before.before.before.before.before.loop-test.true c.before.before.before.before.before.before.before.before.before.before.before.before.before.before.if1.false c.before.before.before.before.before.before.before.before.before.before.before.before.before.if2.false _ _ _ _ c.before.before.before.before.before.before.before.line.ensures
+same-length-3 : tie.Need-same-length-3 invariant_loop decreases_loop
+same-length-3 c = text_next _ _ _ _ _ c.before.before.before.before.before.before.before.before.before.before.before.before.before.before.before.before.before.before.before.before.before.before.before.before.before.before.before.before.before.args.s c.before.before.before.before.before.before.before.before.before.before.before.before.before.before.before.before.before.before.before.before.before.before.before.before.before.before.before.before.before.requires _ _ _ _ _ _ _ c.before.before.before.before.before.before.before.before.before.before.before.before.before.before.before.before.loop.invariant c.before.before.before.before.before.before.before.before.before.before.before.before.before.before.before.loop-test.true c.before.before.before.before.before.before.before.before.before.before.before.before.before.before.if1.false c.before.before.before.before.before.before.before.before.before.before.before.before.before.if2.false _ _ _ _ c.before.before.before.before.before.before.before.line.ensures
 
-returns-3 : tie.Need-returns-3 invariant-loop decreases-loop
-returns-3 c = (run-halts _ _ _ _ _ c.before.before.before.before.before.before.before.before.before.before.before.before.before.before.before.before.before.before.before.before.before.before.before.before.before.before.before.before.before.args.s c.before.before.before.before.before.before.before.before.before.before.before.before.before.before.before.before.before.before.before.before.before.before.before.before.before.before.before.before.before.requires _ _ _ _ _ _ _ c.before.before.before.before.before.before.before.before.before.before.before.before.before.before.before.before.loop.invariant c.before.before.before.before.before.before.before.before.before.before.before.before.before.before.before.loop-test.true c.before.before.before.before.before.before.before.before.before.before.before.before.before.before.if1.false c.before.before.before.before.before.before.before.before.before.before.before.before.before.if2.false _ _ _ _ c.before.before.before.before.before.before.before.line.ensures _ _ c.before.before.enum-told2.given.1 _ c.over2.ensures, refl)
+returns-3 : tie.Need-returns-3 invariant_loop decreases_loop
+returns-3 c = (run_halts _ _ _ _ _ c.before.before.before.before.before.before.before.before.before.before.before.before.before.before.before.before.before.before.before.before.before.before.before.before.before.before.before.before.before.args.s c.before.before.before.before.before.before.before.before.before.before.before.before.before.before.before.before.before.before.before.before.before.before.before.before.before.before.before.before.before.requires _ _ _ _ _ _ _ c.before.before.before.before.before.before.before.before.before.before.before.before.before.before.before.before.loop.invariant c.before.before.before.before.before.before.before.before.before.before.before.before.before.before.before.loop-test.true c.before.before.before.before.before.before.before.before.before.before.before.before.before.before.if1.false c.before.before.before.before.before.before.before.before.before.before.before.before.before.if2.false _ _ _ _ c.before.before.before.before.before.before.before.line.ensures _ _ c.before.before.enum-told2.given.1 _ c.over2.ensures, refl)
 
-sub-left : tie.Need-overflow-sub-left invariant-loop decreases-loop
+sub-left : tie.Need-overflow-sub-left invariant_loop decreases_loop
 sub-left c = c.before.before.before.before.before.before.before.before.before.before.before.before.before.loop-test.true
 
-loop-less : tie.Need-loop-smaller invariant-loop decreases-loop
+loop-less : tie.Need-loop-smaller invariant_loop decreases_loop
 loop-less c = omega (arith, c.before.before.before.before.before.before.before.before.before.before.before.before.before.loop-test.true)
 
-loop-again : tie.Need-loop-preserved invariant-loop decreases-loop
+loop-again : tie.Need-loop-preserved invariant_loop decreases_loop
 loop-again c = going_next _ _ _ _ _ c.before.before.before.before.before.before.before.before.before.before.before.before.before.before.before.before.before.before.before.before.before.before.before.before.before.before.before.args.s c.before.before.before.before.before.before.before.before.before.before.before.before.before.before.before.before.before.before.before.before.before.before.before.before.before.before.before.requires _ _ _ _ _ _ _ c.before.before.before.before.before.before.before.before.before.before.before.before.before.before.loop.invariant c.before.before.before.before.before.before.before.before.before.before.before.before.before.loop-test.true c.before.before.before.before.before.before.before.before.before.before.before.before.if1.false c.before.before.before.before.before.before.before.before.before.before.before.if2.false _ _ _ _ c.before.before.before.before.before.line.ensures c.enum_told.given.1
 
-over-requires-3 : tie.Need-over-requires-3 invariant-loop decreases-loop
-over-requires-3 c κs = search (rules, asked-fit)
+over-requires-3 : tie.Need-over-requires-3 invariant_loop decreases_loop
+over-requires-3 c κs = search (rules, asked_fit)
 
-same-length-4 : tie.Need-same-length-4 invariant-loop decreases-loop
+same-length-4 : tie.Need-same-length-4 invariant_loop decreases_loop
 same-length-4 c = c.before.before.before.before.loop.invariant.text_same
 
-returns-4 : tie.Need-returns-4 invariant-loop decreases-loop
-returns-4 c = (run-exceeds _ _ _ _ _ c.before.before.before.before.before.before.before.before.before.before.before.before.before.before.before.before.before.args.s c.before.before.before.before.before.before.before.before.before.before.before.before.before.before.before.before.before.requires _ _ _ _ _ _ _ c.before.before.before.before.loop.invariant _ c.before.before.before.loop-test.false c.before.before.if3.true c.over3.ensures, refl)
+returns-4 : tie.Need-returns-4 invariant_loop decreases_loop
+returns-4 c = (run_exceeds _ _ _ _ _ c.before.before.before.before.before.before.before.before.before.before.before.before.before.before.before.before.before.args.s c.before.before.before.before.before.before.before.before.before.before.before.before.before.before.before.before.before.requires _ _ _ _ _ _ _ c.before.before.before.before.loop.invariant _ c.before.before.before.loop-test.false c.before.before.if3.true c.over3.ensures, refl)
 
-over-requires-4 : tie.Need-over-requires-4 invariant-loop decreases-loop
-over-requires-4 c κs = search (rules, asked-fit)
+over-requires-4 : tie.Need-over-requires-4 invariant_loop decreases_loop
+over-requires-4 c κs = search (rules, asked_fit)
 
-same-length-5 : tie.Need-same-length-5 invariant-loop decreases-loop
+same-length-5 : tie.Need-same-length-5 invariant_loop decreases_loop
 same-length-5 c = c.before.before.before.before.loop.invariant.text_same
 
-returns-5 : tie.Need-returns-5 invariant-loop decreases-loop
+returns-5 : tie.Need-returns-5 invariant_loop decreases_loop
 returns-5 c = (run_ends _ _ _ _ _ c.before.before.before.before.before.before.before.before.before.before.before.before.before.before.before.before.before.args.s c.before.before.before.before.before.before.before.before.before.before.before.before.before.before.before.before.before.requires _ _ _ _ _ _ _ c.before.before.before.before.loop.invariant _ c.before.before.if3.false c.over4.ensures, refl)
 
-sub_cells : tie.Need-overflow-sub-cells invariant-loop decreases-loop
+sub_cells : tie.Need-overflow-sub-cells invariant_loop decreases_loop
 sub_cells c = omega arith
 
-part-cells-start : tie.Need-slice-bounds-cells-start invariant-loop decreases-loop
+part-cells-start : tie.Need-slice-bounds-cells-start invariant_loop decreases_loop
 part-cells-start c = search rules
 
-part-cells-end : tie.Need-slice-bounds-cells-end invariant-loop decreases-loop
+part-cells-end : tie.Need-slice-bounds-cells-end invariant_loop decreases_loop
 part-cells-end c = c.before.before.before.before.before.before.before.requires.counted
 
 pub run_spec : {M : Type 1} → statement M
 run_spec =
     tie.close
     (tie.spec
-    invariant-loop
-    decreases-loop
+    invariant_loop
+    decreases_loop
     sub_part
     part-part-start
     part-part-end

@@ -3,7 +3,7 @@ use Prim.Native.Nat.{◌+◌, ◌-◌}
 use mathlib.Core.Path.{◌≡◌, sym, ◌∙◌}
 use lib.ListN.{length, drop, length-drop}
 use lib.Seq.{take_all}
-use Rattle.scan.proofs.RunLaws.{window-end}
+use Rattle.scan.proofs.RunLaws.{window_end}
 use native.Mathlib.Omega.{arith}
 use borrow.Author.Rules.{rules}
 use Rattle.scan.proofs.bytes.part.Statement.{statement}
@@ -21,7 +21,7 @@ part-result-end c = search rules
 returns : tie.Need-returns
 returns c =
     let l = c.before.before.args.line.now in
-    window-end l (length l - length l) (length l) (omega arith) ∙ sym (window-end l c.before.before.args.most _ c.before.if1.true)
+    window_end l (length l - length l) (length l) (omega arith) ∙ sym (window_end l c.before.before.args.most _ c.before.if1.true)
 
 sub-if2 : tie.Need-overflow-sub-if2
 sub-if2 c = search rules

@@ -1,6 +1,6 @@
 -- The definition makes the code's tests in the code's order.
-use Rattle.scan.proofs.DigitLaws.{digits-within}
-use Rattle.scan.specs.readers.Digits.{number_at}
+use Rattle.scan.proofs.DigitLaws.{digits_within}
+use Rattle.scan.specs.Readers.Digits.{number_at}
 use borrow.Author.Tests.{le-leb, lt-leb, eq-eqb, ne_eqb}
 use native.Mathlib.Omega.{arith}
 use borrow.Author.Rules.{rules}
@@ -22,7 +22,7 @@ unfolding number_at
 returns-2 c = rw (← c.before.before.before.before.byte.ensures, ← c.before.before.digits-at.ensures, ne_eqb _ _ c.before.before.before.if1.false, eq-eqb _ _ c.if2.true)
 
 add-t7 : tie.Need-overflow-add-t7
-add-t7 c = omega (arith, digits-within _ _ 5 _ c.before.before.before.before.before.digits-at.ensures c.before.before.before.if2.false)
+add-t7 c = omega (arith, digits_within _ _ 5 _ c.before.before.before.before.before.digits-at.ensures c.before.before.before.if2.false)
 
 returns-3 : tie.Need-returns-3
 unfolding number_at

@@ -1,5 +1,5 @@
 use borrow.Author.Rules.{rules}
-use Rattle.sheet.proofs.Fitting.{sheet-of}
+use Rattle.sheet.proofs.Fitting.{sheet_of_law}
 use Rattle.sheet.proofs.printing.sheet.Statement.{statement}
 use Rattle.sheet.proofs.printing.sheet.Tie as tie
 
@@ -10,7 +10,7 @@ same_length : tie.Need-same-length
 same_length c = search rules
 
 returns : tie.Need-returns
-returns c = sheet-of (search rules) (search rules)
+returns c = sheet_of_law (search rules) (search rules)
 
 pub sheet-spec : {M : Type 1} → statement M
 sheet-spec = tie.close (tie.spec printed-requires same_length returns)

@@ -1,6 +1,6 @@
 -- By the cases of what `check` answers.
 use mathlib.Core.Path.{refl}
-use Rattle.station.proofs.Laws.{check-accepted, check-refused}
+use Rattle.station.proofs.Laws.{check_accepted, check_refused}
 use borrow.Author.Rules.{rules}
 use Rattle.station.proofs.check.station_check.Statement.{statement}
 use Rattle.station.proofs.check.station_check.Tie as tie
@@ -18,11 +18,11 @@ refusal-number-requires : tie.Need-refusal-number-requires
 refusal-number-requires c κs = search rules
 
 returns : tie.Need-returns
-returns c = check-accepted c.before.before.before.check.ensures c.before.checked.given.1 refl
+returns c = check_accepted c.before.before.before.check.ensures c.before.checked.given.1 refl
 
 returns-2 : tie.Need-returns-2
 returns-2 c =
-    check-refused c.before.before.before.before.check.ensures c.before.before.checked2.given.1 c.refusal-number.ensures
+    check_refused c.before.before.before.before.check.ensures c.before.before.checked2.given.1 c.refusal-number.ensures
 
 pub station-check-spec : {M : Type 1} → statement M
 station-check-spec =

@@ -2,7 +2,7 @@
 use mir.Syntax.{w64}
 use mir.Val.{SFits}
 use mir.ValLaws.{to_z-of_z}
-use Rattle.station.proofs.Laws.{hands-missing, hands-integer, hands-decimal, hands-text, hands-highest}
+use Rattle.station.proofs.Laws.{hands_missing, hands_integer, hands_decimal, hands_text, hands_highest}
 use borrow.Author.Rules.{rules}
 use Rattle.station.proofs.question.hand_answer.Statement.{statement}
 use Rattle.station.proofs.question.hand_answer.Tie as tie
@@ -26,25 +26,25 @@ cast-count : tie.Need-overflow-cast-count
 cast-count c = search rules
 
 returns : tie.Need-returns
-returns c = hands-missing c.enum_told.given.1
+returns c = hands_missing c.enum_told.given.1
 
 returns-2 : tie.Need-returns-2
 returns-2 c =
     let v = c.before.answer.given in
     let f : SFits w64 v.0.0 = search rules in
-    hands-integer v.1 (to_z-of_z w64 _ f)
+    hands_integer v.1 (to_z-of_z w64 _ f)
 
 returns-3 : tie.Need-returns-3
 returns-3 c =
     let v = c.before.answer2.given in
     let f : SFits w64 v.0.0 = search rules in
-    hands-decimal v.1 (to_z-of_z w64 _ f)
+    hands_decimal v.1 (to_z-of_z w64 _ f)
 
 returns-4 : tie.Need-returns-4
-returns-4 c = hands-text c.before.answer3.given.1
+returns-4 c = hands_text c.before.answer3.given.1
 
 returns-5 : tie.Need-returns-5
-returns-5 c = hands-highest c.before.answer4.given.1
+returns-5 c = hands_highest c.before.answer4.given.1
 
 pub hand-answer-spec : {M : Type 1} → statement M
 hand-answer-spec =

@@ -1,5 +1,5 @@
 -- What `ask` says of the answer that is handed back.
-use Rattle.station.proofs.Laws.{told-answer}
+use Rattle.station.proofs.Laws.{told_answer}
 use borrow.Author.Rules.{rules}
 use Rattle.station.proofs.question.station_ask.Statement.{statement}
 use Rattle.station.proofs.question.station_ask.Tie as tie
@@ -14,7 +14,7 @@ number-of-requires : tie.Need-number-of-requires
 number-of-requires c κs = search rules
 
 returns : tie.Need-returns
-returns c = told-answer _ c.before.before.before.before.before.before.ask.ensures c.before.hand-answer.ensures c.number_of_lem.ensures
+returns c = told_answer _ c.before.before.before.before.before.before.ask.ensures c.before.hand-answer.ensures c.number_of_lem.ensures
 
 pub station-ask-spec : {M : Type 1} → statement M
 station-ask-spec =

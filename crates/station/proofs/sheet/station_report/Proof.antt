@@ -41,7 +41,7 @@ use denote.Exit.{yes}
 use Rattle.meaning.specs.declared.question.Question.{Question}
 use Rattle.report.specs.declared.Report.{Report}
 use Rattle.report.specs.Reported.{Reported}
-use Rattle.station.specs.Reports.{reportFrom}
+use Rattle.station.specs.Reports.{report_from}
 use Rattle.meaning.specs.contracts.question.Question as Q
 use Rattle.report.specs.contracts.Report as O
 use Rattle.report.proofs.Report.TheLaws as O'
@@ -87,17 +87,17 @@ word = ty_int w64
 abbrev shared : Ty
 shared = slice_ty (ty_ref (named 0) imm (ty_int w8))
 
-abbrev ptrT : Ty
-ptrT = ty_ref erased mut (ty_int w8)
+abbrev ptr_t : Ty
+ptr_t = ty_ref erased mut (ty_int w8)
 
-abbrev ptrR : Ty
-ptrR = ty_ref erased mut (pointee (Q.the_row).written)
+abbrev ptr_r : Ty
+ptr_r = ty_ref erased mut (pointee (Q.the_row).written)
 
-abbrev sliceT : Ty
-sliceT = slice_ty (ty_ref (named 1) mut (ty_int w8))
+abbrev slice_t : Ty
+slice_t = slice_ty (ty_ref (named 1) mut (ty_int w8))
 
-abbrev sliceR : Ty
-sliceR = slice_ty (ty_ref (named 2) mut (pointee (Q.the_row).written))
+abbrev slice_r : Ty
+slice_r = slice_ty (ty_ref (named 2) mut (pointee (Q.the_row).written))
 
 abbrev out32 : Ty
 out32 = ty_ref (named 3) mut (ty_int w32)
@@ -186,7 +186,7 @@ module _ {M : Type 1} {𝓤 : Ura M} (𝓛 : Logic 𝓤) (mem : Memory → SProp
     Had xs ys l p b q = ‵ (finally u8 xt.name xs) ∷ ‵ (finally Q.the_row xr.name ys) ∷ ‵ (fres xl.name (u32.coded.code l)) ∷ ‵ (fres xp.name (u32.coded.code p)) ∷ ‵ (fres xb.name (usize.coded.code b)) ∷ ‵ (fres xq.name (usize.coded.code q))
         ∷ ‵ (flft κ₀ q₀) ∷ ‵ (flft κ₁ q₁) ∷ ‵ (flft κ₂ q₂) ∷ ‵ (flft κ₃ q₃) ∷ []
 
-    exits : (r l p b q : ℕ) (w : Val) (xs : List ℕ) (ys : List Question) → Is u32 r (w ∷ []) → length xs ≡ length xt.now → length ys ≡ length xr.now → Told xs ys (reportFrom r l p b q) → ent 𝓤 (⋆ 𝓛 (Had xs ys l p b q)) (Post' w)
+    exits : (r l p b q : ℕ) (w : Val) (xs : List ℕ) (ys : List Question) → Is u32 r (w ∷ []) → length xs ≡ length xt.now → length ys ≡ length xr.now → Told xs ys (report_from r l p b q) → ent 𝓤 (⋆ 𝓛 (Had xs ys l p b q)) (Post' w)
     exits r l p b q w xs ys is ex ey said =
         qed 𝓛 (Had xs ys l p b q) ∵
         suffices ! _ (ends_at 𝓛 f.ended stayed (f.clauses 𝓛 mem run) (((κ₀, (κ₁, (κ₂, (κ₃, tt)))), (q₀, (q₁, (q₂, (q₃, tt)))), tt, a, vals), tt) w r (tt, (tt, (tt, (tt, (xs, (ys, (l, (p, (b, (q, tt)))))))))) (tt, (tt, (tt, (tt, (ex, (ey, (tt, (tt, (tt, (tt, tt))))))))))) $ says ! said $
@@ -195,42 +195,42 @@ module _ {M : Type 1} {𝓤 : Ura M} (𝓛 : Logic 𝓤) (mem : Memory → SProp
         nothing ! $ fjoin ! $ nothing ! $ fjoin ! $ nothing ! $ fjoin ! $ nothing ! $ fjoin ! $ owned ! u32 (Is u32) (uint_Makes 𝓛 w32) r _ is $ move ! (1 ∷ 0 ∷ []) $ done !
 
     -- ---- the calls
-    abbrev for-report : Bor (List ℕ) × (Bor (List ℕ) × (Bor (List ℕ) × (ℕ × (Bor (List ℕ) × (Bor (List Question) × Unit {0})))))
-    for-report = (tm, (sc, (st, (n, (xt, (xr, tt))))))
+    abbrev for_report : Bor (List ℕ) × (Bor (List ℕ) × (Bor (List ℕ) × (ℕ × (Bor (List ℕ) × (Bor (List Question) × Unit {0})))))
+    for_report = (tm, (sc, (st, (n, (xt, (xr, tt))))))
 
-    abbrev to-report : Rep.Ghost
-    to-report = (((κ₀, (κ₁, (κ₂, tt))), (q₀, (q₁, (q₂, tt))), tt, for-report, (v₁ ∷ [], (v₂ ∷ [], (v₃ ∷ [], (v₄ ∷ [], (v₅ ∷ [], (v₆ ∷ [], tt))))))), tt)
+    abbrev to_report : Rep.Ghost
+    to_report = (((κ₀, (κ₁, (κ₂, tt))), (q₀, (q₁, (q₂, tt))), tt, for_report, (v₁ ∷ [], (v₂ ∷ [], (v₃ ∷ [], (v₄ ∷ [], (v₅ ∷ [], (v₆ ∷ [], tt))))))), tt)
 
     abbrev ForReport : List (Item 𝓤)
     ForReport = ‵ (flft κ₂ q₂) ∷ ‵ (flft κ₁ q₁) ∷ ‵ (flft κ₀ q₀) ∷ ‵ Tm ∷ ‵ Sc ∷ ‵ St ∷ ‵ Text ∷ ‵ Row ∷ []
 
-    goes-report : ent 𝓤 (⋆ 𝓛 ForReport) (Rep.pre to-report)
-    goes-report =
+    goes_report : ent 𝓤 (⋆ 𝓛 ForReport) (Rep.pre to_report)
+    goes_report =
         qed 𝓛 ForReport ∵ nothing ! $ move ! (1 ∷ 0 ∷ []) $ join ! $ move ! (1 ∷ 0 ∷ []) $ join ! $ move ! (1 ∷ 0 ∷ []) $ join ! $
         nothing ! $ move ! (6 ∷ 0 ∷ []) $ fjoin ! $ move ! (5 ∷ 0 ∷ []) $ fjoin ! $ owned ! usize (Is usize) (uint_Makes 𝓛 w64) n _ (refl, n-fits) $ fjoin ! $
         move ! (4 ∷ 0 ∷ []) $ fjoin ! $ move ! (3 ∷ 0 ∷ []) $ fjoin ! $ move ! (2 ∷ 0 ∷ []) $ fjoin ! $ move ! (1 ∷ 0 ∷ []) $ join ! $ frame ! $ done !
 
-    abbrev for-hand : Report → Report × (Bor ℕ × (Bor ℕ × (Bor ℕ × (Bor ℕ × Unit {0}))))
-    for-hand c = (c, (xl, (xp, (xb, (xq, tt)))))
+    abbrev for_hand : Report → Report × (Bor ℕ × (Bor ℕ × (Bor ℕ × (Bor ℕ × Unit {0}))))
+    for_hand c = (c, (xl, (xp, (xb, (xq, tt)))))
 
-    abbrev to-hand : Report → Val → Hand.Ghost
-    to-hand c w = (((κ₃, tt), (q₃, tt), tt, for-hand c, (w ∷ [], (at_ref xl ∷ [], (at_ref xp ∷ [], (at_ref xb ∷ [], (at_ref xq ∷ [], tt)))))), tt)
+    abbrev to_hand : Report → Val → Hand.Ghost
+    to_hand c w = (((κ₃, tt), (q₃, tt), tt, for_hand c, (w ∷ [], (at_ref xl ∷ [], (at_ref xp ∷ [], (at_ref xb ∷ [], (at_ref xq ∷ [], tt)))))), tt)
 
     abbrev ForHand : List (Item 𝓤)
     ForHand = ‵ (flft κ₃ q₃) ∷ ‵ (Out32 0 xl) ∷ ‵ (Out32 0 xp) ∷ ‵ (Out64 0 xb) ∷ ‵ (Out64 0 xq) ∷ []
 
-    goes-hand : (c : Report) (w : Val) → Is O.the_row c (w ∷ []) → ent 𝓤 (⋆ 𝓛 ForHand) (Hand.pre (to-hand c w))
-    goes-hand c w is =
+    goes_hand : (c : Report) (w : Val) → Is O.the_row c (w ∷ []) → ent 𝓤 (⋆ 𝓛 ForHand) (Hand.pre (to_hand c w))
+    goes_hand c w is =
         qed 𝓛 ForHand ∵ nothing ! $ move ! (1 ∷ 0 ∷ []) $ join ! $
         nothing ! $ move ! (5 ∷ 0 ∷ []) $ fjoin ! $ move ! (4 ∷ 0 ∷ []) $ fjoin ! $ move ! (3 ∷ 0 ∷ []) $ fjoin ! $ move ! (2 ∷ 0 ∷ []) $ fjoin ! $
         owned ! O.the_row (Is O.the_row) (LL.makes O.the_type O'.the_plain 𝓛) c _ is $ fjoin ! $ move ! (1 ∷ 0 ∷ []) $ join ! $ frame ! $ done !
 
-    module _ (𝓣 : Tables 𝓤 H) (known-report : Triple 𝓤 (𝓣.C #report) Rep) (known-hand : Triple 𝓤 (𝓣.C #hand) Hand) (l₀ l₁ l₂ l₃ l₄ l₅ l₆ l₇ l₈ l₉ l₁₀ l₁₁ l₁₂ l₁₃ l₁₄ l₁₅ l₁₆ l₁₇ l₁₈ l₁₉ : ℕ) where
+    module _ (𝓣 : Tables 𝓤 H) (known_report : Triple 𝓤 (𝓣.C #report) Rep) (known_hand : Triple 𝓤 (𝓣.C #hand) Hand) (l₀ l₁ l₂ l₃ l₄ l₅ l₆ l₇ l₈ l₉ l₁₀ l₁₁ l₁₂ l₁₃ l₁₄ l₁₅ l₁₆ l₁₇ l₁₈ l₁₉ : ℕ) where
       abbrev En : Env 𝓤 H
-      En = (ty_int w32, l₀) ∷ (shared, l₁) ∷ (shared, l₂) ∷ (shared, l₃) ∷ (word, l₄) ∷ (sliceT, l₅) ∷ (sliceR, l₆) ∷ (out32, l₇) ∷ (out32, l₈) ∷ (out64, l₉) ∷ (out64, l₁₀) ∷ (O'.mir, l₁₁) ∷ (ptrT, l₁₂) ∷ (slice_ty ptrT, l₁₃) ∷ (ptrR, l₁₄) ∷ (slice_ty ptrR, l₁₅) ∷ (ptr32, l₁₆) ∷ (ptr32, l₁₇) ∷ (ptr64, l₁₈) ∷ (ptr64, l₁₉) ∷ []
+      En = (ty_int w32, l₀) ∷ (shared, l₁) ∷ (shared, l₂) ∷ (shared, l₃) ∷ (word, l₄) ∷ (slice_t, l₅) ∷ (slice_r, l₆) ∷ (out32, l₇) ∷ (out32, l₈) ∷ (out64, l₉) ∷ (out64, l₁₀) ∷ (O'.mir, l₁₁) ∷ (ptr_t, l₁₂) ∷ (slice_ty ptr_t, l₁₃) ∷ (ptr_r, l₁₄) ∷ (slice_ty ptr_r, l₁₅) ∷ (ptr32, l₁₆) ∷ (ptr32, l₁₇) ∷ (ptr64, l₁₈) ∷ (ptr64, l₁₉) ∷ []
 
       abbrev Locals : List (Item 𝓤)
-      Locals = ‵ (froom ptr64 l₁₉ 0) ∷ ‵ (fdies ptr64 l₁₉) ∷ ‵ (froom ptr64 l₁₈ 0) ∷ ‵ (fdies ptr64 l₁₈) ∷ ‵ (froom ptr32 l₁₇ 0) ∷ ‵ (fdies ptr32 l₁₇) ∷ ‵ (froom ptr32 l₁₆ 0) ∷ ‵ (fdies ptr32 l₁₆) ∷ ‵ (froom (slice_ty ptrR) l₁₅ 0) ∷ ‵ (fdies (slice_ty ptrR) l₁₅) ∷ ‵ (froom ptrR l₁₄ 0) ∷ ‵ (fdies ptrR l₁₄) ∷ ‵ (froom (slice_ty ptrT) l₁₃ 0) ∷ ‵ (fdies (slice_ty ptrT) l₁₃) ∷ ‵ (froom ptrT l₁₂ 0) ∷ ‵ (fdies ptrT l₁₂) ∷ ‵ (froom O'.mir l₁₁ 0) ∷ ‵ (fdies O'.mir l₁₁) ∷ ‵ (fat full_share out64 l₁₀ 0 (at_ref xq)) ∷ ‵ (fdies out64 l₁₀) ∷ ‵ (fat full_share out64 l₉ 0 (at_ref xb)) ∷ ‵ (fdies out64 l₉) ∷ ‵ (fat full_share out32 l₈ 0 (at_ref xp)) ∷ ‵ (fdies out32 l₈) ∷ ‵ (fat full_share out32 l₇ 0 (at_ref xl)) ∷ ‵ (fdies out32 l₇) ∷ ‵ (fat full_share sliceR l₆ 0 v₆) ∷ ‵ (fdies sliceR l₆) ∷ ‵ (fat full_share sliceT l₅ 0 v₅) ∷ ‵ (fdies sliceT l₅) ∷ ‵ (fat full_share word l₄ 0 v₄) ∷ ‵ (fdies word l₄) ∷ ‵ (fat full_share shared l₃ 0 v₃) ∷ ‵ (fdies shared l₃) ∷ ‵ (fat full_share shared l₂ 0 v₂) ∷ ‵ (fdies shared l₂) ∷ ‵ (fat full_share shared l₁ 0 v₁) ∷ ‵ (fdies shared l₁) ∷ ‵ (froom (ty_int w32) l₀ 0) ∷ ‵ (fdies (ty_int w32) l₀) ∷ []
+      Locals = ‵ (froom ptr64 l₁₉ 0) ∷ ‵ (fdies ptr64 l₁₉) ∷ ‵ (froom ptr64 l₁₈ 0) ∷ ‵ (fdies ptr64 l₁₈) ∷ ‵ (froom ptr32 l₁₇ 0) ∷ ‵ (fdies ptr32 l₁₇) ∷ ‵ (froom ptr32 l₁₆ 0) ∷ ‵ (fdies ptr32 l₁₆) ∷ ‵ (froom (slice_ty ptr_r) l₁₅ 0) ∷ ‵ (fdies (slice_ty ptr_r) l₁₅) ∷ ‵ (froom ptr_r l₁₄ 0) ∷ ‵ (fdies ptr_r l₁₄) ∷ ‵ (froom (slice_ty ptr_t) l₁₃ 0) ∷ ‵ (fdies (slice_ty ptr_t) l₁₃) ∷ ‵ (froom ptr_t l₁₂ 0) ∷ ‵ (fdies ptr_t l₁₂) ∷ ‵ (froom O'.mir l₁₁ 0) ∷ ‵ (fdies O'.mir l₁₁) ∷ ‵ (fat full_share out64 l₁₀ 0 (at_ref xq)) ∷ ‵ (fdies out64 l₁₀) ∷ ‵ (fat full_share out64 l₉ 0 (at_ref xb)) ∷ ‵ (fdies out64 l₉) ∷ ‵ (fat full_share out32 l₈ 0 (at_ref xp)) ∷ ‵ (fdies out32 l₈) ∷ ‵ (fat full_share out32 l₇ 0 (at_ref xl)) ∷ ‵ (fdies out32 l₇) ∷ ‵ (fat full_share slice_r l₆ 0 v₆) ∷ ‵ (fdies slice_r l₆) ∷ ‵ (fat full_share slice_t l₅ 0 v₅) ∷ ‵ (fdies slice_t l₅) ∷ ‵ (fat full_share word l₄ 0 v₄) ∷ ‵ (fdies word l₄) ∷ ‵ (fat full_share shared l₃ 0 v₃) ∷ ‵ (fdies shared l₃) ∷ ‵ (fat full_share shared l₂ 0 v₂) ∷ ‵ (fdies shared l₂) ∷ ‵ (fat full_share shared l₁ 0 v₁) ∷ ‵ (fdies shared l₁) ∷ ‵ (froom (ty_int w32) l₀ 0) ∷ ‵ (fdies (ty_int w32) l₀) ∷ []
 
       walk : Sq 𝓛 (‵ (flft κ₂ q₂) ∷ ‵ (flft κ₁ q₁) ∷ ‵ (flft κ₀ q₀) ∷ ‵ Tm ∷ ‵ Sc ∷ ‵ St ∷ ‵ Text ∷ ‵ Row ∷ ‵ (flft κ₃ q₃) ∷ ‵ (Out32 3 xl) ∷ ‵ (Out32 3 xp) ∷ ‵ (Out64 3 xb) ∷ ‵ (Out64 3 xq) ∷ Locals) (runs 𝓣.C 𝓣.Λ En code-mir.t-1 (at_ret En Post'))
       walk =
@@ -238,10 +238,10 @@ module _ {M : Type 1} {𝓤 : Ura M} (𝓛 : Logic 𝓤) (mem : Memory → SProp
           assigns ! (agg ! (and_then ! (load ! (from ! (stop !)) (look ! 27 refl)) (and_then ! (load ! (from ! (fld ! refl (stop !))) (look_in ! 41 (sub ! 1 refl (whole !)))) (no_more !)))) (from ! (stop !)) (init ! 25 refl (tt, (tt, (record { fits = room-t.0 }, tt)))) $
           assigns ! (addr ! (from ! (fld ! refl (hop ! (look_in ! 39 (sub ! 0 refl (whole !))) (stop !))))) (from ! (stop !)) (init ! 23 refl (tt, tt)) $
           assigns ! (agg ! (and_then ! (load ! (from ! (stop !)) (look ! 23 refl)) (and_then ! (load ! (from ! (fld ! refl (stop !))) (look_in ! 39 (sub ! 1 refl (whole !)))) (no_more !)))) (from ! (stop !)) (init ! 21 refl (tt, (tt, (record { fits = room-r.0 }, tt)))) $
-          cut ForReport (raw (Rep.pre to-report) ∷ []) _ goes-report $
-          calls_at ! (fm_of 𝓤 H 𝓛.laws 𝓣) Rep known-report to-report (and_then ! (load ! (from ! (stop !)) (look ! 42 refl)) (and_then ! (load ! (from ! (stop !)) (look ! 40 refl)) (and_then ! (load ! (from ! (stop !)) (look ! 38 refl)) (and_then ! (load ! (from ! (stop !)) (look ! 36 refl)) (and_then ! (load ! (from ! (stop !)) (look ! 18 refl)) (and_then ! (load ! (from ! (stop !)) (look ! 14 refl)) (no_more !))))))) (λ w.
-          use1 𝓛 (later (some (λ (c : Report). ((‵ (flft κ₀ q₀) ⊛ ‵ (flft κ₁ q₁) ⊛ ‵ (flft κ₂ q₂) ⊛ ‵ ftrue) ⊛ ‵ ((O.the_row).own_val c (w ∷ []))) ⊛ raw (ensured 𝓛 report.ended (report.clauses 𝓛 mem run) (κ₀, (κ₁, (κ₂, tt))) for-report tt c)))) (id⊢ 𝓤 _) $ await ! tt $ pick ! (λ c.
-          split ! $ move ! (1 ∷ []) $ use1 𝓛 (some (λ (ws : Unit {0} × (Unit {0} × (Unit {0} × (Unit {0} × (List ℕ × (List Question × Unit {0})))))). ‵ (lasts report.ended (κ₀, (κ₁, (κ₂, tt))) for-report ws) ⊛ raw (fact 𝓤 (Told ws.1.1.1.1.0 ws.1.1.1.1.1.0 c)))) (id⊢ 𝓤 _) $ pick ! (λ ws.
+          cut ForReport (raw (Rep.pre to_report) ∷ []) _ goes_report $
+          calls_at ! (fm_of 𝓤 H 𝓛.laws 𝓣) Rep known_report to_report (and_then ! (load ! (from ! (stop !)) (look ! 42 refl)) (and_then ! (load ! (from ! (stop !)) (look ! 40 refl)) (and_then ! (load ! (from ! (stop !)) (look ! 38 refl)) (and_then ! (load ! (from ! (stop !)) (look ! 36 refl)) (and_then ! (load ! (from ! (stop !)) (look ! 18 refl)) (and_then ! (load ! (from ! (stop !)) (look ! 14 refl)) (no_more !))))))) (λ w.
+          use1 𝓛 (later (some (λ (c : Report). ((‵ (flft κ₀ q₀) ⊛ ‵ (flft κ₁ q₁) ⊛ ‵ (flft κ₂ q₂) ⊛ ‵ ftrue) ⊛ ‵ ((O.the_row).own_val c (w ∷ []))) ⊛ raw (ensured 𝓛 report.ended (report.clauses 𝓛 mem run) (κ₀, (κ₁, (κ₂, tt))) for_report tt c)))) (id⊢ 𝓤 _) $ await ! tt $ pick ! (λ c.
+          split ! $ move ! (1 ∷ []) $ use1 𝓛 (some (λ (ws : Unit {0} × (Unit {0} × (Unit {0} × (Unit {0} × (List ℕ × (List Question × Unit {0})))))). ‵ (lasts report.ended (κ₀, (κ₁, (κ₂, tt))) for_report ws) ⊛ raw (fact 𝓤 (Told ws.1.1.1.1.0 ws.1.1.1.1.1.0 c)))) (id⊢ 𝓤 _) $ pick ! (λ ws.
           split ! $ move ! (1 ∷ []) $ heard ! (Told ws.1.1.1.1.0 ws.1.1.1.1.1.0 c) (λ e. fsplit ! $ drop ! $ fsplit ! $ drop ! $ fsplit ! $ drop ! $ fsplit ! $ drop ! $ fsplit ! $ fsplit ! $ move ! (1 ∷ []) $ feq_l ! (λ ex. move ! (1 ∷ []) $ fsplit ! $ fsplit ! $ move ! (1 ∷ []) $ feq_l ! (λ ey.
           -- [the last row; true; the last text; the tokens and the report; [κ₃]; the outputs; _19; …]
           move ! (3 ∷ []) $ split ! $ move ! (1 ∷ []) $ facts ! O.the_row (Is O.the_row) (shows 𝓛 O.the_row) c (w ∷ []) (λ iso. split ! $ move ! (1 ∷ []) $ split ! $ move ! (1 ∷ []) $ split ! $
@@ -252,11 +252,11 @@ module _ {M : Type 1} {𝓤 : Ura M} (𝓛 : Logic 𝓤) (mem : Memory → SProp
           assigns ! (addr ! (from ! (hop ! (look ! 32 refl) (stop !)))) (from ! (stop !)) (init ! 14 refl (tt, tt)) $
           assigns ! (addr ! (from ! (hop ! (look ! 30 refl) (stop !)))) (from ! (stop !)) (init ! 12 refl (tt, tt)) $
           assigns ! (addr ! (from ! (hop ! (look ! 28 refl) (stop !)))) (from ! (stop !)) (init ! 10 refl (tt, tt)) $
-          cut ForHand (raw (Hand.pre (to-hand c w)) ∷ []) _ (goes-hand c w iso) $
-          calls_at ! (fm_of 𝓤 H 𝓛.laws 𝓣) Hand known-hand (to-hand c w) (and_then ! (load ! (from ! (stop !)) (look ! 22 refl)) (and_then ! (load ! (from ! (stop !)) (look ! 12 refl)) (and_then ! (load ! (from ! (stop !)) (look ! 10 refl)) (and_then ! (load ! (from ! (stop !)) (look ! 8 refl)) (and_then ! (load ! (from ! (stop !)) (look ! 6 refl)) (no_more !)))))) (λ u.
-          use1 𝓛 (later (some (λ (r : ℕ). ((‵ (flft κ₃ q₃) ⊛ ‵ ftrue) ⊛ ‵ (u32.own_val r (u ∷ []))) ⊛ raw (ensured 𝓛 hand.ended (hand.clauses 𝓛 mem run) (κ₃, tt) (for-hand c) tt r)))) (id⊢ 𝓤 _) $ await ! tt $ pick ! (λ r.
-          split ! $ move ! (1 ∷ []) $ use1 𝓛 (some (λ (zs : Unit {0} × (ℕ × (ℕ × (ℕ × (ℕ × Unit {0}))))). ‵ (lasts hand.ended (κ₃, tt) (for-hand c) zs) ⊛ raw (fact 𝓤 (reportFrom r zs.1.0 zs.1.1.0 zs.1.1.1.0 zs.1.1.1.1.0 ≡ c)))) (id⊢ 𝓤 _) $ pick ! (λ zs.
-          split ! $ move ! (1 ∷ []) $ heard ! (reportFrom r zs.1.0 zs.1.1.0 zs.1.1.1.0 zs.1.1.1.1.0 ≡ c) (λ told. fsplit ! $ drop ! $ fsplit ! $ move ! (1 ∷ []) $ fsplit ! $ move ! (1 ∷ []) $ fsplit ! $ move ! (1 ∷ []) $ fsplit ! $
+          cut ForHand (raw (Hand.pre (to_hand c w)) ∷ []) _ (goes_hand c w iso) $
+          calls_at ! (fm_of 𝓤 H 𝓛.laws 𝓣) Hand known_hand (to_hand c w) (and_then ! (load ! (from ! (stop !)) (look ! 22 refl)) (and_then ! (load ! (from ! (stop !)) (look ! 12 refl)) (and_then ! (load ! (from ! (stop !)) (look ! 10 refl)) (and_then ! (load ! (from ! (stop !)) (look ! 8 refl)) (and_then ! (load ! (from ! (stop !)) (look ! 6 refl)) (no_more !)))))) (λ u.
+          use1 𝓛 (later (some (λ (r : ℕ). ((‵ (flft κ₃ q₃) ⊛ ‵ ftrue) ⊛ ‵ (u32.own_val r (u ∷ []))) ⊛ raw (ensured 𝓛 hand.ended (hand.clauses 𝓛 mem run) (κ₃, tt) (for_hand c) tt r)))) (id⊢ 𝓤 _) $ await ! tt $ pick ! (λ r.
+          split ! $ move ! (1 ∷ []) $ use1 𝓛 (some (λ (zs : Unit {0} × (ℕ × (ℕ × (ℕ × (ℕ × Unit {0}))))). ‵ (lasts hand.ended (κ₃, tt) (for_hand c) zs) ⊛ raw (fact 𝓤 (report_from r zs.1.0 zs.1.1.0 zs.1.1.1.0 zs.1.1.1.1.0 ≡ c)))) (id⊢ 𝓤 _) $ pick ! (λ zs.
+          split ! $ move ! (1 ∷ []) $ heard ! (report_from r zs.1.0 zs.1.1.0 zs.1.1.1.0 zs.1.1.1.1.0 ≡ c) (λ told. fsplit ! $ drop ! $ fsplit ! $ move ! (1 ∷ []) $ fsplit ! $ move ! (1 ∷ []) $ fsplit ! $ move ! (1 ∷ []) $ fsplit ! $
           -- [questions; true; bytes; pages; line; the token and the number; the last row; the last text; [κ₀]; [κ₁]; [κ₂]; _19; …]
           move ! (5 ∷ []) $ split ! $ move ! (1 ∷ []) $ facts ! u32 (Is u32) (shows 𝓛 u32) r (u ∷ []) (λ isr. split ! $
           keep ! (8 ∷ 7 ∷ 6 ∷ 5 ∷ 4 ∷ 2 ∷ 9 ∷ 10 ∷ 11 ∷ 0 ∷ 12 ∷ 13 ∷ 14 ∷ 15 ∷ 16 ∷ 17 ∷ 18 ∷ 19 ∷ 20 ∷ 21 ∷ 22 ∷ 23 ∷ 24 ∷ 25 ∷ 26 ∷ 27 ∷ 28 ∷ 29 ∷ 30 ∷ 31 ∷ 32 ∷ 33 ∷ 34 ∷ 35 ∷ 36 ∷ 37 ∷ 38 ∷ 39 ∷ 40 ∷ 41 ∷ 42 ∷ 43 ∷ 44 ∷ 45 ∷ 46 ∷ 47 ∷ 48 ∷ 49 ∷ 50 ∷ 51 ∷ []) $
@@ -267,17 +267,17 @@ module _ {M : Type 1} {𝓤 : Ura M} (𝓛 : Logic 𝓤) (mem : Memory → SProp
 
     enters : (𝓣 : Tables 𝓤 H) → Triple 𝓤 (𝓣.C #report) Rep → Triple 𝓤 (𝓣.C #hand) Hand
         → ent 𝓤 (on_entry 𝓛 f.signature (κ₀, (κ₁, (κ₂, (κ₃, tt)))) (q₀, (q₁, (q₂, (q₃, tt)))) a vals) (WpFn 𝓤 H 𝓣.C 𝓣.Λ code.function (v₁ ∷ v₂ ∷ v₃ ∷ v₄ ∷ v₅ ∷ v₆ ∷ at_ref xl ∷ at_ref xp ∷ at_ref xb ∷ at_ref xq ∷ []) Post')
-    enters 𝓣 known-report known-hand =
+    enters 𝓣 known_report known_hand =
         qed 𝓛 ((‵ (flft κ₀ q₀) ⊛ ‵ (flft κ₁ q₁) ⊛ ‵ (flft κ₂ q₂) ⊛ ‵ (flft κ₃ q₃) ⊛ ‵ ftrue) ∷ ‵ (owns (ShrSlice (named 0) κ₀ u8 ∷ ShrSlice (named 0) κ₀ u8 ∷ ShrSlice (named 0) κ₀ u8 ∷ usize ∷ MutSlice (named 1) κ₁ u8 ∷ MutSlice (named 2) κ₂ Q.the_row ∷ MutRef (named 3) κ₃ u32 ∷ MutRef (named 3) κ₃ u32 ∷ MutRef (named 3) κ₃ usize ∷ MutRef (named 3) κ₃ usize ∷ []) a vals) ∷ []) ∵ enter ! 𝓣.C 𝓣.Λ code.function (v₁ ∷ v₂ ∷ v₃ ∷ v₄ ∷ v₅ ∷ v₆ ∷ at_ref xl ∷ at_ref xp ∷ at_ref xb ∷ at_ref xq ∷ []) _ $
         alloc1 ! (λ l₀. alloc1 ! (λ l₁. alloc1 ! (λ l₂. alloc1 ! (λ l₃. alloc1 ! (λ l₄. alloc1 ! (λ l₅. alloc1 ! (λ l₆. alloc1 ! (λ l₇. alloc1 ! (λ l₈. alloc1 ! (λ l₉. alloc1 ! (λ l₁₀. alloc1 ! (λ l₁₁. alloc1 ! (λ l₁₂. alloc1 ! (λ l₁₃. alloc1 ! (λ l₁₄. alloc1 ! (λ l₁₅. alloc1 ! (λ l₁₆. alloc1 ! (λ l₁₇. alloc1 ! (λ l₁₈. alloc1 ! (λ l₁₉. alloc0 ! $ params1 ! $
         pass1 ! (init ! 36 refl (tt, (tt, (record { fits = room-tm.0 }, tt)))) $ pass1 ! (init ! 34 refl (tt, (tt, (record { fits = room_Sc.0 }, tt)))) $ pass1 ! (init ! 32 refl (tt, (tt, (record { fits = room-st.0 }, tt)))) $ pass1 ! (init ! 30 refl (tt, record { fits = n-fits })) $ pass1 ! (init ! 28 refl (tt, (tt, (record { fits = room-t.0 }, tt)))) $ pass1 ! (init ! 26 refl (tt, (tt, (record { fits = room-r.0 }, tt)))) $ pass1 ! (init ! 24 refl (tt, tt)) $ pass1 ! (init ! 22 refl (tt, tt)) $ pass1 ! (init ! 20 refl (tt, tt)) $ pass1 ! (init ! 18 refl (tt, tt)) $ pass0 ! $
         move ! (41 ∷ []) $ fsplit ! $ move ! (1 ∷ []) $ fsplit ! $ move ! (1 ∷ []) $ fsplit ! $ move ! (1 ∷ []) $ fsplit ! $ move ! (1 ∷ []) $ fsplit ! $ move ! (1 ∷ []) $ fsplit ! $ move ! (1 ∷ []) $ fsplit ! $ move ! (1 ∷ []) $ fsplit ! $ move ! (1 ∷ []) $ fsplit ! $ move ! (1 ∷ []) $ fsplit ! $ move ! (51 ∷ []) $ split ! $ move ! (1 ∷ []) $ split ! $ move ! (1 ∷ []) $ split ! $ move ! (1 ∷ []) $ split ! $
         -- [[κ₃]; true; [κ₂]; [κ₁]; [κ₀]; questions; true; bytes; pages; line; the read list; the text; the length; the store; the section; the template; _19; …]
-        keep ! (2 ∷ 3 ∷ 4 ∷ 15 ∷ 14 ∷ 13 ∷ 11 ∷ 10 ∷ 0 ∷ 9 ∷ 8 ∷ 7 ∷ 5 ∷ 16 ∷ 17 ∷ 18 ∷ 19 ∷ 20 ∷ 21 ∷ 22 ∷ 23 ∷ 24 ∷ 25 ∷ 26 ∷ 27 ∷ 28 ∷ 29 ∷ 30 ∷ 31 ∷ 32 ∷ 33 ∷ 34 ∷ 35 ∷ 36 ∷ 37 ∷ 38 ∷ 39 ∷ 40 ∷ 41 ∷ 42 ∷ 43 ∷ 44 ∷ 45 ∷ 46 ∷ 47 ∷ 48 ∷ 49 ∷ 50 ∷ 51 ∷ 52 ∷ 53 ∷ 54 ∷ 55 ∷ []) $ walk 𝓣 known-report known-hand l₀ l₁ l₂ l₃ l₄ l₅ l₆ l₇ l₈ l₉ l₁₀ l₁₁ l₁₂ l₁₃ l₁₄ l₁₅ l₁₆ l₁₇ l₁₈ l₁₉))))))))))))))))))))
+        keep ! (2 ∷ 3 ∷ 4 ∷ 15 ∷ 14 ∷ 13 ∷ 11 ∷ 10 ∷ 0 ∷ 9 ∷ 8 ∷ 7 ∷ 5 ∷ 16 ∷ 17 ∷ 18 ∷ 19 ∷ 20 ∷ 21 ∷ 22 ∷ 23 ∷ 24 ∷ 25 ∷ 26 ∷ 27 ∷ 28 ∷ 29 ∷ 30 ∷ 31 ∷ 32 ∷ 33 ∷ 34 ∷ 35 ∷ 36 ∷ 37 ∷ 38 ∷ 39 ∷ 40 ∷ 41 ∷ 42 ∷ 43 ∷ 44 ∷ 45 ∷ 46 ∷ 47 ∷ 48 ∷ 49 ∷ 50 ∷ 51 ∷ 52 ∷ 53 ∷ 54 ∷ 55 ∷ []) $ walk 𝓣 known_report known_hand l₀ l₁ l₂ l₃ l₄ l₅ l₆ l₇ l₈ l₉ l₁₀ l₁₁ l₁₂ l₁₃ l₁₄ l₁₅ l₁₆ l₁₇ l₁₈ l₁₉))))))))))))))))))))
 
-  module _ (𝓣 : Tables 𝓤 H) (known-report : Triple 𝓤 (𝓣.C #report) Rep) (known-hand : Triple 𝓤 (𝓣.C #hand) Hand) where
-    station-report-walks : Walks 𝓛 f.ended stayed (WpFn 𝓤 H 𝓣.C 𝓣.Λ code.function) (f.clauses 𝓛 mem run)
-    station-report-walks = walked 𝓛 f.ended stayed (f.clauses 𝓛 mem run) (WpFn 𝓤 H 𝓣.C 𝓣.Λ code.function)
+  module _ (𝓣 : Tables 𝓤 H) (known_report : Triple 𝓤 (𝓣.C #report) Rep) (known_hand : Triple 𝓤 (𝓣.C #hand) Hand) where
+    station_report_walks : Walks 𝓛 f.ended stayed (WpFn 𝓤 H 𝓣.C 𝓣.Λ code.function) (f.clauses 𝓛 mem run)
+    station_report_walks = walked 𝓛 f.ended stayed (f.clauses 𝓛 mem run) (WpFn 𝓤 H 𝓣.C 𝓣.Λ code.function)
         (λ κs. (shr_slice_vals, (shr_slice_vals, (shr_slice_vals, (uint_vals w64, (shr_slice_vals, (shr_slice_vals, (shr_vals, (shr_vals, (shr_vals, (shr_vals, tt)))))))))))
         (λ κs. (
           shr_slice_Tells (named 0) κs.0 u8,
@@ -300,10 +300,10 @@ module _ {M : Type 1} {𝓤 : Ura M} (𝓛 : Logic 𝓤) (mem : Memory → SProp
         ))
         (λ κs qs bounds a g are. via 𝓤 _ (fst∗ 𝓤 _ (emp 𝓤))
         (enters κs.0 κs.1.0 κs.1.1.0 κs.1.1.1.0 qs.0 qs.1.0 qs.1.1.0 qs.1.1.1.0 a.0 a.1.0 a.1.1.0 a.1.1.1.0 a.1.1.1.1.0 a.1.1.1.1.1.0 a.1.1.1.1.1.1.0 a.1.1.1.1.1.1.1.0 a.1.1.1.1.1.1.1.1.0 a.1.1.1.1.1.1.1.1.1.0
-        are.0.0.1 are.1.0.0.1 are.1.1.0.0.1 are.1.1.1.0.1 are.1.1.1.1.0.0.1 are.1.1.1.1.1.0.0.1 𝓣 known-report known-hand))
+        are.0.0.1 are.1.0.0.1 are.1.1.0.0.1 are.1.1.1.0.1 are.1.1.1.1.0.0.1 are.1.1.1.1.1.0.0.1 𝓣 known_report known_hand))
 
-    station-report-meets : Meets 𝓛 f.signature (WpFn 𝓤 H 𝓣.C 𝓣.Λ code.function) (f.spec 𝓛 mem run)
-    station-report-meets = walk_Meets 𝓛 f.ended stayed (
+    station_report_meets : Meets 𝓛 f.signature (WpFn 𝓤 H 𝓣.C 𝓣.Λ code.function) (f.spec 𝓛 mem run)
+    station_report_meets = walk_Meets 𝓛 f.ended stayed (
       Goes-dropped 𝓛 4 (shr_slice_of (0 ∷ []) tt (plain (λ _. u8))) yes (λ κs x f. refl),
       (
         Goes-dropped 𝓛 4 (shr_slice_of (0 ∷ []) tt (plain (λ _. u8))) yes (λ κs x f. refl),
@@ -316,13 +316,13 @@ module _ {M : Type 1} {𝓤 : Ura M} (𝓛 : Logic 𝓤) (mem : Memory → SProp
         ),
       ),
     ) (f.clauses 𝓛 mem run)
-        (WpFn 𝓤 H 𝓣.C 𝓣.Λ code.function) (WpFn-mono 𝓤 H 𝓛.laws 𝓣 code.function) station-report-walks
+        (WpFn 𝓤 H 𝓣.C 𝓣.Λ code.function) (WpFn-mono 𝓤 H 𝓛.laws 𝓣 code.function) station_report_walks
 
 pub station-report-spec : {M : Type 1} → stated.statement M
 unfolding code.routine tables_of
 station-report-spec 𝓤 𝓛 𝓜 𝓡 =
     entered 𝓤 𝓛.H (triple_of 𝓛 f.signature (f.spec 𝓛 𝓜.mem 𝓡.run))
     (tables 𝓤 𝓛.H 𝓜 𝓡 code.env).C (tables 𝓤 𝓛.H 𝓜 𝓡 code.env).Λ #station code.function (code.unfolded 𝓤 𝓛.H 𝓜 𝓡)
-    (station-report-meets 𝓛 𝓜.mem 𝓡.run (tables_of 𝓤 𝓛.H 𝓜 (tables 𝓤 𝓛.H 𝓜 𝓡 code.env))
+    (station_report_meets 𝓛 𝓜.mem 𝓡.run (tables_of 𝓤 𝓛.H 𝓜 (tables 𝓤 𝓛.H 𝓜 𝓡 code.env))
     (cited 𝓤 𝓛.H (Rep 𝓛 𝓜.mem 𝓡.run) 𝓜 𝓡 code.env #report report-def.routine code.calls-report::reporting::report (report-thm.met 𝓤 𝓛 𝓜 𝓡))
     (cited 𝓤 𝓛.H (Hand 𝓛 𝓜.mem 𝓡.run) 𝓜 𝓡 code.env #hand hand-def.routine code.calls-station::sheet::hand-report (hand-thm.met 𝓤 𝓛 𝓜 𝓡)))

@@ -1,8 +1,8 @@
--- By the cases of `resultIn`.
+-- By the cases of `result_in`.
 use mir.Syntax.{w64}
 use mir.Val.{SFits}
 use mir.ValLaws.{to_z-of_z}
-use Rattle.station_testing.proofs.Laws.{told-value}
+use Rattle.station_testing.proofs.Laws.{told_value}
 use borrow.Author.Rules.{rules}
 use Rattle.station_testing.proofs.arithmetic.hand_back.Statement.{statement}
 use Rattle.station_testing.proofs.arithmetic.hand_back.Tie as tie
@@ -20,7 +20,7 @@ returns : tie.Need-returns
 returns c =
     let v = c.before.n.given in
     let f : SFits w64 v.0.0 = search rules in
-    told-value v.1 (to_z-of_z w64 _ f)
+    told_value v.1 (to_z-of_z w64 _ f)
 
 returns-2 : tie.Need-returns-2
 returns-2 c = search rules

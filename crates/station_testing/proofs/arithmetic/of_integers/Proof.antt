@@ -1,9 +1,9 @@
 -- By the codes, each with the contract of its calculation.
 use borrow.Author.Tests.{eq-eqb, ne_eqb}
-use Rattle.numbers.specs.Range.{integerLimit}
-use Rattle.numbers.specs.Arithmetic.{sum_of, differenceOf, integerProduct, integerQuotient}
+use Rattle.numbers.specs.Range.{integer_limit}
+use Rattle.numbers.specs.Arithmetic.{sum_of, difference_of, integer_product, integer_quotient}
 use Rattle.numbers.proofs.Machine.{read₂}
-use Rattle.station_testing.specs.Codes.{onIntegers}
+use Rattle.station_testing.specs.Codes.{on_integers}
 use borrow.Author.Rules.{rules}
 use Rattle.station_testing.proofs.arithmetic.of_integers.Statement.{statement}
 use Rattle.station_testing.proofs.arithmetic.of_integers.Tie as tie
@@ -12,37 +12,37 @@ add-requires : tie.Need-add-requires
 add-requires c κs = search rules
 
 returns : tie.Need-returns
-unfolding onIntegers
+unfolding on_integers
 returns c =
     let s = c.before.before.ranges in
-    rw (eq-eqb _ _ c.before.if1.true) (read₂ (sum_of integerLimit) s.a s.b c.add.ensures)
+    rw (eq-eqb _ _ c.before.if1.true) (read₂ (sum_of integer_limit) s.a s.b c.add.ensures)
 
 subtract-requires : tie.Need-subtract-requires
 subtract-requires c κs = search rules
 
 returns-2 : tie.Need-returns-2
-unfolding onIntegers
+unfolding on_integers
 returns-2 c =
     let s = c.before.before.before.ranges in
-    rw (ne_eqb _ _ c.before.before.if1.false, eq-eqb _ _ c.before.if2.true) (read₂ (differenceOf integerLimit) s.a s.b c.subtract.ensures)
+    rw (ne_eqb _ _ c.before.before.if1.false, eq-eqb _ _ c.before.if2.true) (read₂ (difference_of integer_limit) s.a s.b c.subtract.ensures)
 
 multiply-requires : tie.Need-multiply-requires
 multiply-requires c κs = search rules
 
 returns-3 : tie.Need-returns-3
-unfolding onIntegers
+unfolding on_integers
 returns-3 c =
     let s = c.before.before.before.before.ranges in
-    rw (ne_eqb _ _ c.before.before.before.if1.false, ne_eqb _ _ c.before.before.if2.false, eq-eqb _ _ c.before.if3.true) (read₂ integerProduct s.a s.b c.multiply.ensures)
+    rw (ne_eqb _ _ c.before.before.before.if1.false, ne_eqb _ _ c.before.before.if2.false, eq-eqb _ _ c.before.if3.true) (read₂ integer_product s.a s.b c.multiply.ensures)
 
 divide-requires : tie.Need-divide-requires
 divide-requires c κs = search rules
 
 returns-4 : tie.Need-returns-4
-unfolding onIntegers
+unfolding on_integers
 returns-4 c =
     let s = c.before.before.before.before.ranges in
-    rw (ne_eqb _ _ c.before.before.before.if1.false, ne_eqb _ _ c.before.before.if2.false, ne_eqb _ _ c.before.if3.false) (read₂ integerQuotient s.a s.b c.divide.ensures)
+    rw (ne_eqb _ _ c.before.before.before.if1.false, ne_eqb _ _ c.before.before.if2.false, ne_eqb _ _ c.before.if3.false) (read₂ integer_quotient s.a s.b c.divide.ensures)
 
 pub of-integers-spec : {M : Type 1} → statement M
 of-integers-spec =

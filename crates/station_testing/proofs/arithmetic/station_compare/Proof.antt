@@ -1,7 +1,7 @@
 -- What `compare` says of the two quantities.
 use mathlib.Core.Path.{ap₂, ◌∙◌}
 use Rattle.numbers.proofs.Machine.{read}
-use Rattle.station_testing.specs.Codes.{quantityOf, comparedBy}
+use Rattle.station_testing.specs.Codes.{quantity_of, compared_by}
 use borrow.Author.Rules.{rules}
 use Rattle.station_testing.proofs.arithmetic.station_compare.Statement.{statement}
 use Rattle.station_testing.proofs.arithmetic.station_compare.Tie as tie
@@ -18,7 +18,7 @@ compare-requires c κs = search rules
 returns : tie.Need-returns
 returns c =
     let s = c.before.before.before.ranges in
-    c.compare.ensures ∙ ap₂ (comparedBy _) (read (quantityOf _) s.a c.before.before.quantity.ensures) (read (quantityOf _) s.b c.before.quantity2.ensures)
+    c.compare.ensures ∙ ap₂ (compared_by _) (read (quantity_of _) s.a c.before.before.quantity.ensures) (read (quantity_of _) s.b c.before.quantity2.ensures)
 
 pub station-compare-spec : {M : Type 1} → statement M
 station-compare-spec =

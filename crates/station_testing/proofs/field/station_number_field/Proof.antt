@@ -1,6 +1,6 @@
 -- What `number` says of the places and the quantity.
 use Rattle.numbers.proofs.Machine.{read}
-use Rattle.station_testing.specs.Codes.{quantityOf}
+use Rattle.station_testing.specs.Codes.{quantity_of}
 use borrow.Author.Rules.{rules}
 use Rattle.station_testing.proofs.field.station_number_field.Statement.{statement}
 use Rattle.station_testing.proofs.field.station_number_field.Tie as tie
@@ -20,7 +20,7 @@ same_length c = search rules
 returns : tie.Need-returns
 returns c =
     let k = c.before.before.before.before in
-    rw (← k.before.places_of.ensures, ← read (quantityOf _) k.before.before.before.ranges.n k.quantity.ensures) c.before.before.number.ensures
+    rw (← k.before.places_of.ensures, ← read (quantity_of _) k.before.before.before.ranges.n k.quantity.ensures) c.before.before.number.ensures
 
 pub station-number-field-spec : {M : Type 1} → statement M
 station-number-field-spec =

@@ -2,7 +2,7 @@
 use native.Mathlib.Omega.{arith}
 use Prim.Native.Nat.{ℕ}
 use lib.ListN.{length-replicate}
-use Rattle.station_testing.proofs.Laws.{index-refused, index_short, index-few, index_listed}
+use Rattle.station_testing.proofs.Laws.{index_refused, index_short, index_few, index_listed}
 use borrow.Author.Rules.{rules}
 use Rattle.station_testing.proofs.index.station_index.Statement.{statement}
 use Rattle.station_testing.proofs.index.station_index.Tie as tie
@@ -20,7 +20,7 @@ enum_told : tie.Need-enum-told
 enum_told c = search rules
 
 returns : tie.Need-returns
-returns c = index-refused _ _ _ _ _ c.before.before.before.build.ensures _ _ c.enum_told.given.1
+returns c = index_refused _ _ _ _ _ c.before.before.before.build.ensures _ _ c.enum_told.given.1
 
 returns-2 : tie.Need-returns-2
 returns-2 c = index_short _ _ _ _ _ c.before.before.before.before.before.build.ensures _ _ _ c.before.before.n.given.1 c.if1.true
@@ -34,7 +34,7 @@ part-copy-in-start c = search rules
 part-copy-in-end : tie.Need-slice-bounds-copy-in-end
 part-copy-in-end c =
     let k = c.before.before.before.before in
-    index-few _ _ _ _ _ k.before.before.before.build.ensures _ k.n.given.1 (omega (arith, length-replicate {A = ℕ} 5461 0))
+    index_few _ _ _ _ _ k.before.before.before.build.ensures _ k.n.given.1 (omega (arith, length-replicate {A = ℕ} 5461 0))
 
 copy-in-requires : tie.Need-copy-in-requires
 copy-in-requires c κs = search rules

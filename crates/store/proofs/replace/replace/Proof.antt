@@ -1,5 +1,5 @@
 -- Each of the three writes has room, so that together they make the buffer of the definition.
-use Rattle.store.proofs.Replacing.{replaced-is}
+use Rattle.store.proofs.Replacing.{replaced_is}
 use borrow.Author.Rules.{rules}
 use Rattle.store.proofs.replace.replace.Statement.{statement}
 use Rattle.store.proofs.replace.replace.Tie as tie
@@ -36,7 +36,7 @@ returns c =
     let k = c.before.before.before.before.before.before.before in
     let s = k.before.before.before.before in
     let a = s.before.before.before.before in
-    replaced-is _ _ _ _ _ a.requires.0 a.requires.1 a.requires.2 _ _ _ _ _ _ s.shift.ensures k.write.ensures _ c.before.before.before.excess.ensures c.before.before.fill.ensures
+    replaced_is _ _ _ _ _ a.requires.0 a.requires.1 a.requires.2 _ _ _ _ _ _ s.shift.ensures k.write.ensures _ c.before.before.before.excess.ensures c.before.before.fill.ensures
 
 pub replace_spec : {M : Type 1} → statement M
 replace_spec =

@@ -1,5 +1,5 @@
 use borrow.Author.Tests.{eq-eqb, ne_eqb}
-use Rattle.scan.specs.Words.{standsAt}
+use Rattle.scan.specs.Words.{stands_at}
 use borrow.Author.Rules.{rules}
 use Rattle.template.proofs.names.same_bytes.Statement.{statement}
 use Rattle.template.proofs.names.same_bytes.Tie as tie
@@ -11,8 +11,8 @@ begins-with-requires : tie.Need-begins-with-requires
 begins-with-requires c κs = search rules
 
 returns-2 : tie.Need-returns-2
-unfolding standsAt
-returns-2 c = rw (eq-eqb _ _ c.before.if1.false) c.begins-with.ensures
+unfolding stands_at
+returns-2 c = rw (eq-eqb _ _ c.before.if1.false) c.begins_with.ensures
 
 pub same-bytes-spec : {M : Type 1} → statement M
 same-bytes-spec = tie.close (tie.spec returns begins-with-requires returns-2)

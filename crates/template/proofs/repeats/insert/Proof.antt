@@ -1,5 +1,5 @@
 -- The part from the position on moves up, and the place comes before it.
-use Rattle.template.proofs.SortedLaws.{inserted-in-part}
+use Rattle.template.proofs.SortedLaws.{inserted_in_part}
 use borrow.Author.Rules.{rules}
 use Rattle.template.proofs.repeats.insert.Statement.{statement}
 use Rattle.template.proofs.repeats.insert.Tie as tie
@@ -35,7 +35,7 @@ same_length : tie.Need-same-length
 same_length c = search rules
 
 returns : tie.Need-returns
-returns c = inserted-in-part _ _ _ _ _ c.before.before.move_up.ensures c.before.before.before.before.before.requires.1 c.before.before.before.before.before.requires.0
+returns c = inserted_in_part _ _ _ _ _ c.before.before.move_up.ensures c.before.before.before.before.before.requires.1 c.before.before.before.before.before.requires.0
 
 pub insert-spec : {M : Type 1} → statement M
 insert-spec =

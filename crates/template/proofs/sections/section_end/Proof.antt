@@ -1,11 +1,11 @@
-use Rattle.template.proofs.LineLaws.{part-line}
-use Rattle.template.proofs.SectionLaws.{end-of-all, end-at-next, end-of-last}
+use Rattle.template.proofs.LineLaws.{part_line}
+use Rattle.template.proofs.SectionLaws.{end_of_all, end_at_next, end_of_last}
 use borrow.Author.Rules.{rules}
 use Rattle.template.proofs.sections.section_end.Statement.{statement}
 use Rattle.template.proofs.sections.section_end.Tie as tie
 
 returns : tie.Need-returns
-returns c = end-of-all _ _ _ _ c.if1.true
+returns c = end_of_all _ _ _ _ c.if1.true
 
 sub-line-of : tie.Need-overflow-sub-line-of
 sub-line-of c = search rules
@@ -40,12 +40,12 @@ enum_told c = search rules
 returns-2 : tie.Need-returns-2
 returns-2 c =
     let a = c.before.before.before.before.before.before.before.before.before.args in
-    end-of-last _ _ _ _ c.before.before.before.before.before.before.if1.false _ (part-line a.template.now _ a.at c.before.before.before.before.Line-of.ensures) _ c.before.before.section-from.ensures.0 c.enum_told.given.1
+    end_of_last _ _ _ _ c.before.before.before.before.before.before.if1.false _ (part_line a.template.now _ a.at c.before.before.before.before.Line-of.ensures) _ c.before.before.section-from.ensures.0 c.enum_told.given.1
 
 returns-3 : tie.Need-returns-3
 returns-3 c =
     let a = c.before.before.before.before.before.before.before.before.before.before.args in
-    end-at-next _ _ _ _ c.before.before.before.before.before.before.before.if1.false _ (part-line a.template.now _ a.at c.before.before.before.before.before.Line-of.ensures) _ c.before.before.before.section-from.ensures.0 _ _ c.before.found.given.1
+    end_at_next _ _ _ _ c.before.before.before.before.before.before.before.if1.false _ (part_line a.template.now _ a.at c.before.before.before.before.before.Line-of.ensures) _ c.before.before.before.section-from.ensures.0 _ _ c.before.found.given.1
 
 pub section-end-spec : {M : Type 1} → statement M
 section-end-spec =

@@ -1,4 +1,4 @@
-use Rattle.template.proofs.SectionLaws.{within-at, selected-none, selected-run}
+use Rattle.template.proofs.SectionLaws.{within_at, selected_none, selected_run}
 use borrow.Author.Rules.{rules}
 use Rattle.template.proofs.sections.select.Statement.{statement}
 use Rattle.template.proofs.sections.select.Tie as tie
@@ -13,16 +13,16 @@ enum_told : tie.Need-enum-told
 enum_told c = search rules
 
 returns : tie.Need-returns
-returns c = selected-none _ _ _ c.before.before.section-from.ensures.0 c.enum_told.given.1
+returns c = selected_none _ _ _ c.before.before.section-from.ensures.0 c.enum_told.given.1
 
 section-end-requires : tie.Need-section-end-requires
 section-end-requires c κs =
-    let (a, b) = within-at _ _ _ _ c.before.before.before.section-from.ensures.1 c.before.found.given.1 in
+    let (a, b) = within_at _ _ _ _ c.before.before.before.section-from.ensures.1 c.before.found.given.1 in
     (c.before.before.before.before.before.before.requires, a, b)
 
 returns-2 : tie.Need-returns-2
 returns-2 c =
-    selected-run _ _ _ c.before.before.before.before.section-from.ensures.0 _ _ _ c.before.before.found.given.1 c.section-end.ensures
+    selected_run _ _ _ c.before.before.before.before.section-from.ensures.0 _ _ _ c.before.before.found.given.1 c.section-end.ensures
 
 pub select-spec : {M : Type 1} → statement M
 select-spec =

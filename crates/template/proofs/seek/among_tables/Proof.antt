@@ -1,5 +1,5 @@
 use borrow.Author.Rules.{rules}
-use Rattle.template.specs.Seek.{amongTables}
+use Rattle.template.specs.Seek.{among_tables}
 use Rattle.template.proofs.seek.among_tables.Statement.{statement}
 use Rattle.template.proofs.seek.among_tables.Tie as tie
 
@@ -13,15 +13,15 @@ enum-told-3 : tie.Need-enum-told-3
 enum-told-3 c = search rules
 
 returns : tie.Need-returns
-unfolding amongTables
+unfolding among_tables
 returns c = rw c.enum_told.given.1
 
 returns-2 : tie.Need-returns-2
-unfolding amongTables
+unfolding among_tables
 returns-2 c = rw c.enum-told2.given.1
 
 returns-3 : tie.Need-returns-3
-unfolding amongTables
+unfolding among_tables
 returns-3 c = rw c.enum-told3.given.1
 
 pub among-tables-spec : {M : Type 1} → statement M

@@ -1,5 +1,5 @@
 use borrow.Author.Rules.{rules}
-use Rattle.template.specs.Seek.{atElse}
+use Rattle.template.specs.Seek.{at_else}
 use Rattle.template.proofs.seek.at_else.Statement.{statement}
 use Rattle.template.proofs.seek.at_else.Tie as tie
 
@@ -13,15 +13,15 @@ enum-told-3 : tie.Need-enum-told-3
 enum-told-3 c = search rules
 
 returns : tie.Need-returns
-unfolding atElse
+unfolding at_else
 returns c = rw c.enum_told.given.1
 
 returns-2 : tie.Need-returns-2
-unfolding atElse
+unfolding at_else
 returns-2 c = rw c.enum-told2.given.1
 
 returns-3 : tie.Need-returns-3
-unfolding atElse
+unfolding at_else
 returns-3 c = rw c.enum-told3.given.1
 
 pub at-else-spec : {M : Type 1} → statement M

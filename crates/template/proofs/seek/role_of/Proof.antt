@@ -1,5 +1,5 @@
 use borrow.Author.Rules.{rules}
-use Rattle.template.specs.Seek.{roleOf}
+use Rattle.template.specs.Seek.{role_of}
 use Rattle.template.proofs.seek.role_of.Statement.{statement}
 use Rattle.template.proofs.seek.role_of.Tie as tie
 
@@ -46,39 +46,39 @@ enum-told-9 : tie.Need-enum-told-9
 enum-told-9 c = search rules
 
 returns : tie.Need-returns
-unfolding roleOf
+unfolding role_of
 returns c = rw c.enum_told.given.1
 
 returns-2 : tie.Need-returns-2
-unfolding roleOf
+unfolding role_of
 returns-2 c = rw c.enum-told2.given.1
 
 returns-3 : tie.Need-returns-3
-unfolding roleOf
+unfolding role_of
 returns-3 c = rw c.before.enum-told3.given.1 c.among-tests.ensures
 
 returns-4 : tie.Need-returns-4
-unfolding roleOf
-returns-4 c = rw c.before.enum-told4.given.1 c.at-else.ensures
+unfolding role_of
+returns-4 c = rw c.before.enum-told4.given.1 c.at_an_else.ensures
 
 returns-5 : tie.Need-returns-5
-unfolding roleOf
+unfolding role_of
 returns-5 c = rw c.before.enum-told5.given.1 c.among-tests2.ensures
 
 returns-6 : tie.Need-returns-6
-unfolding roleOf
+unfolding role_of
 returns-6 c = rw c.before.enum-told6.given.1 c.among-tables.ensures
 
 returns-7 : tie.Need-returns-7
-unfolding roleOf
+unfolding role_of
 returns-7 c = rw c.before.enum-told7.given.1 c.among-tables2.ensures
 
 returns-8 : tie.Need-returns-8
-unfolding roleOf
+unfolding role_of
 returns-8 c = rw c.enum-told8.given.1
 
 returns-9 : tie.Need-returns-9
-unfolding roleOf
+unfolding role_of
 returns-9 c = rw c.enum-told9.given.1
 
 pub role-of-spec : {M : Type 1} → statement M

@@ -1,7 +1,7 @@
 use mathlib.Core.Path.{sym}
 use native.Mathlib.Numerals.{add-one}
-use Rattle.template.specs.Seek.{wayPast}
-use Rattle.template.proofs.SeekLaws.{past-closes, past-divides}
+use Rattle.template.specs.Seek.{way_past}
+use Rattle.template.proofs.SeekLaws.{past_closes, past_divides}
 use borrow.Author.Rules.{rules}
 use Rattle.template.proofs.seek.way_past.Statement.{statement}
 use Rattle.template.proofs.seek.way_past.Tie as tie
@@ -16,7 +16,7 @@ enum-told-2 : tie.Need-enum-told-2
 enum-told-2 c = search rules
 
 returns : tie.Need-returns
-unfolding wayPast
+unfolding way_past
 returns c = rw (c.before.enum-told2.given.1, c.if1.true)
 
 sub-t6 : tie.Need-overflow-sub-t6
@@ -26,24 +26,24 @@ enum-told-3 : tie.Need-enum-told-3
 enum-told-3 c = search rules
 
 returns-2 : tie.Need-returns-2
-unfolding wayPast
+unfolding way_past
 returns-2 c = rw (c.before.enum-told3.given.1, c.if2.true)
 
 enum-told-4 : tie.Need-enum-told-4
 enum-told-4 c = search rules
 
 returns-3 : tie.Need-returns-3
-unfolding wayPast
+unfolding way_past
 returns-3 c = rw (c.enum_told.given.1, add-one)
 
 returns-4 : tie.Need-returns-4
-returns-4 c = rw c.before.enum-told2.given.1 (sym (past-closes _ c.if1.false))
+returns-4 c = rw c.before.enum-told2.given.1 (sym (past_closes _ c.if1.false))
 
 returns-5 : tie.Need-returns-5
-returns-5 c = rw c.before.enum-told3.given.1 (sym (past-divides _ c.if2.false))
+returns-5 c = rw c.before.enum-told3.given.1 (sym (past_divides _ c.if2.false))
 
 returns-6 : tie.Need-returns-6
-unfolding wayPast
+unfolding way_past
 returns-6 c = rw c.enum-told4.given.1
 
 pub way-past-spec : {M : Type 1} → statement M

@@ -1,6 +1,6 @@
 -- The word's number in the table finds the shape of its word.
 use mathlib.Core.Path.{sym, ◌∙◌}
-use Rattle.template.proofs.WordForm.{shape-by-number}
+use Rattle.template.proofs.WordForm.{shape_by_number}
 use borrow.Author.Rules.{rules}
 use Rattle.template.proofs.shapes.command_shape.Statement.{statement}
 use Rattle.template.proofs.shapes.command_shape.Tie as tie
@@ -15,13 +15,13 @@ enum_told : tie.Need-enum-told
 enum_told c = search rules
 
 returns : tie.Need-returns
-returns c = rw (shape-by-number, sym c.before.before.word_at.ensures ∙ c.enum_told.given.1)
+returns c = rw (shape_by_number, sym c.before.before.word_at.ensures ∙ c.enum_told.given.1)
 
 shape-numbered-requires : tie.Need-shape-numbered-requires
 shape-numbered-requires c κs = search rules
 
 returns-2 : tie.Need-returns-2
-returns-2 c = rw (shape-by-number, sym c.before.before.before.before.word_at.ensures ∙ c.before.before.k.given.1) c.shape-numbered.ensures
+returns-2 c = rw (shape_by_number, sym c.before.before.before.before.word_at.ensures ∙ c.before.before.k.given.1) c.shape-numbered.ensures
 
 pub command-shape-spec : {M : Type 1} → statement M
 command-shape-spec =

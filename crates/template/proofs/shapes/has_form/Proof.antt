@@ -1,5 +1,5 @@
 use borrow.Author.Rules.{rules}
-use Rattle.template.specs.Shape.{hasForm}
+use Rattle.template.specs.Shape.{has_form}
 use Rattle.template.proofs.shapes.has_form.Statement.{statement}
 use Rattle.template.proofs.shapes.has_form.Tie as tie
 
@@ -31,39 +31,39 @@ enum-told-9 : tie.Need-enum-told-9
 enum-told-9 c = search rules
 
 returns : tie.Need-returns
-unfolding hasForm
+unfolding has_form
 returns c = rw c.enum_told.given.1
 
 returns-2 : tie.Need-returns-2
-unfolding hasForm
+unfolding has_form
 returns-2 c = rw c.enum-told2.given.1
 
 returns-3 : tie.Need-returns-3
-unfolding hasForm
+unfolding has_form
 returns-3 c = rw c.enum-told3.given.1
 
 returns-4 : tie.Need-returns-4
-unfolding hasForm
+unfolding has_form
 returns-4 c = rw c.enum-told4.given.1
 
 returns-5 : tie.Need-returns-5
-unfolding hasForm
+unfolding has_form
 returns-5 c = rw c.enum-told5.given.1
 
 returns-6 : tie.Need-returns-6
-unfolding hasForm
+unfolding has_form
 returns-6 c = rw c.enum-told6.given.1
 
 returns-7 : tie.Need-returns-7
-unfolding hasForm
+unfolding has_form
 returns-7 c = rw c.enum-told7.given.1
 
 returns-8 : tie.Need-returns-8
-unfolding hasForm
+unfolding has_form
 returns-8 c = rw c.enum-told8.given.1
 
 returns-9 : tie.Need-returns-9
-unfolding hasForm
+unfolding has_form
 returns-9 c = rw c.enum-told9.given.1
 
 pub has-form-spec : {M : Type 1} → statement M

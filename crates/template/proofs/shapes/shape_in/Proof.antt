@@ -1,4 +1,4 @@
-use Rattle.template.specs.Shape.{shapeIn}
+use Rattle.template.specs.Shape.{shape_in}
 use borrow.Author.Rules.{rules}
 use Rattle.template.proofs.shapes.shape_in.Statement.{statement}
 use Rattle.template.proofs.shapes.shape_in.Tie as tie
@@ -61,79 +61,79 @@ enum-told-19 : tie.Need-enum-told-19
 enum-told-19 c = search rules
 
 returns : tie.Need-returns
-unfolding shapeIn
+unfolding shape_in
 returns c = rw c.enum_told.given.1
 
 returns-2 : tie.Need-returns-2
-unfolding shapeIn
+unfolding shape_in
 returns-2 c = rw c.enum-told2.given.1
 
 returns-3 : tie.Need-returns-3
-unfolding shapeIn
+unfolding shape_in
 returns-3 c = rw c.enum-told3.given.1
 
 returns-4 : tie.Need-returns-4
-unfolding shapeIn
+unfolding shape_in
 returns-4 c = rw c.enum-told4.given.1
 
 returns-5 : tie.Need-returns-5
-unfolding shapeIn
+unfolding shape_in
 returns-5 c = rw c.enum-told5.given.1
 
 returns-6 : tie.Need-returns-6
-unfolding shapeIn
+unfolding shape_in
 returns-6 c = rw c.enum-told6.given.1
 
 returns-7 : tie.Need-returns-7
-unfolding shapeIn
+unfolding shape_in
 returns-7 c = rw c.enum-told7.given.1
 
 returns-8 : tie.Need-returns-8
-unfolding shapeIn
+unfolding shape_in
 returns-8 c = rw c.enum-told8.given.1
 
 returns-9 : tie.Need-returns-9
-unfolding shapeIn
+unfolding shape_in
 returns-9 c = rw c.enum-told9.given.1
 
 returns-10 : tie.Need-returns-10
-unfolding shapeIn
+unfolding shape_in
 returns-10 c = rw c.enum-told10.given.1
 
 returns-11 : tie.Need-returns-11
-unfolding shapeIn
+unfolding shape_in
 returns-11 c = rw c.enum-told11.given.1
 
 returns-12 : tie.Need-returns-12
-unfolding shapeIn
+unfolding shape_in
 returns-12 c = rw c.enum-told12.given.1
 
 returns-13 : tie.Need-returns-13
-unfolding shapeIn
+unfolding shape_in
 returns-13 c = rw c.enum-told13.given.1
 
 returns-14 : tie.Need-returns-14
-unfolding shapeIn
+unfolding shape_in
 returns-14 c = rw c.enum-told14.given.1
 
 returns-15 : tie.Need-returns-15
-unfolding shapeIn
+unfolding shape_in
 returns-15 c = rw c.enum-told15.given.1
 
 returns-16 : tie.Need-returns-16
-unfolding shapeIn
+unfolding shape_in
 returns-16 c = rw c.enum-told16.given.1
 
 returns-17 : tie.Need-returns-17
-unfolding shapeIn
+unfolding shape_in
 returns-17 c = rw c.enum-told17.given.1
 
 returns-18 : tie.Need-returns-18
-unfolding shapeIn
+unfolding shape_in
 returns-18 c = rw c.enum-told18.given.1
 
 returns-19 : tie.Need-returns-19
-unfolding shapeIn
+unfolding shape_in
 returns-19 c = rw c.enum-told19.given.1
 
 pub shape-in-spec : {M : Type 1} → statement M

@@ -1,35 +1,35 @@
 -- The definition makes the code's tests in the code's order.
 use borrow.Author.Tests.{eq-eqb, ne_eqb}
-use Rattle.template.specs.inner.Numbered.{numberedShape}
+use Rattle.template.specs.Inner.Numbered.{numbered_shape}
 use Rattle.template.proofs.shapes.shape_numbered.Statement.{statement}
 use Rattle.template.proofs.shapes.shape_numbered.Tie as tie
 
 returns : tie.Need-returns
-unfolding numberedShape
+unfolding numbered_shape
 returns c = rw (eq-eqb _ _ c.if1.true)
 
 returns-2 : tie.Need-returns-2
-unfolding numberedShape
+unfolding numbered_shape
 returns-2 c = rw (ne_eqb _ _ c.before.if1.false, eq-eqb _ _ c.if2.true)
 
 returns-3 : tie.Need-returns-3
-unfolding numberedShape
+unfolding numbered_shape
 returns-3 c = rw (ne_eqb _ _ c.before.before.if1.false, ne_eqb _ _ c.before.if2.false, eq-eqb _ _ c.if3.true)
 
 returns-4 : tie.Need-returns-4
-unfolding numberedShape
+unfolding numbered_shape
 returns-4 c = rw (ne_eqb _ _ c.before.before.before.if1.false, ne_eqb _ _ c.before.before.if2.false, ne_eqb _ _ c.before.if3.false, eq-eqb _ _ c.if4.true)
 
 returns-5 : tie.Need-returns-5
-unfolding numberedShape
+unfolding numbered_shape
 returns-5 c = rw (ne_eqb _ _ c.before.before.before.before.if1.false, ne_eqb _ _ c.before.before.before.if2.false, ne_eqb _ _ c.before.before.if3.false, ne_eqb _ _ c.before.if4.false, eq-eqb _ _ c.if5.true)
 
 returns-6 : tie.Need-returns-6
-unfolding numberedShape
+unfolding numbered_shape
 returns-6 c = rw (ne_eqb _ _ c.before.before.before.before.before.if1.false, ne_eqb _ _ c.before.before.before.before.if2.false, ne_eqb _ _ c.before.before.before.if3.false, ne_eqb _ _ c.before.before.if4.false, ne_eqb _ _ c.before.if5.false, eq-eqb _ _ c.if6.true)
 
 returns-7 : tie.Need-returns-7
-unfolding numberedShape
+unfolding numbered_shape
 returns-7 c = rw (ne_eqb _ _ c.before.before.before.before.before.if1.false, ne_eqb _ _ c.before.before.before.before.if2.false, ne_eqb _ _ c.before.before.before.if3.false, ne_eqb _ _ c.before.before.if4.false, ne_eqb _ _ c.before.if5.false, ne_eqb _ _ c.if6.false)
 
 pub shape-numbered-spec : {M : Type 1} → statement M

@@ -1,7 +1,7 @@
 -- The definition makes the code's tests in the code's order.
 use mathlib.Core.Path.{sym, ◌∙◌}
 use borrow.Author.Tests.{le-leb, lt-leb, eq-eqb, ne_eqb}
-use Rattle.texts.specs.readers.Text.{piece_at, placed}
+use Rattle.texts.specs.Readers.Text.{piece_at, placed}
 use borrow.Author.Rules.{rules}
 use Rattle.texts.proofs.text.piece_at.Statement.{statement}
 use Rattle.texts.proofs.text.piece_at.Tie as tie

@@ -1,5 +1,5 @@
 -- The definition counts from 1, and a part from its start on.
-use Rattle.values.proofs.Puts.{puts_none, puts-past, puts-in}
+use Rattle.values.proofs.Puts.{puts_none, puts_past, puts_in}
 use mir.Syntax.{w64}
 use mir.ValLaws.{to_z-of_z}
 use borrow.Author.Rules.{rules}
@@ -10,10 +10,10 @@ returns : tie.Need-returns
 returns c = puts_none _ _ _ _ _ c.if1.true
 
 returns-2 : tie.Need-returns-2
-returns-2 c = puts-past _ _ _ _ _ c.if2.true
+returns-2 c = puts_past _ _ _ _ _ c.if2.true
 
 returns-3 : tie.Need-returns-3
-returns-3 c = puts-in _ _ _ _ _ _ c.before.if1.false c.if2.false (to_z-of_z w64 _ c.before.before.ranges.z)
+returns-3 c = puts_in _ _ _ _ _ _ c.before.if1.false c.if2.false (to_z-of_z w64 _ c.before.before.ranges.z)
 
 add-z : tie.Need-overflow-add-z
 add-z c = search rules

@@ -1,5 +1,5 @@
 -- The definition counts from 1, and a part from its start on.
-use Rattle.values.proofs.Puts.{puts_none, puts-past, puts-in}
+use Rattle.values.proofs.Puts.{puts_none, puts_past, puts_in}
 use mathlib.Core.Path.{refl}
 use borrow.Author.Rules.{rules}
 use Rattle.values.proofs.registers.put_word.Statement.{statement}
@@ -9,10 +9,10 @@ returns : tie.Need-returns
 returns c = puts_none _ _ _ _ _ c.if1.true
 
 returns-2 : tie.Need-returns-2
-returns-2 c = puts-past _ _ _ _ _ c.if2.true
+returns-2 c = puts_past _ _ _ _ _ c.if2.true
 
 returns-3 : tie.Need-returns-3
-returns-3 c = puts-in _ _ _ _ _ _ c.before.if1.false c.if2.false refl
+returns-3 c = puts_in _ _ _ _ _ _ c.before.if1.false c.if2.false refl
 
 add_words : tie.Need-overflow-add-words
 add_words c = search rules

@@ -2,8 +2,8 @@
 use lib.ListN.{length}
 use mathlib.Core.Path.{◌≡◌}
 use native.Mathlib.Omega.{arith}
-use Rattle.values.proofs.Texts.{chosen-short, part-short, text-length}
-use Rattle.values.specs.inner.Texts.{strings, chosen}
+use Rattle.values.proofs.Texts.{chosen_short, part_short, text_length}
+use Rattle.values.specs.Inner.Texts.{strings, chosen}
 use borrow.Author.Rules.{rules}
 use Rattle.values.proofs.string.length_of.Statement.{statement}
 use Rattle.values.proofs.string.length_of.Tie as tie
@@ -24,8 +24,8 @@ returns c =
     let s = strings a.line.now a.store.now a.strings.now in
     let e = c.bytes_of.ensures in
     let sixteen : length c.before.before.row-for.result ≡ 16 = search rules in
-    let k = chosen-short a.line.now a.store.now c.before.before.row-for.result a.text.source h.short-line h.short-store (omega (arith, sixteen)) in
-    (text-length s a.text _ _ c.before.before.row-for.ensures e, part-short _ (chosen a.line.now a.store.now c.before.before.row-for.result a.text.source) a.text.count a.text.at e k)
+    let k = chosen_short a.line.now a.store.now c.before.before.row-for.result a.text.source h.short_line h.short_store (omega (arith, sixteen)) in
+    (text_length s a.text _ _ c.before.before.row-for.ensures e, part_short _ (chosen a.line.now a.store.now c.before.before.row-for.result a.text.source) a.text.count a.text.at e k)
 
 pub length-of-spec : {M : Type 1} → statement M
 length-of-spec =

@@ -1,7 +1,7 @@
 -- What `bytes_of` finds are the texts, before |UPPER.
-use Rattle.values.proofs.Texts.{text-is}
-use Rattle.values.specs.inner.Texts.{strings}
-use Rattle.values.specs.Letters.{equalStrings}
+use Rattle.values.proofs.Texts.{text_is}
+use Rattle.values.specs.Inner.Texts.{strings}
+use Rattle.values.specs.Letters.{equal_strings}
 use mathlib.Core.Path.{◌∙◌, ap₂}
 use borrow.Author.Rules.{rules}
 use Rattle.values.proofs.string.same.Statement.{statement}
@@ -32,9 +32,9 @@ returns : tie.Need-returns
 returns c =
     let a = c.before.before.before.before.before.before.before.before.before.args in
     let s = strings a.line.now a.store.now a.strings.now in
-    c.same_bytes.ensures ∙ ap₂ (λ x y. equalStrings a.ignoring x y)
-    (text-is s a.p _ _ c.before.before.before.before.before.before.row-for.ensures c.before.before.before.bytes_of.ensures)
-    (text-is s a.q _ _ c.before.before.before.before.before.row-for2.ensures c.before.bytes-of2.ensures)
+    c.same_bytes.ensures ∙ ap₂ (λ x y. equal_strings a.ignoring x y)
+    (text_is s a.p _ _ c.before.before.before.before.before.before.row-for.ensures c.before.before.before.bytes_of.ensures)
+    (text_is s a.q _ _ c.before.before.before.before.before.row-for2.ensures c.before.bytes-of2.ensures)
 
 pub same_spec : {M : Type 1} → statement M
 same_spec =

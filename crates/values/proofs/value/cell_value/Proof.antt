@@ -1,5 +1,5 @@
 -- The question, and what its answer is worth.
-use Rattle.values.proofs.Cells.{cell-valued}
+use Rattle.values.proofs.Cells.{cell_valued}
 use mir.ValLaws.{to_z-of_z}
 use mir.Val.{SFits}
 use mir.Syntax.{w64}
@@ -20,7 +20,7 @@ valued-requires : tie.Need-valued-requires
 valued-requires c κs = search rules
 
 returns : tie.Need-returns
-returns c = let f : SFits w64 c.before.before.before.before.before.before.before.args.scene.turn = search rules in cell-valued _ _ _ _ _ _ _ _ _ _ _ _ _ _ c.valued.ensures (to_z-of_z w64 _ f) c.before.before.before.index-place.ensures c.before.ask-cell.ensures
+returns c = let f : SFits w64 c.before.before.before.before.before.before.before.args.scene.turn = search rules in cell_valued _ _ _ _ _ _ _ _ _ _ _ _ _ _ c.valued.ensures (to_z-of_z w64 _ f) c.before.before.before.index-place.ensures c.before.ask-cell.ensures
 
 pub cell-value-spec : {M : Type 1} → statement M
 cell-value-spec =

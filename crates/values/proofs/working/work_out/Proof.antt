@@ -1,5 +1,5 @@
 -- No argument, a number, one or two: one law for each way that they end.
-use Rattle.values.proofs.Inputs.{askable-one, askable-first, askable-second, works-none, works-literal, works-one, works-over, works-two}
+use Rattle.values.proofs.Inputs.{askable_one, askable_first, askable_second, works_none, works_literal, works_one, works_over, works_two}
 use borrow.Author.Rules.{rules}
 use Rattle.values.proofs.working.work_out.Statement.{statement}
 use Rattle.values.proofs.working.work_out.Tie as tie
@@ -17,19 +17,19 @@ enum-known-literal : tie.Need-enum-known-literal
 enum-known-literal c = search rules
 
 returns : tie.Need-returns
-returns c = works-literal _ _ _ _ _ _ _ _ _ _ _ _ _ _ c.before.before.before.literal-of.ensures c.before.literal.given.1 c.before.before.before.before.before.inputs.given.1
+returns c = works_literal _ _ _ _ _ _ _ _ _ _ _ _ _ _ c.before.before.before.literal-of.ensures c.before.literal.given.1 c.before.before.before.before.before.inputs.given.1
 
 enum-told-2 : tie.Need-enum-told-2
 enum-told-2 c = search rules
 
 argument-value-requires : tie.Need-argument-value-requires
-argument-value-requires c κs = (askable-one _ _ _ c.before.before.before.before.before.before.before.before.before.before.requires.0 _ c.before.before.before.before.before.inputs.given.1, c.before.before.before.before.before.before.before.before.before.before.requires.1)
+argument-value-requires c κs = (askable_one _ _ _ c.before.before.before.before.before.before.before.before.before.before.requires.0 _ c.before.before.before.before.before.inputs.given.1, c.before.before.before.before.before.before.before.before.before.before.requires.1)
 
 enum-known-inputs-2 : tie.Need-enum-known-inputs-2
 enum-known-inputs-2 c = search rules
 
 argument-value-requires-2 : tie.Need-argument-value-requires-2
-argument-value-requires-2 c κs = (askable-first _ _ _ c.before.before.before.before.before.before.before.requires.0 _ _ c.before.before.inputs2.given.1, c.before.before.before.before.before.before.before.requires.1)
+argument-value-requires-2 c κs = (askable_first _ _ _ c.before.before.before.before.before.before.before.requires.0 _ _ c.before.before.inputs2.given.1, c.before.before.before.before.before.before.before.requires.1)
 
 enum-told-3 : tie.Need-enum-told-3
 enum-told-3 c = search rules
@@ -38,19 +38,19 @@ enum-told-4 : tie.Need-enum-told-4
 enum-told-4 c = search rules
 
 returns-2 : tie.Need-returns-2
-returns-2 c = works-over _ _ _ _ _ _ _ _ _ _ _ _ c.before.before.argument-value2.ensures _ c.before.before.before.before.before.inputs2.given.1 _ _ c.enum-told4.given.1
+returns-2 c = works_over _ _ _ _ _ _ _ _ _ _ _ _ c.before.before.argument-value2.ensures _ c.before.before.before.before.before.inputs2.given.1 _ _ c.enum-told4.given.1
 
 argument-value-requires-3 : tie.Need-argument-value-requires-3
-argument-value-requires-3 c κs = (askable-second _ _ _ c.before.before.before.before.before.before.before.before.before.before.before.requires.0 _ _ _ c.before.before.before.before.before.before.inputs2.given.1 c.before.before.before.argument-value2.ensures.yields.few, c.before.before.before.before.before.before.before.before.before.before.before.requires.1)
+argument-value-requires-3 c κs = (askable_second _ _ _ c.before.before.before.before.before.before.before.before.before.before.before.requires.0 _ _ _ c.before.before.before.before.before.before.inputs2.given.1 c.before.before.before.argument-value2.ensures.yields.few, c.before.before.before.before.before.before.before.before.before.before.before.requires.1)
 
 returns-3 : tie.Need-returns-3
-returns-3 c = works-none _ _ _ _ _ _ _ _ _ c.enum_told.given.1
+returns-3 c = works_none _ _ _ _ _ _ _ _ _ c.enum_told.given.1
 
 returns-4 : tie.Need-returns-4
-returns-4 c = works-one _ _ _ _ _ _ _ _ _ _ _ _ c.argument-value.ensures c.before.before.before.before.before.before.inputs.given.1
+returns-4 c = works_one _ _ _ _ _ _ _ _ _ _ _ _ c.argument-value.ensures c.before.before.before.before.before.before.inputs.given.1
 
 returns-5 : tie.Need-returns-5
-returns-5 c = works-two _ _ _ _ _ _ _ _ _ _ _ _ c.before.before.before.before.argument-value2.ensures _ c.before.before.before.before.before.before.before.inputs2.given.1 _ _ c.argument-value3.ensures c.before.before.enum-told3.given.1
+returns-5 c = works_two _ _ _ _ _ _ _ _ _ _ _ _ c.before.before.before.before.argument-value2.ensures _ c.before.before.before.before.before.before.before.inputs2.given.1 _ _ c.argument-value3.ensures c.before.before.enum-told3.given.1
 
 pub work-out-spec : {M : Type 1} → statement M
 work-out-spec =

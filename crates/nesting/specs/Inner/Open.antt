@@ -1,0 +1,74 @@
+-- How the code holds what is open: as digits in base 5, the innermost lowest.
+use Rattle.std.specs.Prelude.{◌≡◌, Bool, cond, List, [], ◌∷◌, ℕ, ◌+◌, ◌-◌, ◌*◌, ◌/◌, ◌%◌, ◌≤◌, leb, eqb, length}
+use Rattle.std.proofs.Math.Option.{Option, none, some}
+use Rattle.nesting.specs.declared.Shape.{Shape}
+use Rattle.nesting.specs.declared.Shape.TheVariants.{Section, Remark, Test, Else, EndTest, Table, EndTable, Plain, NoForm}
+use Rattle.nesting.specs.declared.Open.{Open}
+use Rattle.nesting.specs.declared.Step.{Step}
+use Rattle.nesting.specs.declared.Step.TheVariants.{Went, Wrong}
+use Rattle.nesting.specs.Nest.{Mark, section, test, else_part, table, tests_open, tables_open, behind, all_closed}
+
+unfoldable pub digit : Mark → ℕ
+digit section = 1
+digit test = 2
+digit else_part = 3
+digit table = 4
+
+unfoldable pub code : List Mark → ℕ
+code [] = 0
+code (m ∷ s) = code s * 5 + digit m
+
+-- the numbers for marks, tests and tables are those of s
+pub record Holds (m t b : ℕ) (s : List Mark) : Type 0 where
+  pub coded : m ≡ code s
+  pub tested : t ≡ tests_open s
+  pub tabled : b ≡ tables_open s
+  pub few_tests : t ≤ 10
+  pub few_tables : b ≤ 5
+  pub short : length s ≤ t + b + 1
+
+abbrev pub HoldsOpen : Open → List Mark → Type 0
+HoldsOpen state s = Holds state.marks state.tests state.tables s
+
+-- the code went on with what the definition has, or both are at fault
+unfoldable pub Follows : Step → Option (List Mark) → Type 0
+Follows (Went state) (some s) = HoldsOpen state s
+Follows (Went state) none = ⊥
+Follows Wrong (some s) = ⊥
+Follows Wrong none = Unit
+
+-- what is done with any three numbers, those of a list of marks or not
+
+abbrev state : ℕ → ℕ → ℕ → Open
+state m t b = record { marks = m; tests = t; tables = b }
+
+-- one mark more, where a section is open and there is room for it
+unfoldable pub deeper : Open → ℕ → ℕ → Step → Step
+deeper s n most r = cond (eqb s.marks 0) Wrong (cond (leb most n) Wrong (cond (leb 152587890625 s.marks) Wrong r))
+
+unfoldable pub step_in : Shape → Open → Step
+step_in Section s = cond (eqb (s.marks % 5) 0) (Went (state 1 0 0)) (cond (eqb (s.marks % 5) 1) (Went (state 1 0 0)) Wrong)
+step_in Remark s = Went s
+step_in Test s = deeper s s.tests 10 (Went (state (s.marks * 5 + 2) (s.tests + 1) s.tables))
+step_in Else s = cond (eqb (s.marks % 5) 2) (Went (state (s.marks + 1) s.tests s.tables)) Wrong
+step_in EndTest s =
+    cond (eqb s.tests 0) Wrong
+    (cond (eqb (s.marks % 5) 2) (Went (state (s.marks / 5) (s.tests - 1) s.tables))
+    (cond (eqb (s.marks % 5) 3) (Went (state (s.marks / 5) (s.tests - 1) s.tables))
+    Wrong))
+step_in Table s = deeper s s.tables 5 (Went (state (s.marks * 5 + 4) s.tests (s.tables + 1)))
+step_in EndTable s =
+    cond (eqb s.tables 0) Wrong
+    (cond (eqb (s.marks % 5) 4) (Went (state (s.marks / 5) s.tests (s.tables - 1)))
+    Wrong)
+step_in Plain s = cond (eqb s.marks 0) Wrong (Went s)
+step_in NoForm s = cond (eqb s.marks 0) Wrong (Went s)
+
+-- r is what is done with the numbers, and where they are those of a list of marks, it is what the definition has
+pub record Steps (state : Open) (shape : Shape) (r : Step) : Type 0 where
+  pub told : r ≡ step_in shape state
+  pub follows : (s : List Mark) → HoldsOpen state s → Follows r (behind shape s)
+
+pub record Ends (state : Open) (r : Bool) : Type 0 where
+  pub told : r ≡ leb (state.marks % 5) 1
+  pub closed : (s : List Mark) → HoldsOpen state s → r ≡ all_closed s
