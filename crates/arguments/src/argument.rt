@@ -9,7 +9,7 @@ use crate::{name, operand};
 use scan::bytes;
 use scan::words::WordRead;
 
-#[derive(Drop)]
+#[derive(Clone, Copy)]
 pub enum Filter {
     Unfiltered,
     // ABS, INT, UPPER, LEN
@@ -22,14 +22,14 @@ pub enum Filter {
     EntryCount,
 }
 
-#[derive(Drop)]
+#[derive(Clone, Copy)]
 pub struct Argument {
     pub operand: Operand,
     pub filter: Filter,
 }
 
 // An argument, and the place behind it.
-#[derive(Drop)]
+#[derive(Clone, Copy)]
 pub enum ArgumentRead {
     ArgumentTo(Argument, usize),
     NoArgument,

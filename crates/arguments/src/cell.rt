@@ -9,7 +9,7 @@ use scan::digits::Numeral;
 use scan::{bytes, digits};
 
 // The parameter, the record's index and the place behind it, where the comma of a field stands; or that something else is there.
-#[derive(Drop)]
+#[derive(Clone, Copy)]
 pub enum CellRead {
     CellTo(usize, Index, usize),
     Other,

@@ -5,7 +5,7 @@ ghost use Rattle.arguments.specs.Readers.Index.{index_at};
 use scan::digits::Numeral;
 use scan::{digits, words};
 
-#[derive(Drop)]
+#[derive(Clone, Copy)]
 pub enum Index {
     // 1–3 digits
     Fixed(usize),
@@ -16,7 +16,7 @@ pub enum Index {
 }
 
 // An index, and the place behind it.
-#[derive(Drop)]
+#[derive(Clone, Copy)]
 pub enum IndexRead {
     IndexTo(Index, usize),
     NoIndex,

@@ -8,6 +8,7 @@
 // cell::cell_at          a cell without entry and filter before the comma of a field, or that something else is there
 //
 // Each reads what stands in a line at a place, and answers it with the place behind it, or that there is none.
+#![tactic(auto)]
 
 pub mod literal; // literal.rt: integers and decimals
 pub mod index; // index.rt: indexes

@@ -7,7 +7,7 @@ use numbers::Quantity;
 use scan::{bytes, digits};
 
 // A number, and the place behind it.
-#[derive(Drop)]
+#[derive(Clone, Copy)]
 pub enum LiteralRead {
     LiteralTo(Quantity, usize),
     NoLiteral,

@@ -12,7 +12,7 @@ use scan::run::Class;
 use scan::words::WordRead;
 use scan::{bytes, digits, run};
 
-#[derive(Drop)]
+#[derive(Clone, Copy)]
 pub enum Operand {
     NumberLiteral(Quantity),
     // a string's first byte in the line, and the place behind its last
@@ -35,7 +35,7 @@ pub enum Operand {
 }
 
 // An operand, and the place behind it.
-#[derive(Drop)]
+#[derive(Clone, Copy)]
 pub enum OperandRead {
     OperandTo(Operand, usize),
     NoOperand,

@@ -2,6 +2,8 @@
 //
 // write: bytes at a place. fill: one byte, some times over. shift: a stretch to another place.
 // Each answers whether there was room; where there was none the buffer is untouched.
+#![tactic(auto)]
+
 ghost use Rattle.std.specs.Prelude.{◌≡◌, ◌+◌, ◌≤◌, ◌<◌, length, replicate};
 ghost use Rattle.std.proofs.lemmas.List.Edits.{sets};
 ghost use Rattle.buffers.specs.Buffer.{has_room, part, Stored, Shifted};

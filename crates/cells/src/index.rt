@@ -6,7 +6,7 @@ ghost use Rattle.cells.specs.Inner.Index.{Indexes};
 use crate::{bytes, form};
 
 // What the walk found: so many cells, or a store out of form.
-#[derive(Drop)]
+#[derive(Clone, Copy)]
 pub enum Indexed {
     Count(usize),
     BadStore,

@@ -5,6 +5,7 @@
 // question::allowed       whether a question is within its limits
 // question::answer        a question over the index of a store
 // question::answer_near   the same, first sought near a hint, with where the search ended
+#![tactic(auto)]
 
 mod bytes; // bytes.rt: big-endian numbers
 mod form; // form.rt: the form of keys and cells
@@ -23,7 +24,7 @@ use meaning::question::Question;
 use meaning::refusal::Refusal;
 
 // The answer to a question. A string is a part of the store: its place and its length.
-#[derive(Drop)]
+#[derive(Clone, Copy)]
 pub enum Answered {
     Missing,
     Integer(i64),
@@ -32,7 +33,7 @@ pub enum Answered {
     Highest(u32),
 }
 
-#[derive(Drop)]
+#[derive(Clone, Copy)]
 pub struct Asked {
     pub end: Ended,
     pub answer: Answered,

@@ -53,7 +53,7 @@ fn number_of(datasource: u32, parameter: u32, record_number: u32, entry: u32) ->
 }
 
 // An answer, and the position where its search ended: a hint for the next.
-#[derive(Drop)]
+#[derive(Clone, Copy)]
 pub struct Near {
     pub answer: Answered,
     pub position: usize,

@@ -5,7 +5,7 @@ ghost use Rattle.cells.specs.Inner.Request.{CellAsked, KeyAsked};
 use crate::{bytes, form};
 
 // The key of a request as one number, or a request out of form.
-#[derive(Drop)]
+#[derive(Clone, Copy)]
 pub enum Request {
     Key(u64),
     Bad,

@@ -7,6 +7,7 @@
 // test::compare                                                       $IFEQ to $IFGE, $IFEQSS, $IFEQSI
 // table::begin_table, end_table                                       $BT, $ET
 // table::innermost, turn_of                                           the open tables, LOOP
+#![tactic(auto)]
 
 pub mod settle; // settle.rt: what is taken from values
 mod string; // string.rt: a string as SVn

@@ -11,35 +11,35 @@ use values::string::Text;
 use values::worth::Worth;
 
 // A number, or why the line is refused.
-#[derive(Drop)]
+#[derive(Clone, Copy)]
 pub enum Taken {
     Value(i64),
     Refused(Refusal),
 }
 
 // A number of either kind, or why the line is refused.
-#[derive(Drop)]
+#[derive(Clone, Copy)]
 pub enum Amount {
     Number(Quantity),
     NoNumber(Refusal),
 }
 
 // A string, or why the line is refused.
-#[derive(Drop)]
+#[derive(Clone, Copy)]
 pub enum Phrase {
     String(Text),
     NoString(Refusal),
 }
 
 // Whether a test holds or a table has another pass, or why the line is refused.
-#[derive(Drop)]
+#[derive(Clone, Copy)]
 pub enum Judged {
     Holds(bool),
     Refused(Refusal),
 }
 
 // The line goes on, or why it is refused.
-#[derive(Drop)]
+#[derive(Clone, Copy)]
 pub enum Assigned {
     Passed,
     Refused(Refusal),

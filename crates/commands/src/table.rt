@@ -13,7 +13,7 @@ use values::registers::Words;
 use values::{registers, scene, worth};
 
 // An open table: its counter, its n, and the line after its $BT by place and number.
-#[derive(Drop)]
+#[derive(Clone, Copy)]
 pub struct Table {
     pub counter: u32,
     pub last: u64,

@@ -27,7 +27,7 @@ fn lacks(worth: Worth) -> bool
 }
 
 // What is compared: two numbers, or two strings, whose case may be ignored.
-#[derive(Drop)]
+#[derive(Clone, Copy)]
 pub enum Comparands {
     Numbers,
     Strings(bool),

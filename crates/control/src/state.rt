@@ -3,7 +3,7 @@ use meaning::end::Ended;
 use pages::page::Page;
 
 // The line that is due by place and number, the datasource, whether a break writes a form feed, the page, how many tables are open.
-#[derive(Drop)]
+#[derive(Clone, Copy)]
 pub struct Flow {
     pub at: usize,
     pub line: u32,
@@ -14,7 +14,7 @@ pub struct Flow {
 }
 
 // How a line ended, where the run goes on, how far the text is filled, and how many questions are in the log.
-#[derive(Drop)]
+#[derive(Clone, Copy)]
 pub struct Lined {
     pub end: Ended,
     pub flow: Flow,

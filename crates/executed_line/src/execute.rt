@@ -17,7 +17,7 @@ use values::worth::Worth;
 use values::{fetch, registers, scene};
 
 // A line that is due: its form, the values of its arguments, what it is executed in, and where it starts in the template.
-#[derive(Drop)]
+#[derive(Clone, Copy)]
 pub struct Prepared {
     pub form: Line,
     pub first: Worth,

@@ -3,6 +3,7 @@
 // number: right-aligned and rounded, or asterisks. string: left-aligned, filled or cut. missing: `???`, like a string.
 // Each answers whether the field was put. Where the width, the places or the number is out of its limits, or the
 // buffer has no room for the field, nothing is written.
+#![tactic(auto)]
 
 mod digits; // digits.rt: decimal digits
 mod text; // text.rt: a number's characters
@@ -16,7 +17,7 @@ ghost use Rattle.meaning.specs.Answer as G;
 use numbers::{Quantity, Rounded};
 
 // The places of a field: `{argument,w}` says none, `{argument,w.d}` says d.
-#[derive(Drop)]
+#[derive(Clone, Copy)]
 pub enum Places {
     Unsaid,
     Said(usize),

@@ -4,6 +4,7 @@
 // piece::write_piece   a byte of a text, or a field
 //
 // Each writes its row at the front of a lent buffer and answers whether there was room.
+#![tactic(auto)]
 
 mod row; // row.rt: rows
 mod argument; // argument.rt: arguments

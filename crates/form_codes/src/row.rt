@@ -5,11 +5,11 @@ ghost use Rattle.buffers.specs.Buffer.{Stored};
 ghost use Rattle.form_codes.specs.Row.{row_numbers, bare_row, row_with};
 
 // What an index is, and its number.
-#[derive(Drop)]
+#[derive(Clone, Copy)]
 pub struct Pair(pub u64, pub u64);
 
 // What an argument is, its five numbers, its filter.
-#[derive(Drop)]
+#[derive(Clone, Copy)]
 pub struct Seven(
     pub u64,
     pub u64,
@@ -21,7 +21,7 @@ pub struct Seven(
 );
 
 // What a line or a piece is, its number, two arguments.
-#[derive(Drop)]
+#[derive(Clone, Copy)]
 pub struct CodeRow(pub u64, pub u64, pub Seven, pub Seven);
 
 pub fn bare_row(form: u64, number: u64) -> CodeRow

@@ -13,7 +13,7 @@ use scan::bytes;
 use scan::words::WordRead;
 
 // $SETE, $SETA, $SETS, $SETM, $SETD
-#[derive(Drop)]
+#[derive(Clone, Copy)]
 pub enum Operation {
     Assign,
     Add,
@@ -23,7 +23,7 @@ pub enum Operation {
 }
 
 // IVn, FVn, SVn
-#[derive(Drop)]
+#[derive(Clone, Copy)]
 pub enum Target {
     IntegerTarget(usize),
     DecimalTarget(usize),
@@ -31,7 +31,7 @@ pub enum Target {
 }
 
 // $IFEQSS, $IFEQSI, $IFEQ, $IFNE, $IFLT, $IFLE, $IFGT, $IFGE
-#[derive(Drop)]
+#[derive(Clone, Copy)]
 pub enum Comparison {
     SameString,
     SameLetters,
@@ -43,14 +43,14 @@ pub enum Comparison {
     AtLeast,
 }
 
-#[derive(Drop)]
+#[derive(Clone, Copy)]
 pub enum Optional {
     Given(Argument),
     Absent,
 }
 
 // "$REC n Pm record entry count"
-#[derive(Drop)]
+#[derive(Clone, Copy)]
 pub struct Fetch {
     pub number: usize,
     pub parameter: usize,
@@ -59,7 +59,7 @@ pub struct Fetch {
     pub count: Index,
 }
 
-#[derive(Drop)]
+#[derive(Clone, Copy)]
 pub enum Line {
     // the line has no form: 3
     NoForm,

@@ -11,7 +11,7 @@ use scan::digits::Numeral;
 use scan::{bytes, digits};
 
 // What is fetched, and the place behind its words.
-#[derive(Drop)]
+#[derive(Clone, Copy)]
 pub enum FetchRead {
     FetchTo(Fetch, usize),
     NoFetch,

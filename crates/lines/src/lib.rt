@@ -2,6 +2,7 @@
 //
 // command::parse_line   a line's command with its arguments, a text, or that the line has no form
 // command::form_of      the same of a line that has a form, without judging its text again
+#![tactic(auto)]
 
 pub mod command; // command.rt: what a line is, and which command stands in it
 mod word; // word.rt: which command's word stands in a line

@@ -10,7 +10,7 @@ use arguments::index::IndexRead;
 use arguments::operand::{Operand, OperandRead};
 use arguments::{argument, index, variable};
 
-#[derive(Drop)]
+#[derive(Clone, Copy)]
 pub enum TargetRead {
     TargetIs(Target),
     NoTarget,

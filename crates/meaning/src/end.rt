@@ -5,14 +5,14 @@ ghost use Rattle.meaning.specs.Number.{cause_of, end_of, cause_number, number_of
 use crate::refusal::{Overflow, Refusal};
 
 // Why a run ended early.
-#[derive(Drop)]
+#[derive(Clone, Copy)]
 pub enum Halt {
     Refused(Refusal),
     Cut(Overflow),
 }
 
 // How a call that asks or prints ended: the run goes on, or it is over, with the line that is named.
-#[derive(Drop)]
+#[derive(Clone, Copy)]
 pub enum Ended {
     Finished,
     Halted(Halt, u32),

@@ -4,6 +4,8 @@
 // refusal::Refusal, Overflow    what a run can be refused for, or cut off at; number() gives document 01's number
 // end::Halt, Ended              how a call that asks or prints ended; number() and line() as document 01 gives them
 // count::Counts                 how far the lent buffers are filled
+#![tactic(auto)]
+
 pub mod count; // count.rt: how far the lent buffers are filled
 pub mod end; // end.rt: how a call that asks or prints ended
 pub mod question; // question.rt: questions

@@ -3,7 +3,7 @@ ghost use Rattle.std.specs.Prelude.{◌≡◌};
 ghost use Rattle.meaning.specs.Number.{refusal_number, overflow_number};
 
 // "Numbers a run can end with", without the two that only a full buffer makes.
-#[derive(Drop)]
+#[derive(Clone, Copy)]
 pub enum Refusal {
     // 1: "The store breaks its form or is longer than its buffer."
     BadStore,
@@ -38,7 +38,7 @@ pub enum Refusal {
 }
 
 // The lent buffer that was too short: the refusals that only a question or a printed event can make.
-#[derive(Drop)]
+#[derive(Clone, Copy)]
 pub enum Overflow {
     // 9: "The read list has no place for the next question."
     ReadList,

@@ -3,11 +3,13 @@
 //
 // after_line   what is open behind a line, or that the line is at fault
 // all_closed   whether nothing but a section is open
+#![tactic(auto)]
+
 ghost use Rattle.nesting.specs.declared.Shape.TheVariants.{Section, Remark, Test, Else, EndTest, Table, EndTable, Plain};
 ghost use Rattle.nesting.specs.Inner.Open.{Steps, Ends};
 
 // What a line is to nesting. Plain lines open and close nothing.
-#[derive(Drop)]
+#[derive(Clone, Copy)]
 pub enum Shape {
     Section,
     Remark,
@@ -22,14 +24,14 @@ pub enum Shape {
 }
 
 // What is open: the marks as digits in base 5, the innermost lowest, and how many tests and tables there are.
-#[derive(Drop)]
+#[derive(Clone, Copy)]
 pub struct Open {
     pub marks: u64,
     pub tests: u32,
     pub tables: u32,
 }
 
-#[derive(Drop)]
+#[derive(Clone, Copy)]
 pub enum Step {
     Went(Open),
     Wrong,

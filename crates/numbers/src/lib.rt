@@ -9,6 +9,7 @@
 // places::rounded                             a quantity's magnitude, rounded to some places
 // places::scale                               units of the last place in one whole
 // sign::negative, opposite, magnitude         a number's sign and magnitude
+#![tactic(auto)]
 
 mod range; // range.rt: what is out of range
 pub mod sign; // sign.rt: sign and magnitude
@@ -19,7 +20,7 @@ pub mod order; // order.rt: comparison
 pub mod places; // places.rt: rounding to places
 
 // What a calculation answers.
-#[derive(Drop)]
+#[derive(Clone, Copy)]
 pub enum Number {
     Computed(i64),
     ZeroDivisor,
@@ -27,7 +28,7 @@ pub enum Number {
 }
 
 // A number of either kind.
-#[derive(Drop)]
+#[derive(Clone, Copy)]
 pub enum Quantity {
     Integer(i64),
     // a count of millionths
@@ -35,7 +36,7 @@ pub enum Quantity {
 }
 
 // A magnitude in units of the last place. OutOfRange: a quantity out of range, or more than 6 places.
-#[derive(Drop)]
+#[derive(Clone, Copy)]
 pub enum Rounded {
     Units(u64),
     OutOfRange,

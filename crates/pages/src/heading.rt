@@ -9,7 +9,7 @@ use values::registers::Words;
 
 // A line that is due on a page: the $PH line that defined a heading, or a text line. Where it starts in the template, how long it
 // is, where its text starts in it, and its number; 0 for a heading that is undefined.
-#[derive(Drop)]
+#[derive(Clone, Copy)]
 pub struct Heading {
     pub start: usize,
     pub length: usize,

@@ -4,6 +4,7 @@
 // page::break_page   a break
 // heading::packed    a heading as one number
 // step::step         a text line with the break and the headings before it
+#![tactic(auto)]
 
 mod field; // field.rt: a value in the bytes of its field
 mod text; // text.rt: a line, made in one pass

@@ -7,7 +7,7 @@ use meaning::end::{Ended, Halt};
 use meaning::refusal::Overflow;
 
 // PAGENUM and LINENUM, which is the next line.
-#[derive(Drop)]
+#[derive(Clone, Copy)]
 pub struct Page {
     pub number: u32,
     pub row: u32,
@@ -44,7 +44,7 @@ impl Page {
     }
 }
 
-#[derive(Drop)]
+#[derive(Clone, Copy)]
 pub struct Turned {
     pub end: Ended,
     pub page: Page,

@@ -53,7 +53,7 @@ fn line_due(words: &Words, lead: usize, k: usize, line: Heading) -> Heading
     heading
 }
 
-#[derive(Drop)]
+#[derive(Clone, Copy)]
 pub struct Paged {
     pub end: Ended,
     pub page: Page,

@@ -4,7 +4,7 @@ use control::state::Flow;
 use values::registers::{Numbers, Words};
 
 // The questions of a stretch, each as one number, and the place of the first of them on the read list.
-#[derive(Drop)]
+#[derive(Clone, Copy)]
 pub struct Log {
     pub at: usize,
     pub n: usize,
@@ -13,7 +13,7 @@ pub struct Log {
 
 // What the next stretch starts from, beside the rows of SV: how many lines may still be executed, where the run's lines end,
 // the store's length and its number of cells, how far the text and the read list are filled, the variables.
-#[derive(Drop)]
+#[derive(Clone, Copy)]
 pub struct Saved {
     pub flow: Flow,
     pub left: u32,
@@ -28,7 +28,7 @@ pub struct Saved {
 }
 
 // Whether the run goes on, the questions of the last stretch, the report where it doesn't, and where it goes on where it does.
-#[derive(Drop)]
+#[derive(Clone, Copy)]
 pub struct Stretch {
     pub more: bool,
     pub log: Log,

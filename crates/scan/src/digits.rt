@@ -5,7 +5,7 @@ ghost use Rattle.scan.specs.Readers.Digits.{digits_of, digits_at, number_at};
 use crate::run::Class;
 use crate::{bytes, run};
 
-#[derive(Drop)]
+#[derive(Clone, Copy)]
 pub struct Digits {
     pub count: usize,
     pub value: usize,
@@ -40,7 +40,7 @@ pub fn digits_at(line: &[u8], at: usize, most: usize) -> Digits
 }
 
 // A number from 1 to a limit, without leading zeros, and the place behind it.
-#[derive(Drop)]
+#[derive(Clone, Copy)]
 pub enum Numeral {
     Value(usize, usize),
     NoNumeral,

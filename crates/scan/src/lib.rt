@@ -7,6 +7,7 @@
 // digits::digits_at, number_at   a run of digits and its value; a number without leading zeros
 // words::begins_with, word_at    whether a line has a fixed byte string at a place; which of a table's words
 // words::word_or                 a fixed byte string with its number, or what else was found
+#![tactic(auto)]
 
 pub mod run; // run.rt: classes of bytes and runs of them
 pub mod bytes; // bytes.rt: bytes and lines of a template

@@ -2,7 +2,7 @@
 ghost use Rattle.std.specs.Prelude.{◌≡◌, length};
 ghost use Rattle.scan.specs.Run.{in_range, belongs, span};
 
-#[derive(Drop)]
+#[derive(Clone, Copy)]
 pub enum Class {
     // "each 0x20–0x7E or 0x0A"
     Allowed,

@@ -28,7 +28,7 @@ pub fn begins_with(line: &[u8], at: usize, word: &[u8]) -> bool
 }
 
 // The number of a table's word, and the place behind the word.
-#[derive(Drop)]
+#[derive(Clone, Copy)]
 pub enum WordRead {
     Word(usize, usize),
     NoWord,

@@ -5,7 +5,7 @@ ghost use Rattle.io.specs.Counts.{IsPrefixLen};
 use libc::STDIN_FILENO;
 
 // Whether all was read, and how many bytes of the buffer it fills.
-#[derive(Drop)]
+#[derive(Clone, Copy)]
 pub struct Read {
     pub whole: bool,
     pub bytes: usize,
@@ -50,7 +50,7 @@ pub fn load(path: &[u8], buf: &mut [u8]) -> Read
 }
 
 // A byte of standard input.
-#[derive(Drop)]
+#[derive(Clone, Copy)]
 enum Next {
     Byte(u8),
     End,

@@ -1,5 +1,7 @@
 // The program `sheet`: prints a section of the file `template` over the file `store`, both in the working folder, then a line
 // with the number, the line, the pages, the text bytes and the questions. The section's name comes from standard input.
+#![tactic(auto)]
+
 mod file; // file.rt: what is read
 mod printing; // printing.rt: the report
 

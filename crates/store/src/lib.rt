@@ -2,6 +2,7 @@
 //
 // put       adds or replaces the cell of a key
 // remove    takes the cell of a key out
+#![tactic(auto)]
 
 mod replace; // replace.rt: one stretch of the store in place of another
 
@@ -16,14 +17,14 @@ use meaning::end::{Ended, Halt};
 use meaning::refusal::Refusal;
 
 // How an edit ended, and the store's length after it.
-#[derive(Drop)]
+#[derive(Clone, Copy)]
 pub struct Edited {
     pub length: usize,
     pub end: Ended,
 }
 
 // Where the cell of a key is or belongs, and its size; 0 where there is none.
-#[derive(Drop)]
+#[derive(Clone, Copy)]
 pub struct Slot {
     pub at: usize,
     pub size: usize,

@@ -11,7 +11,7 @@ use crate::{Verdict, shapes};
 use nesting::{Open, Step};
 
 // How 3 and then 4 end: no line is at fault, or the first that is.
-#[derive(Drop)]
+#[derive(Clone, Copy)]
 pub enum Faults {
     NoFault,
     InForm(u32),

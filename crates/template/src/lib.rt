@@ -3,6 +3,8 @@
 // check              2 to 5, each over the whole template, then 6
 // bytes::check       2: too long, a byte or a line outside its limits
 // seek::skip_lines   where a failed test, an executed $ELSE and a $BT with n below 1 go on
+#![tactic(auto)]
+
 ghost use Rattle.std.specs.Prelude.{◌≡◌, ◌≤◌, length};
 ghost use Rattle.template.specs.Order.{section_checked, names_checked, forms_checked, template_checked};
 
@@ -22,14 +24,14 @@ pub mod seek; // seek.rt: where a failed test, an executed $ELSE and a skipped t
 const LONGEST_TEMPLATE: usize = 32_768;
 
 // How a check ends: nothing at fault, or the first line that is. 0 is no line.
-#[derive(Drop)]
+#[derive(Clone, Copy)]
 pub enum Verdict {
     Fine,
     Fault(u32),
 }
 
 // A run's lines: where the first starts, its number, and where the line behind the last would start.
-#[derive(Drop)]
+#[derive(Clone, Copy)]
 pub struct Extent {
     pub start: usize,
     pub line: u32,
@@ -37,7 +39,7 @@ pub struct Extent {
 }
 
 // An accepted template's run, or why it is refused and the line named.
-#[derive(Drop)]
+#[derive(Clone, Copy)]
 pub enum Checked {
     Accepted(Extent),
     Refused(Refusal, u32),

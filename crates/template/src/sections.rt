@@ -6,14 +6,14 @@ ghost use Rattle.template.specs.Inner.Within.{Within};
 
 use crate::{Extent, names};
 
-#[derive(Drop)]
+#[derive(Clone, Copy)]
 pub enum Selection {
     Lines(Extent),
     NotThere,
 }
 
 // Where a line starts, and its number.
-#[derive(Drop)]
+#[derive(Clone, Copy)]
 pub enum Found {
     At(usize, u32),
     Nowhere,

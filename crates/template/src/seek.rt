@@ -6,7 +6,7 @@ ghost use Rattle.template.specs.Seek.{among_tests, among_tables, at_else, role_o
 use crate::{LONGEST_TEMPLATE, shapes};
 use nesting::Shape;
 
-#[derive(Drop)]
+#[derive(Clone, Copy)]
 pub enum Sought {
     // a failed test: "the line after its matching `$ELSE`, or `$ENDIF` if there is none"
     Branch,
@@ -17,7 +17,7 @@ pub enum Sought {
 }
 
 // What a line is to the search.
-#[derive(Drop)]
+#[derive(Clone, Copy)]
 pub enum Role {
     Opens,
     Closes,
@@ -26,14 +26,14 @@ pub enum Role {
 }
 
 // How many lines that are open inside stay to be closed, or that the line is the match.
-#[derive(Drop)]
+#[derive(Clone, Copy)]
 pub enum Way {
     On(u32),
     Match,
 }
 
 // How many bytes and lines are passed over.
-#[derive(Drop)]
+#[derive(Clone, Copy)]
 pub struct Skip {
     pub bytes: usize,
     pub lines: u32,

@@ -10,7 +10,7 @@ use scan::digits;
 use scan::digits::Numeral;
 
 // The cell's parameter and its record's index, 0 where it has none; the field's width and places; the place behind it.
-#[derive(Drop)]
+#[derive(Clone, Copy)]
 pub struct CellField {
     pub parameter: usize,
     pub index: Index,
@@ -20,7 +20,7 @@ pub struct CellField {
 }
 
 // Such a field, or that something else is there.
-#[derive(Drop)]
+#[derive(Clone, Copy)]
 pub enum CellFieldRead {
     CellFieldTo(CellField),
     Other,

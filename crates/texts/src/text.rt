@@ -11,40 +11,40 @@ use scan::run::Class;
 use scan::{bytes, digits, run};
 
 // `{argument,w}` says no places, `{argument,w.d}` says d.
-#[derive(Drop)]
+#[derive(Clone, Copy)]
 pub enum Places {
     Unsaid,
     Said(usize),
 }
 
-#[derive(Drop)]
+#[derive(Clone, Copy)]
 pub struct Field {
     pub argument: Argument,
     pub width: usize,
     pub places: Places,
 }
 
-#[derive(Drop)]
+#[derive(Clone, Copy)]
 pub enum PlacesRead {
     PlacesTo(Places, usize),
     NoPlaces,
 }
 
 // A field, and the place behind it.
-#[derive(Drop)]
+#[derive(Clone, Copy)]
 pub enum FieldRead {
     FieldTo(Field, usize),
     NoField,
 }
 
-#[derive(Drop)]
+#[derive(Clone, Copy)]
 pub enum Piece {
     Byte(u8),
     Placed(Field),
 }
 
 // A byte or a field, and the place behind it.
-#[derive(Drop)]
+#[derive(Clone, Copy)]
 pub enum PieceRead {
     PieceTo(Piece, usize),
     NoPiece,

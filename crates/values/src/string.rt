@@ -8,7 +8,7 @@ ghost use Rattle.values.specs.Inner.Texts as S;
 use scan::bytes;
 
 // "A string argument lies in the template, in a cell or in an SV."
-#[derive(Drop)]
+#[derive(Clone, Copy)]
 pub enum Source {
     Line,
     Store,
@@ -16,7 +16,7 @@ pub enum Source {
 }
 
 // So many bytes of it, in upper case or as they are.
-#[derive(Drop)]
+#[derive(Clone, Copy)]
 pub struct Text {
     pub source: Source,
     pub at: usize,

@@ -13,7 +13,7 @@ use meaning::end::Ended;
 use numbers::Quantity;
 
 // The arguments that are worked out before a command.
-#[derive(Drop)]
+#[derive(Clone, Copy)]
 pub enum Inputs {
     None,
     One(Argument),
@@ -21,7 +21,7 @@ pub enum Inputs {
 }
 
 // How they ended, what they are worth, missing where there is none, and how many questions have been asked now.
-#[derive(Drop)]
+#[derive(Clone, Copy)]
 pub struct Operands {
     pub end: Ended,
     pub first: Worth,
@@ -30,7 +30,7 @@ pub struct Operands {
 }
 
 // A number of the line without a filter, which is worth itself, or another argument.
-#[derive(Drop)]
+#[derive(Clone, Copy)]
 pub enum Literal {
     Number(Quantity),
     Other,
