@@ -15,7 +15,7 @@ NAME = r"[^\s(){}.;,@\"«»\[\]\\:]+"
 
 
 def norm(s):
-    return re.sub("-+", "-", s.replace("_", "-"))
+    return re.sub("-+", "-", s.replace("_", "-")).lower()
 
 
 def read(p):
@@ -208,6 +208,21 @@ def turn(path, crate, function, entry, said):
                 decls.append(b)
             continue
         decls.append(b)
+    # needs that were named after a temporary go by their order
+    temporary = re.compile(r"^(?:overflow-|nonzero-)?([a-z]+)-t\d+$")
+    in_file, known = {}, {}
+    for m in re.finditer(r"(?m)^\S+ : tie\.Need-(\S+)", rest):
+        if q := temporary.match(norm(m.group(1))):
+            in_file.setdefault(q.group(1), []).append(norm(m.group(1)))
+    for old in names.needs:
+        if q := temporary.match(old):
+            known.setdefault(q.group(1), []).append(old)
+    for op, olds in in_file.items():
+        if len(olds) == len(known.get(op, [])):
+            new = [names.needs[k] for k in known[op]]
+            for o, n in zip(olds, new):
+                names.needs[o] = n
+                names.needs[re.sub(r"^(overflow|nonzero)-", "", o)] = n
     helpers = {}
     for b in decls:
         m = re.search(r"(?m)^(%s) : .*\((\w+) : tie\.(\S+?)(?: invariant-\S+ decreases-\S+)*\)" % NAME, b)

@@ -62,16 +62,16 @@ unfolding operands
 operands_in limit a b o h = rw (within_in limit a h.left, within_in limit b h.right)
 
 -- the code's test of two operands that it holds in 64 bits: passed, and failed
-pub inside : (limit : ℕ) {a b : ℤ} → SFits w64 a → SFits w64 b → {r : Bool} → r ≡ within limit (back a) && within limit (back b) → not r ≡ false → Inside limit a b
+pub inside : (limit : ℕ) {a b : ℤ} → SFits w64 a → SFits w64 b → {r : Bool} → r ≡ within limit (back a) && within limit (back b) → r ≡ true → Inside limit a b
 inside limit {a} {b} sa sb {r} e t =
-    let w = sym (read₂ (λ (x y : ℤ). within limit x && within limit y) sa sb e) ∙ not-false r t in
+    let w = sym (read₂ (λ (x y : ℤ). within limit x && within limit y) sa sb e) ∙ t in
     let p = and_true _ _ w in
     record { left = within_true limit a p.0; right = within_true limit b p.1 }
 
-pub outside : (limit : ℕ) {a b : ℤ} → SFits w64 a → SFits w64 b → {r : Bool} → r ≡ within limit (back a) && within limit (back b) → not r ≡ true → (o : Result) → no_result 13 ≡ operands limit a b o
+pub outside : (limit : ℕ) {a b : ℤ} → SFits w64 a → SFits w64 b → {r : Bool} → r ≡ within limit (back a) && within limit (back b) → r ≡ false → (o : Result) → no_result 13 ≡ operands limit a b o
 unfolding operands
 outside limit {a} {b} sa sb {r} e t o =
-    let w = sym (read₂ (λ (x y : ℤ). within limit x && within limit y) sa sb e) ∙ not-true r t in
+    let w = sym (read₂ (λ (x y : ℤ). within limit x && within limit y) sa sb e) ∙ t in
     rw w
 
 -- a result that is computed in 64 bits from operands in range, then checked

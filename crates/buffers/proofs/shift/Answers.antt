@@ -26,7 +26,7 @@ move_down-requires c =
 
 pub returns-then-to-from : goal.returns-then-to-from
 returns-then-to-from c =
-    shifted_told _ _ _ _ _ (from_fits c.before.before.before.before.before.before.before.before) (to_fits c.before.before.before.before.before) c.move_down.ensures
+    shifted_told _ _ _ _ _ (from_fits c.before.before.before.before.before.before.before.before) (sym c.has_room-2.ensures ∙ c.if-not-has_room-2.false) c.move_down.ensures
 
 pub move_up-requires : goal.move_up-requires
 move_up-requires c =
@@ -34,4 +34,4 @@ move_up-requires c =
 
 pub returns : goal.returns
 returns c =
-    shifted_told _ _ _ _ _ (from_fits c.before.before.before.before.before.before.before.before) (to_fits c.before.before.before.before.before) c.move_up.ensures
+    shifted_told _ _ _ _ _ (from_fits c.before.before.before.before.before.before.before.before) (sym c.has_room-2.ensures ∙ c.if-not-has_room-2.false) c.move_up.ensures

@@ -15,16 +15,14 @@ use Rattle.numbers.proofs.parts.rest.Goals as goal
 
 pub nonzero_rem-result : goal.nonzero_rem-result
 nonzero_rem-result c =
-    let v = c.q-1.given in
-    let f : SFits w64 v.0.0 = search rules in
-    (omega arith, rw (to_z-of_z w64 v.0.0 f) (quot_fits v.0.0 _ (lit< tt) f))
+    let f : SFits w64 c.in-Decimal.m = search rules in
+    (omega arith, rw (to_z-of_z w64 c.in-Decimal.m f) (quot_fits c.in-Decimal.m _ (lit< tt) f))
 
 pub returns-in-Integer : goal.returns-in-Integer
-returns-in-Integer c = let v = c.enum_told-1.given in sym (ap rest_of v.1 ∙ rest_integer v.0.0)
+returns-in-Integer c = sym (ap rest_of c.in-Integer.is ∙ rest_integer c.in-Integer.field-0)
 
 pub returns-in-Decimal : goal.returns-in-Decimal
 returns-in-Decimal c =
-    let v = c.q-1.given in
-    let f : SFits w64 v.0.0 = search rules in
-    let g : SFits w64 (rem_z v.0.0 (pos 1000000)) = sfits_le (mag_rem v.0.0 (pos 1000000)) f in
-    rw (to_z-of_z w64 v.0.0 f) (to_z-of_z w64 _ g ∙ sym (ap rest_of v.1))
+    let f : SFits w64 c.in-Decimal.m = search rules in
+    let g : SFits w64 (rem_z c.in-Decimal.m (pos 1000000)) = sfits_le (mag_rem c.in-Decimal.m (pos 1000000)) f in
+    rw (to_z-of_z w64 c.in-Decimal.m f) (to_z-of_z w64 _ g ∙ sym (ap rest_of c.in-Decimal.is))

@@ -13,18 +13,15 @@ use Rattle.numbers.proofs.parts.whole.Goals as goal
 
 pub nonzero_div-result : goal.nonzero_div-result
 nonzero_div-result c =
-    let v = c.q-in-Decimal-1.given in
-    let f : SFits w64 v.0.0 = search rules in
-    (omega arith, rw (to_z-of_z w64 v.0.0 f) (quot_fits v.0.0 _ (lit< tt) f))
+    let f : SFits w64 c.in-Decimal.m = search rules in
+    (omega arith, rw (to_z-of_z w64 c.in-Decimal.m f) (quot_fits c.in-Decimal.m _ (lit< tt) f))
 
 pub returns-in-Integer : goal.returns-in-Integer
 returns-in-Integer c =
-    let v = c.q-1.given in
-    let f : SFits w64 v.0.0 = search rules in
-    to_z-of_z w64 v.0.0 f ∙ sym (ap whole_of v.1 ∙ whole_integer v.0.0)
+    let f : SFits w64 c.in-Integer.n = search rules in
+    to_z-of_z w64 c.in-Integer.n f ∙ sym (ap whole_of c.in-Integer.is ∙ whole_integer c.in-Integer.n)
 
 pub returns-in-Decimal : goal.returns-in-Decimal
 returns-in-Decimal c =
-    let v = c.q-in-Decimal-1.given in
-    let f : SFits w64 v.0.0 = search rules in
-    rw (to_z-of_z w64 v.0.0 f) (to_z-of_z w64 _ (quot_fits v.0.0 _ (lit< tt) f) ∙ sym (ap whole_of v.1))
+    let f : SFits w64 c.in-Decimal.m = search rules in
+    rw (to_z-of_z w64 c.in-Decimal.m f) (to_z-of_z w64 _ (quot_fits c.in-Decimal.m _ (lit< tt) f) ∙ sym (ap whole_of c.in-Decimal.is))

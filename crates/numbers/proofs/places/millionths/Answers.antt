@@ -16,10 +16,9 @@ use Rattle.numbers.proofs.places.millionths.Goals.{After-magnitude-m, After-magn
 -- the call's result is the magnitude of the integer that the pattern binds
 integer : (k : After-magnitude-m) → nat_abs (millionths k.args.q) ≡ k.magnitude-m.result * 1000000
 integer k =
-    let v = k.q-1.given in
-    let f : SFits w64 v.0.0 = search rules in
-    ap (λ (q : Quantity). nat_abs (millionths q)) v.1
-    ∙ abs_mul v.0.0 (pos 1000000)
+    let f : SFits w64 k.in-Integer.n = search rules in
+    ap (λ (q : Quantity). nat_abs (millionths q)) k.in-Integer.is
+    ∙ abs_mul k.in-Integer.n (pos 1000000)
     ∙ ap (λ (m : ℕ). m * 1000000) (sym (read nat_abs f k.magnitude-m.ensures))
 
 pub returns-then-m-gt-INTEGER_LIMIT : goal.returns-then-m-gt-INTEGER_LIMIT
@@ -27,9 +26,8 @@ returns-then-m-gt-INTEGER_LIMIT c = sym (places_out _ 6 (omega arith) (omega (ar
 
 decimal : (k : After-magnitude-m-in-Decimal) → nat_abs (millionths k.args.q) ≡ k.magnitude-m-in-Decimal.result
 decimal k =
-    let v = k.q-in-Decimal-1.given in
-    let f : SFits w64 v.0.0 = search rules in
-    ap (λ (q : Quantity). nat_abs (millionths q)) v.1 ∙ sym (read nat_abs f k.magnitude-m-in-Decimal.ensures)
+    let f : SFits w64 k.in-Decimal.n = search rules in
+    ap (λ (q : Quantity). nat_abs (millionths q)) k.in-Decimal.is ∙ sym (read nat_abs f k.magnitude-m-in-Decimal.ensures)
 
 pub returns-then-m-gt-DECIMAL_LIMIT : goal.returns-then-m-gt-DECIMAL_LIMIT
 returns-then-m-gt-DECIMAL_LIMIT c = sym (places_out _ 6 (omega arith) (omega (arith, decimal c.before)))

@@ -21,7 +21,7 @@ found : (c : After-power-unit) → rounded_to c.args.q 6 ≡ Units c.in-Units.m
 found c = sym c.millionths.ensures ∙ c.in-Units.is
 
 pub overflow_add-result : goal.overflow_add-result
-overflow_add-result c = omega (arith, units_bound _ 6 _ (found c), c.power-unit.type-inv)
+overflow_add-result c = omega (arith, units_bound _ 6 _ (found c), c.power-unit.type_inv)
 
 pub nonzero_div-result-2 : goal.nonzero_div-result-2
 nonzero_div-result-2 c = rw c.power-unit.ensures (power_above _)
