@@ -73,7 +73,8 @@ class Names:
         """The new form of a path below place, its segments without 'before'."""
         s, rest = norm(segs[0]), list(segs[1:])
         chain = self.chain(place)
-        if s.endswith("-law") and not any(self.step[p][0] == s for p in chain):
+        s = {"type-size": "size-of"}.get(s, s)
+        if s.endswith(("-law", "-lem")) and not any(self.step[p][0] == s for p in chain):
             s = s[:-4]
         # an arm's fields first
         for p in chain:
@@ -123,19 +124,19 @@ def turn_paths(body, roots, names, helpers, said):
             break
         body = body[: m.start()] + re.sub(r"(?<![\w.'-])%s(?=[.\s),\]])" % m.group(1), m.group(2), body[m.end():])
     body = body.replace("type-inv", "type_inv")
-    # calls of helpers on a place
-    for h, target in helpers.items():
-        def call(m):
-            root = m.group(2)
-            place = roots.get(root)
-            if place is None:
-                return m.group(0)
-            chain = names.chain(place)
-            if target not in chain:
-                said.append(f"{h}: its place {target} is not above {place}")
-                return m.group(0)
-            return f"{m.group(1)}{root}{'.before' * names_between(names, place, target)}␟"
-        body = re.sub(r"(?<![\w.'-])(%s(?: [^\s()]+)*? )(\w+)(?:\.before)*(?![\w.'-])" % re.escape(h), call, body)
+    # calls of helpers on a place: the helper becomes a fact of its own in the answer
+    lets = []
+    for h, (target, goal_of, body_of, _) in helpers.items():
+        call = re.compile(r"(?<![\w.'-])%s (\w+)(?:\.before)*(?![\w.'-])" % re.escape(h))
+        if call.search(body):
+            body = call.sub(h, body)
+            lets.append((h, goal_of, body_of))
+            for line in re.findall(r"^let (\S+) : ", body_of):
+                said.append(f"{h}: a let in it")
+    if lets:
+        start = "\n    " if not body.startswith("\n") else "\n    "
+        inner = body.strip()
+        body = "".join(f"\n    let {h} : {g} = {b} in" for h, g, b in lets) + "\n    " + inner
 
     def path(m):
         root, segs = m.group(1), m.group(2)[1:].split(".")
@@ -225,9 +226,19 @@ def turn(path, crate, function, entry, said):
                 names.needs[re.sub(r"^(overflow|nonzero)-", "", o)] = n
     helpers = {}
     for b in decls:
-        m = re.search(r"(?m)^(%s) : .*\((\w+) : tie\.(\S+?)(?: invariant-\S+ decreases-\S+)*\)" % NAME, b)
-        if m and not re.match(r"(?m)^\S+ : tie\.Need-", b):
-            helpers[m.group(1)] = names.place.get(norm(m.group(3)), m.group(3))
+        m = re.search(r"(?m)^(%s) : \((\w+) : tie\.([^\s()]+)(?: invariant[-_]\S+ decreases[-_][^\s()]+)*\) → ([\s\S]*?)\n(?=\S)" % NAME, b)
+        if m and not re.search(r"(?m)^\S+ : tie\.Need-", b):
+            h = m.group(1)
+            c = re.search(r"(?m)^%s (\w+) =(?= |\n)([\s\S]*)" % re.escape(h), b)
+            if not c:
+                said.append(f"helper {h}: not of one clause")
+                continue
+            place = names.place.get(norm(m.group(3)), m.group(3))
+            unfolding = re.search(r"(?m)^unfolding (.*)$", b)
+            goal_of = turn_paths(m.group(4), {m.group(2): place}, names, {}, said)
+            body_of = turn_paths(c.group(2).strip(), {c.group(1): place}, names, helpers, said)
+            swap = lambda v, x: re.sub(r"(?<![\w.'-])%s(?=\.)" % v, "c", x)
+            helpers[h] = (place, swap(m.group(2), goal_of), swap(c.group(1), body_of), unfolding.group(1).split() if unfolding else [])
     invariants, answers, used = [], [], set()
     for b in decls:
         m = re.search(r"(?m)^(?:abbrev )?(invariant|decreases)[-_](\S+) : tie\.", b)
@@ -289,6 +300,8 @@ def turn(path, crate, function, entry, said):
                 answers.append(b)
             continue
         if re.search(r"(?m)^pub \S+[-_]spec : ", b):
+            continue
+        if any(re.match(re.escape(h) + r" : ", l) for h in helpers for l in b.split("\n")):
             continue
         # a helper
         m = re.search(r"\((\w+) : tie\.(\S+?)((?: invariant[-_]\S+ decreases[-_]\S+)*)\)", b)

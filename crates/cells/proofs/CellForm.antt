@@ -2,7 +2,6 @@
 use Rattle.std.proofs.Common.{◌≡◌, ℕ, zero, suc, ◌+◌, ◌-◌, ◌*◌, ◌/◌, ◌%◌, ◌<◌, ◌≤◌, Bool, true, false, cond, not, ◌&&◌, eqb, leb, List, [], ◌∷◌, ◌++◌, length, get_or, take, drop, replicate, ℤ, nat_abs, sym, refl, ap, ◌∙◌, subst, ap₂, append_assoc, arith, length-append, length-drop, take-append-drop, length-take-le, drop-drop, take_at, ne_eqb, eqb-true, leb-true}
 use mathlib.Core.Bool.{false≢true}
 use mathlib.Core.Option.{Option, none, some}
-use borrow.Author.Tests.{not-true, not-false}
 use lib.ListN.{length-replicate}
 use lib.Seq.{take-append_seam, drop-append_seam}
 use Rattle.meaning.specs.Answer.{Value, integer, decimal, string}
@@ -414,12 +413,12 @@ module _ (s : List ℕ) where
     pub room_for_key : 1 ≤ n → n ≤ length s → 8 ≤ length s
     room_for_key h k = omega (arith, size_least (get_or s 0 0) (omega arith))
 
-    pub sized_cell : Bytes s → 1 ≤ n → n ≤ length s → (r : Bool) → r ≡ key_allowed (key_at s 1) → not r ≡ false → (q : Bool) → q ≡ value_formed s → not q ≡ false → Sized s n
+    pub sized_cell : Bytes s → 1 ≤ n → n ≤ length s → (r : Bool) → r ≡ key_allowed (key_at s 1) → r ≡ true → (q : Bool) → q ≡ value_formed s → q ≡ true → Sized s n
     sized_cell b h k r x y q v w =
-        rw e (one_cell b (record { known = omega arith; fits = omega arith; key = sym x ∙ not-false r y; value = sym v ∙ not-false q w }))
+        rw e (one_cell b (record { known = omega arith; fits = omega arith; key = sym x ∙ y; value = sym v ∙ w }))
 
-  pub refused_key : (r : Bool) → r ≡ key_allowed (key_at s 1) → not r ≡ true → Sized s 0
-  refused_key r e n = no_cell (λ f. false≢true (sym (not-true r n) ∙ e ∙ f.key))
+  pub refused_key : (r : Bool) → r ≡ key_allowed (key_at s 1) → r ≡ false → Sized s 0
+  refused_key r e n = no_cell (λ f. false≢true (sym n ∙ e ∙ f.key))
 
-  pub refused_value : (r : Bool) → r ≡ value_formed s → not r ≡ true → Sized s 0
-  refused_value r e n = no_cell (λ f. false≢true (sym (not-true r n) ∙ e ∙ f.value))
+  pub refused_value : (r : Bool) → r ≡ value_formed s → r ≡ false → Sized s 0
+  refused_value r e n = no_cell (λ f. false≢true (sym n ∙ e ∙ f.value))

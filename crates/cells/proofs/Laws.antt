@@ -1,6 +1,6 @@
 -- What the tests of the code say, in the words of the definitions.
 use Rattle.std.proofs.Common.{◌≡◌, ℕ, suc, ◌+◌, ◌-◌, ◌*◌, ◌/◌, ◌<◌, ◌≤◌, Bool, true, false, not, ◌&&◌, ltb, leb, List, length, get_or, take, drop, sym, refl, ap, ◌∙◌, arith, drop_of_length-le, le-ltb, lt-ltb, eq-eqb, ne_eqb, le-leb}
-use borrow.Author.Tests.{lt-leb, not-true, not-false}
+use borrow.Author.Tests.{lt-leb}
 use Rattle.numbers.specs.Range.{integer_limit, decimal_limit, within}
 use Rattle.cells.specs.Bytes.{quad_from, octet_at, from_complement, word_range, long_range}
 use Rattle.cells.specs.Cell.{between, each, printable, integer_kind, decimal_kind, string_kind}
@@ -55,19 +55,19 @@ module _ (s : List ℕ) (n : ℕ) (e : n ≡ get_or s 8 0) where
   unfolding string_formed
   text_long h = rw (← e, lt-leb n 16 h)
 
-  pub text_unprintable : n ≤ 16 → (r : Bool) → r ≡ printable (take (9 + n - 9) (drop 9 s)) → not r ≡ true → false ≡ string_formed s
+  pub text_unprintable : n ≤ 16 → (r : Bool) → r ≡ printable (take (9 + n - 9) (drop 9 s)) → r ≡ false → false ≡ string_formed s
   unfolding string_formed
   text_unprintable h r f g =
       let m : 9 + n - 9 ≡ n = omega arith in
-      let q : printable (take n (drop 9 s)) ≡ false = ap (λ (k : ℕ). printable (take k (drop 9 s))) (sym m) ∙ sym f ∙ not-true r g in
+      let q : printable (take n (drop 9 s)) ≡ false = ap (λ (k : ℕ). printable (take k (drop 9 s))) (sym m) ∙ sym f ∙ g in
       rw (← e, le-leb n 16 h, q)
 
-  pub text_all : n ≤ 16 → (r : Bool) → r ≡ printable (take (9 + n - 9) (drop 9 s)) → not r ≡ false → (q : Bool) → q ≡ zeros (take (25 - (9 + n)) (drop (9 + n) s)) → q ≡ string_formed s
+  pub text_all : n ≤ 16 → (r : Bool) → r ≡ printable (take (9 + n - 9) (drop 9 s)) → r ≡ true → (q : Bool) → q ≡ zeros (take (25 - (9 + n)) (drop (9 + n) s)) → q ≡ string_formed s
   unfolding string_formed
   text_all h r f g q x =
       let m : 9 + n - 9 ≡ n = omega arith in
       let k : 25 - (9 + n) ≡ 16 - n = omega arith in
-      let y : printable (take n (drop 9 s)) ≡ true = ap (λ (k : ℕ). printable (take k (drop 9 s))) (sym m) ∙ sym f ∙ not-false r g in
+      let y : printable (take n (drop 9 s)) ≡ true = ap (λ (k : ℕ). printable (take k (drop 9 s))) (sym m) ∙ sym f ∙ g in
       rw (← e, le-leb n 16 h, y) (x ∙ ap (λ (k : ℕ). zeros (take k (drop (9 + n) s))) k)
 
 -- the size and the value by the kind

@@ -2,7 +2,6 @@
 use Rattle.std.proofs.Common.{◌≡◌, ℕ, ◌+◌, ◌<◌, ◌≤◌, Bool, true, false, cond, not, ◌&&◌, eqb, leb, List, sym, refl, ap, ◌∙◌, arith, eq-eqb, ne_eqb, eqb-true, leb-true}
 use mathlib.Core.Bool.{false≢true}
 use mathlib.Core.Option.{Option, none, some}
-use borrow.Author.Tests.{not-true, not-false}
 use Rattle.meaning.specs.Answer.{missing, highest}
 use Rattle.meaning.specs.declared.question.Question.{Question}
 use Rattle.cells.specs.declared.Answered.{Answered}
@@ -130,12 +129,12 @@ module _ (q : Question) where
 -- ---- the tests of `allowed`
 
 module _ (q : Question) (t : Bool) (k : t ≡ key_allowed (key_asked q)) where
-  pub refused_limits : not t ≡ true → false ≡ question_allowed q
-  refused_limits n = rw (by_numbers q, sym k ∙ not-true t n)
+  pub refused_limits : t ≡ false → false ≡ question_allowed q
+  refused_limits n = rw (by_numbers q, sym k ∙ n)
 
-  module _ (n : not t ≡ false) where
+  module _ (n : t ≡ true) where
     inside : key_allowed (key_asked q) ≡ true
-    inside = sym k ∙ not-false t n
+    inside = sym k ∙ n
 
     pub allowed_one : q.kind ≡ 1 → true ≡ question_allowed q
     unfolding unused_zero
@@ -162,13 +161,13 @@ module _ (q : Question) (t : Bool) (k : t ≡ key_allowed (key_asked q)) where
 -- ---- the answers of `answer`
 
 module _ (b index : List ℕ) (count : ℕ) (q : Question) (t : Bool) (k : t ≡ question_allowed q) where
-  pub answers_refused : not t ≡ true → Answers b index count q Missing
+  pub answers_refused : t ≡ false → Answers b index count q Missing
   unfolding meant InStore
-  answers_refused n = record { answer = λ m cs r. rw (sym k ∙ not-true t n); inside = λ m cs r. tt }
+  answers_refused n = record { answer = λ m cs r. rw (sym k ∙ n); inside = λ m cs r. tt }
 
-  module _ (n : not t ≡ false) where
+  module _ (n : t ≡ true) where
     whole : question_allowed q ≡ true
-    whole = sym k ∙ not-false t n
+    whole = sym k ∙ n
 
     parts : (key_allowed (key_asked q) ≡ true) × (unused_zero q ≡ true)
     parts = and_true (key_allowed (key_asked q)) (unused_zero q) (sym (by_numbers q) ∙ whole)

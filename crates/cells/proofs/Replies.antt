@@ -1,7 +1,6 @@
 -- What `ask` hands back, from the index that was built.
 use Rattle.std.proofs.Common.{◌≡◌, ℕ, ◌+◌, ◌-◌, ◌*◌, ◌<◌, ◌≤◌, Bool, true, false, cond, not, List, [], ◌∷◌, ◌++◌, length, get_or, take, drop, sym, refl, ap, ◌∙◌, ap₂, arith, length-append, length-drop, drop_of_length-le, length-take-le, take_all}
 use mathlib.Core.Option.{Option, none, some}
-use borrow.Author.Tests.{not-true, not-false}
 use lib.ListN.{get_or-append}
 use lib.Seq.{sets, sets-eq, take-nil}
 use Rattle.meaning.specs.Answer.{missing}
@@ -95,14 +94,14 @@ module _ (b : List ℕ) (n : ℕ) (p p' : List ℕ) (r : Indexed) (i : Indexes p
   ask_bad_store q e = rw (not_held e)
 
   module _ (q : Question) (count : ℕ) (e : r ≡ Count count) (t : Bool) (a : t ≡ question_allowed q) where
-    pub ask_bad_request : not t ≡ true → record { end = refused_with R.BadRequest; answer = Missing } ≡ asked_of b n q
+    pub ask_bad_request : t ≡ false → record { end = refused_with R.BadRequest; answer = Missing } ≡ asked_of b n q
     unfolding asked_of ask_of replied handed
-    ask_bad_request u = rw ((built count e).held, sym a ∙ not-true t u)
+    ask_bad_request u = rw ((built count e).held, sym a ∙ u)
 
-    pub ask_answered : not t ≡ false → 5461 ≤ length p → (x : Answered) → Answers b p' count q x → record { end = Finished; answer = x } ≡ asked_of b n q
+    pub ask_answered : t ≡ true → 5461 ≤ length p → (x : Answered) → Answers b p' count q x → record { end = Finished; answer = x } ≡ asked_of b n q
     unfolding asked_of ask_of replied
     ask_answered u l x w =
         let g = index_ready count e l in
-        let v : question_allowed q ≡ true = sym a ∙ not-false t u in
+        let v : question_allowed q ≡ true = sym a ∙ u in
         let h : x ≡ handed (string_start q (some g.0)) (cond (question_allowed q) (answer q g.0) missing) = answer_handed q x w g.1 in
         rw (g.1.holds, v) (ap (λ (y : Answered). record { end = Finished; answer = y }) (rw v at h))

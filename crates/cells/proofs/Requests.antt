@@ -2,7 +2,6 @@
 use Rattle.std.proofs.Common.{◌≡◌, ℕ, ◌+◌, ◌<◌, ◌≤◌, Bool, true, false, cond, not, ◌&&◌, eqb, List, [], ◌++◌, length, sym, refl, ap, ◌∙◌, subst, append-nil, arith, drop_of_length-le, eq-eqb, eqb-true}
 use mathlib.Core.Bool.{false≢true}
 use mathlib.Core.Option.{Option, none, some}
-use borrow.Author.Tests.{not-true, not-false}
 use Rattle.cells.specs.declared.request.Request.TheVariants as R
 use Rattle.cells.specs.Bytes.{begins, equal_bytes}
 use Rattle.cells.specs.Cell.{Key, Cell, key_as_number, key_allowed, key_at, key_bytes, cell_allowed, cell_bytes, cell_of, kind_byte, passing, front, whole_cell, whole_key}
@@ -120,12 +119,12 @@ module _ (s : List ℕ) where
   key_long h = no_key s (λ k w. omega (arith, key_length k w))
 
   module _ (t : Bool) (a : t ≡ key_allowed (key_at s 0)) where
-    pub key_out : not t ≡ true → KeyAsked (whole_key s) R.Bad
+    pub key_out : t ≡ false → KeyAsked (whole_key s) R.Bad
     key_out n =
-        no_key s (λ k w. false≢true (sym (not-true t n) ∙ a ∙ ap (λ (x : List ℕ). key_allowed (key_at x 0)) (w.bytes ∙ sym (append-nil (key_bytes k))) ∙ ap key_allowed (key_reads k []) ∙ w.allowed))
+        no_key s (λ k w. false≢true (sym n ∙ a ∙ ap (λ (x : List ℕ). key_allowed (key_at x 0)) (w.bytes ∙ sym (append-nil (key_bytes k))) ∙ ap key_allowed (key_reads k []) ∙ w.allowed))
 
-    pub key_in : not t ≡ false → Bytes s → 7 ≤ length s → length s ≤ 7 → (key : ℕ) → key ≡ key_as_number (key_at s 0) → KeyAsked (whole_key s) (R.Key key)
+    pub key_in : t ≡ true → Bytes s → 7 ≤ length s → length s ≤ 7 → (key : ℕ) → key ≡ key_as_number (key_at s 0) → KeyAsked (whole_key s) (R.Key key)
     unfolding whole_key requested_key
     key_in n b h l key k =
         let e : key_bytes (key_at s 0) ≡ s = sym (append-nil (key_bytes (key_at s 0))) ∙ ap (λ (x : List ℕ). key_bytes (key_at s 0) ++ x) (sym (drop_of_length-le s {i = 0 + 7} (omega arith))) ∙ key_back s b 0 (omega arith) in
-        rw (sym a ∙ not-false t n, ap (λ (x : List ℕ). equal_bytes x s) e ∙ same_self s) (record { told = ap R.Key k })
+        rw (sym a ∙ n, ap (λ (x : List ℕ). equal_bytes x s) e ∙ same_self s) (record { told = ap R.Key k })
