@@ -1,0 +1,7 @@
+-- Each of the three writes has room, so that together they make the buffer of the definition.
+use Rattle.store.proofs.Replacing.{replaced_is}
+use Rattle.store.proofs.replace.replace.Goals as goal
+
+pub returns : goal.returns
+returns c =
+    replaced_is _ _ _ _ _ c.requires.0 c.requires.1 c.requires.2 _ _ _ _ _ _ c.shift-moved.ensures c.write-written.ensures _ c.excess.ensures c.fill-cleared.ensures
