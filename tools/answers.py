@@ -262,7 +262,7 @@ def turn(path, crate, function, entry, said):
                 table[p] = f"l.initial.{v}" if ch else f"l.{v}"
             for p, v in zip(params[k:], current):
                 table[p] = f"l.{v}"
-            expr = re.sub(r"(?<![\w.'₀-])(%s)(?![\w'₀])" % "|".join(sorted(map(re.escape, table), key=len, reverse=True)), lambda q: table[q.group(1)], expr)
+            expr = re.sub(r"(?<![\w.'₀-])(%s)(?![\w'₀])" % "|".join(sorted(map(re.escape, table), key=len, reverse=True)), lambda q: table[q.group(1)], re.sub(r"«([^»]*)»", r"\1", expr))
             comment = "\n".join(l for l in b.split("\n") if l.startswith("--"))
             unfolding = re.search(r"(?m)^unfolding.*$", b)
             invariants.append((comment + "\n" if comment else "") + f"abbrev pub {kind}-{new} : goal.{kind}-{new}\n" + (unfolding.group(0) + "\n" if unfolding else "") + f"{kind}-{new} l ={expr}")

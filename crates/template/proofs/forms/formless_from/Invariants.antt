@@ -7,7 +7,7 @@ use Rattle.template.specs.Shape.{is_formed}
 use Rattle.template.proofs.forms.formless_from.Given as goal
 
 abbrev pub invariant-loop-at : goal.invariant-loop-at
-invariant-loop-at l = (first_fault is_formed l.number (lines_of (drop l.at l.template)) ≡ first_fault is_formed l.first (lines_of (drop «l.from» l.template))) × (l.number ≤ l.at + 1)
+invariant-loop-at l = (first_fault is_formed l.number (lines_of (drop l.at l.template)) ≡ first_fault is_formed l.first (lines_of (drop l.«from» l.template))) × (l.number ≤ l.at + 1)
 
 abbrev pub decreases-loop-at : goal.decreases-loop-at
 decreases-loop-at l = length l.template - l.at

@@ -15,7 +15,7 @@ returns-in-Test c = rw c.in-Test.is c.among_tests.ensures
 
 pub returns-in-Else : goal.returns-in-Else
 unfolding role_of
-returns-in-Else c = rw c.in-Else.is c.at_an_else.ensures
+returns-in-Else c = rw c.in-Else.is c.at_else.ensures
 
 pub returns-in-EndTest : goal.returns-in-EndTest
 unfolding role_of
