@@ -11,7 +11,9 @@ pub loop-k-init : goal.loop-k-init
 loop-k-init c = let a = c.args in lines_begin _ a.scene _ (headings_of (headings_in a.words.now)) a.line _ _ _ _ c.requires c.leading-lead.ensures.0 (nine_headings a.words.now)
 
 pub text_line-told-requires : goal.text_line-told-requires
-text_line-told-requires c = line_ready c.loop-k.invariant c.loop-k-test.true c.line_due-next.ensures c.scene_on-here.ensures c.part-body.ensures
+text_line-told-requires c =
+    let h = line_ready c.loop-k.invariant c.loop-k-test.true c.line_due-next.ensures c.scene_on-here.ensures c.part-body.ensures in
+    record { sayable = h.0; room = h.1 }
 
 pub shape_of-text-in_default : goal.shape_of-text-in_default
 shape_of-text-in_default c = line_same c.loop-k.invariant c.loop-k-test.true c.line_due-next.ensures c.scene_on-here.ensures c.part-body.ensures c.text_line-told.ensures

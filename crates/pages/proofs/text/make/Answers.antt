@@ -5,7 +5,7 @@ use native.Mathlib.Omega.{arith}
 use Rattle.pages.proofs.text.make.Goals as goal
 
 pub loop-at-init : goal.loop-at-init
-loop-at-init c = begins _ c.args.scene _ _ _ _ _ c.requires.0 c.requires.1
+loop-at-init c = begins _ c.args.scene _ _ _ _ _ c.requires.sayable c.requires.whole
 
 pub overflow_add-filled : goal.overflow_add-filled
 overflow_add-filled c = let h = run_small c.loop-at.invariant c.loop-at-test.true _ c.plain_run-run.ensures in omega (arith, h.0)
@@ -26,7 +26,7 @@ pub returns-in_default : goal.returns-in_default
 returns-in_default c = refused c.loop-at.invariant c.loop-at-test.true _ c.plain_run-run.ensures c.if-run-gt0.false _ (c.field_value-found.ensures.none c.in_default.is)
 
 pub shape_of-buffer-in_default-end : goal.shape_of-buffer-in_default-end
-shape_of-buffer-in_default-end c = c.loop-at.invariant.whole ∙ sym c.requires.1
+shape_of-buffer-in_default-end c = c.loop-at.invariant.whole ∙ sym c.requires.whole
 
 pub returns-in_default-end : goal.returns-in_default-end
 returns-in_default-end c = over c.loop-at.invariant c.loop-at-test.true _ c.plain_run-run.ensures c.if-run-gt0.false _ _ (c.field_value-found.ensures.some _ _ _ _ c.in-ValueOf.is).field (c.field_value-found.ensures.some _ _ _ _ c.in-ValueOf.is).value _ _ c.in_default-end.is
