@@ -1,13 +1,9 @@
-pub mod Elem
-pub mod Walk
 pub mod Appending
 pub mod Starting
 pub mod Stored
 pub mod Beginning
 pub mod Splitting
 pub mod Stretching
-pub mod Loan
-pub mod Local
 pub mod Sounding
 pub mod Driving
 pub mod Reprint

@@ -16,7 +16,7 @@ pub fn report<'a>(
     ensures { Reported template.now section.now store.now len text.old reads.old text.new reads.new result }
 {
     let mut index = [0u16; 5461];
-    let mut strings = [[0u8; 16]; 99];
+    let mut strings = start::no_strings();
     let mut s = start::begin(template, section, store, len, &mut index, reads.len());
     while s.more {
         s = stretch::run(template, store, &mut index, text, &mut strings, s);

@@ -23,6 +23,13 @@ fn no_log() -> Log
     }
 }
 
+// The rows of SV1 to SV99.
+pub fn no_strings() -> [[u8; 16]; 99]
+    ensures { length result ≡ 99 }
+{
+    [[0; 16]; 99]
+}
+
 // Where the lines of a run start: "Cells ask in the selected datasource, 1 at the start"; "PAGENUM starts at 1".
 fn flow(run: Extent) -> Flow
     ensures { result ≡ start_flow run }
