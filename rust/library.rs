@@ -1,4 +1,4 @@
-//! A static library of a crate, as `rt staticlib` writes it to target/staticlib.
+//! A static library of a crate, as `tools/library` puts it into target/staticlib.
 
 use std::env;
 use std::path::{Path, PathBuf};
@@ -17,7 +17,7 @@ pub fn link(name: &str) {
             "cargo::error=the proved library isn't there: {}",
             library.display()
         );
-        println!("cargo::error=run `rt staticlib {name}` in the repository's folder (with the Rattle kit's rt on the PATH)");
+        println!("cargo::error=run `tools/library {name}` in the repository's folder (with the Rattle kit's rt on the PATH)");
         println!(
             "cargo::error=or set STATION_LIB to a folder that holds lib{name}.a, and build again"
         );

@@ -1,4 +1,4 @@
-/* Puts, asks, reports and prints, by libstation.a. From the repository's folder, after `rt staticlib station`:
+/* Puts, asks, reports and prints, by libstation.a. From the repository's folder, after `tools/library station`:
 
        cc -Icrates/station/include examples/c/report.c target/staticlib/libstation.a -o target/report && target/report */
 #include "station.h"

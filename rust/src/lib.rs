@@ -2,7 +2,7 @@
 //!
 //! A [`Template`] that a laboratory wrote and a [`Store`] of results give a [`report()`]: the sheet, and the list of what
 //! the run read. Stores answer questions and are edited by [`Store::put`] and [`Store::remove`]. All of it is the proved
-//! library `libstation.a`, which `rt staticlib station` builds; this crate only hands over slices and names the numbers.
+//! library `libstation.a`, which `tools/library station` builds; this crate only hands over slices and names the numbers.
 //! "Document 01" is the customer's paper, "Counting-station report interpreter"; docs/MANUAL.md says how templates are
 //! written.
 //!

@@ -19,5 +19,5 @@ fn a_build_without_the_library_says_what_to_run() {
         said.contains("the proved library isn't there: /nowhere/libstation.a"),
         "{said}"
     );
-    assert!(said.contains("run `rt staticlib station`"), "{said}");
+    assert!(said.contains("run `tools/library station`"), "{said}");
 }

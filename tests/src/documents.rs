@@ -29,12 +29,12 @@ pub fn below(folder: &Path) -> Vec<PathBuf> {
         .collect()
 }
 
-/// The crates that are listed.
+/// The crates that are listed, as `name: ..` or `name staticlib: ..`.
 pub fn crates() -> BTreeSet<String> {
     let list = read("crates.txt");
     let lines = list.lines().filter(|line| !line.starts_with('#'));
     lines
-        .map(|line| line.split(':').next().unwrap().to_string())
+        .map(|line| line.split([':', ' ']).next().unwrap().to_string())
         .collect()
 }
 

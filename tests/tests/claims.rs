@@ -34,7 +34,7 @@ fn source<'a>(span: &'a str, crates: &Path) -> Option<(PathBuf, Vec<&'a str>)> {
 /// What a span cites: the file, and the names that it must have. A name alone is of the file cited before it.
 fn cited<'a>(span: &'a str, before: Option<&PathBuf>) -> Option<(PathBuf, Vec<&'a str>)> {
     let crates = root().join("crates");
-    let plain = |c: char| c.is_alphanumeric() || "_-′".contains(c);
+    let plain = |c: char| c.is_alphanumeric() || "_-'".contains(c);
     if span.contains("::") {
         return Some(source(span, &crates).unwrap_or_else(|| panic!("{span} is nowhere")));
     }

@@ -1,4 +1,5 @@
-//! What the gate, .ci/run, takes and refuses: made-up logs, by programs named rt and cargo at the front of the PATH.
+//! What the gate, .ci/run, takes and refuses: made-up logs, by programs named rt and cargo at the front of the PATH, in a folder
+//! that has the gate and no crates.
 
 use std::fs;
 use std::os::unix::fs::PermissionsExt;
@@ -6,7 +7,18 @@ use std::path::Path;
 use std::process::Command;
 
 /// What rt writes where all is proved.
-const PROVED: &str = "logic=proved functions=2 logic-built=trusted\n3 passed, 0 failed\n";
+const PROVED: &str = "logic=proved functions=2 logic-built=trusted libraries-built=trusted statements=trusted
+rt: ok; handles allowed: none; must-fail edits: 1 refused; every proof and must-fail edit was done in this run
+3 passed, 0 failed
+";
+
+/// What rt does: it prints its log and leaves the program, and makes a static library in the folder of its crate.
+const RT: &str = "case $1 in
+ci) cat \"$0.log\"; mkdir -p crates/sheet/out; : >crates/sheet/out/sheet ;;
+lib) mkdir -p out; : >\"out/lib$(basename \"$PWD\").a\" ;;
+esac";
+
+const CARGO: &str = "cat \"$0.log\"; [ -z \"$STATION_LIB$RUSTFLAGS\" ]";
 
 /// What cargo writes for a package with one file of tests and an example in its docs.
 const TESTED: &str = "     Running unittests src/lib.rs (one)
@@ -17,27 +29,43 @@ test result: ok. 4 passed; 0 failed; 0 ignored; 0 measured; 0 filtered out; fini
 test result: ok. 1 passed; 0 failed; 0 ignored; 0 measured; 0 filtered out; finished in 0.00s
 ";
 
+fn program(path: &Path, does: &str) {
+    fs::write(path, format!("#!/bin/sh\n{does}\n")).unwrap();
+    fs::set_permissions(path, fs::Permissions::from_mode(0o755)).unwrap();
+}
+
 /// Whether the gate passes, and its last line; the programs print the logs, and cargo says where something else would be linked.
 fn gate(name: &str, rt: &str, cargo: &str) -> (bool, String) {
+    gate_over(name, rt, cargo, RT)
+}
+
+fn gate_over(name: &str, rt: &str, cargo: &str, does: &str) -> (bool, String) {
+    let root = Path::new(env!("CARGO_MANIFEST_DIR")).join("..");
     let folder = Path::new(env!("CARGO_TARGET_TMPDIR")).join(format!("gate {name}"));
-    fs::create_dir_all(&folder).unwrap();
-    let programs = [
-        ("rt", rt, "[ \"$1\" != ci ] || cat \"$0.log\""),
-        (
-            "cargo",
-            cargo,
-            "cat \"$0.log\"; [ -z \"$STATION_LIB$RUSTFLAGS\" ]",
-        ),
-    ];
-    for (program, log, does) in programs {
-        let path = folder.join(program);
-        fs::write(folder.join(format!("{program}.log")), log).unwrap();
-        fs::write(&path, format!("#!/bin/sh\n{does}\n")).unwrap();
-        fs::set_permissions(&path, fs::Permissions::from_mode(0o755)).unwrap();
+    let _ = fs::remove_dir_all(&folder);
+    for within in [
+        "bin",
+        ".ci",
+        "tools",
+        "crates/station_c",
+        "crates/station_testing_c",
+    ] {
+        fs::create_dir_all(folder.join(within)).unwrap();
     }
-    let path = format!("{}:{}", folder.display(), std::env::var("PATH").unwrap());
-    let gate = Path::new(env!("CARGO_MANIFEST_DIR")).join("../.ci/run");
-    let output = Command::new(gate)
+    for script in [".ci/run", "tools/library"] {
+        fs::copy(root.join(script), folder.join(script)).unwrap();
+    }
+    for (made, log, does) in [("rt", rt, does), ("cargo", cargo, CARGO)] {
+        let path = folder.join("bin").join(made);
+        fs::write(path.with_extension("log"), log).unwrap();
+        program(&path, does);
+    }
+    let path = format!(
+        "{}:{}",
+        folder.join("bin").display(),
+        std::env::var("PATH").unwrap()
+    );
+    let output = Command::new(folder.join(".ci/run"))
         .env("PATH", path)
         .env("STATION_LIB", "/nowhere")
         .env("RUSTFLAGS", "-L /nowhere")
@@ -46,6 +74,10 @@ fn gate(name: &str, rt: &str, cargo: &str) -> (bool, String) {
     let said = String::from_utf8_lossy(&output.stdout);
     let last = said.lines().last().unwrap().to_owned();
     (output.status.success(), last)
+}
+
+fn refused() -> (bool, String) {
+    (false, "0 passed, 1 failed".to_owned())
 }
 
 #[test]
@@ -65,6 +97,8 @@ fn logs_that_are_refused() {
             rt("logic-built", "incremental=trusted logic-built"),
         ),
         ("edit", rt("3 passed, 0 failed", "2 passed, 1 failed")),
+        ("bad edit", rt("1 refused;", "1 refused, 1 bad;")),
+        ("not ok", rt("rt: ok;", "rt: FAILED:")),
         ("none proved", rt("3 passed", "0 passed")),
         ("no end", rt("3 passed, 0 failed\n", "")),
         ("failed", cargo("4 passed; 0 failed", "3 passed; 1 failed")),
@@ -88,7 +122,21 @@ fn logs_that_are_refused() {
         ("nothing", (PROVED.to_owned(), String::new())),
     ];
     for (name, (rt, cargo)) in logs {
-        let refused = (false, "0 passed, 1 failed".to_owned());
-        assert_eq!(gate(name, &rt, &cargo), refused, "{name}");
+        assert_eq!(gate(name, &rt, &cargo), refused(), "{name}");
+    }
+}
+
+#[test]
+fn what_rt_did_not_make_is_refused() {
+    let lacking = [
+        ("no program", "[ $1 != ci ] || rm crates/sheet/out/sheet"),
+        ("no station", "rm -f out/libstation_c.a"),
+        ("no station_testing", "rm -f out/libstation_testing_c.a"),
+        ("unproved", "[ $1 != lib ]"),
+        ("failed ci", "[ $1 != ci ]"),
+    ];
+    for (name, then) in lacking {
+        let does = format!("{RT}\n{then}");
+        assert_eq!(gate_over(name, PROVED, TESTED, &does), refused(), "{name}");
     }
 }

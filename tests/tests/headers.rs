@@ -1,4 +1,5 @@
-//! What the headers declare is what the Rattle source marks, what the libraries export, and what the Rust packages declare.
+//! What the headers declare is what the Rattle source marks, what the libraries export, and what the Rust packages declare. A call
+//! is a function of the crate, and of the crate of its exports.
 
 #[path = "../../rust/tests/common/cc.rs"]
 mod cc;
@@ -27,12 +28,12 @@ fn sorted(names: impl Iterator<Item = String>) -> Vec<String> {
     names
 }
 
-/// What the source of a crate marks as exported.
-fn marked(name: &str) -> Vec<String> {
+/// The calls that a crate's source has on lines that begin so.
+fn marked(name: &str, begins: &str) -> Vec<String> {
     let mut source = String::new();
     for file in fs::read_dir(root().join("crates").join(name).join("src")).unwrap() {
         let text = fs::read_to_string(file.unwrap().path()).unwrap();
-        for line in text.lines().filter(|l| l.starts_with("pub extern")) {
+        for line in text.lines().filter(|l| l.starts_with(begins)) {
             source.push_str(line);
             source.push('\n');
         }
@@ -61,7 +62,8 @@ fn same_calls(name: &str, ffi: &str) {
     let header = format!("crates/{name}/include/{name}.h");
     let declared = calls(&fs::read_to_string(root().join(header)).unwrap());
     assert!(!declared.is_empty());
-    assert_eq!(declared, marked(name));
+    assert_eq!(declared, marked(&format!("{name}_c"), "pub extern"));
+    assert_eq!(declared, marked(name, "pub fn station_"));
     assert_eq!(declared, exported(name));
     assert_eq!(
         declared,

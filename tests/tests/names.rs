@@ -1,4 +1,4 @@
-//! In what must be believed a name has one meaning: definitions, types and cases of specs/ outside inner/ and readers/, the types of
+//! In what must be believed a name has one meaning: definitions, types and cases of specs/ outside Inner/ and Readers/, the types of
 //! the code, and the fields of both.
 
 use station_tests::documents::{below, crates, root};
@@ -34,7 +34,7 @@ const FIELDS: [&str; 10] = [
 
 /// Whether a file of specs/ is part of what must be believed.
 fn believed(file: &Path) -> bool {
-    let aside = ["inner", "readers", "inner.antt", "readers.antt", "Lib.antt"];
+    let aside = ["Inner", "Readers", "Inner.antt", "Readers.antt", "Lib.antt"];
     let antt = file.extension().is_some_and(|e| e == "antt");
     antt && !file
         .iter()

@@ -1,4 +1,4 @@
-//! The program `sheet`, as `rt` links it: what it prints beside the second interpreter's report, and what it says of files that
+//! The program `sheet`, as `rt ci` links it: what it prints beside the second interpreter's report, and what it says of files that
 //! it can't read.
 
 use second::{report, Question};
@@ -29,7 +29,7 @@ fn sheet(folder: &Path, input: &[u8]) -> Output {
         .stdout(Stdio::piped())
         .stderr(Stdio::piped())
         .spawn()
-        .expect("target/bin/sheet, which rt ci or rt check sheet links");
+        .expect("target/bin/sheet, where .ci/run puts crates/sheet/out/sheet");
     // A program that ends early doesn't read its input.
     let _ = child.stdin.take().unwrap().write_all(input);
     child.wait_with_output().unwrap()

@@ -1,10 +1,7 @@
 -- What `printed` and `sheet` say of a report follows from what `report` says.
-use mathlib.Core.Path.{◌≡◌, sym, ◌∙◌, ap}
-use mathlib.Core.List.{List}
-use Prim.Native.Nat.{ℕ, ◌≤◌}
-use native.Mathlib.Omega.{arith}
-use lib.ListN.{length}
-use lib.Seq.{sets, length-sets, length-take-le}
+use Rattle.std.proofs.Common.{◌≡◌, sym, ◌∙◌, ap, List, ℕ, ◌≤◌, length, arith}
+use Rattle.std.proofs.lemmas.List.{length-take-le}
+use Rattle.std.proofs.Math.Seq.{sets, length-sets}
 use Rattle.meaning.specs.declared.question.Question.{Question}
 use Rattle.report.specs.declared.Report.{Report}
 use Rattle.report.specs.Report.{Outcome, text_in, report_of, report_in}

@@ -1,8 +1,10 @@
 // What the program reads: a file by its name, and the section's name. Where it can't be read, a message says why.
-ghost use Rattle.std.specs.Prelude.{◌≡◌};
-ghost use Rattle.io.specs.Counts.{IsPrefixLen};
+ghost use Rattle.std.specs.Prelude.{◌≡◌, IfOk};
+ghost use Rattle.std.specs.Io.{ReadsAtMost};
+ghost use Rattle.sheet.specs.Inner.Prefix.{IsPrefixLen};
 
-use libc::STDIN_FILENO;
+use std::rt::Files;
+use std::{fs, io};
 
 // Whether all was read, and how many bytes of the buffer it fills.
 #[derive(Clone, Copy)]
@@ -11,85 +13,93 @@ pub struct Read {
     pub bytes: usize,
 }
 
-fn failed(what: &[u8]) -> Read
+// Nothing more can be done where the message can't be written either.
+fn failed<R: Eprint>(rt: &R, what: &str, why: io::Error) -> Read
     ensures { result.bytes ≡ 0 }
 {
-    os::fail(what);
+    let _ = eprintln!(rt; "{what}: {why}");
     Read {
         whole: false,
         bytes: 0,
     }
 }
 
-// What an open file holds, up to the buffer's end: a read that ends early is told from the end of the file.
-fn contents(fd: i32, path: &[u8], buf: &mut [u8]) -> Read
+// Reads up to the buffer's end or the reader's: a read that fails is told from the end.
+fn fill<F: io::Read>(from: &mut F, buf: &mut [u8]) -> io::Result<usize>
+    ensures { ReadsAtMost result buf.new }
+{
+    let mut n = 0;
+    while n < buf.len() {
+        let more = from.read(&mut buf[n..])?;
+        if more == 0 {
+            break;
+        }
+        n += more;
+    }
+    Ok(n)
+}
+
+// What an open file holds, up to the buffer's end.
+fn contents<R: Files + Eprint>(rt: &R, file: R::File, path: &str, buf: &mut [u8]) -> Read
     ensures { IsPrefixLen result.bytes buf.new }
 {
-    let n = io::read_full(fd, buf);
-    let more = libc::read(fd, &mut buf[n..]);
-    if more != 0 {
-        return failed(path);
-    }
-    Read {
-        whole: true,
-        bytes: n,
+    let mut file = file;
+    match fill(&mut file, buf) {
+        Ok(n) => Read {
+            whole: true,
+            bytes: n,
+        },
+        Err(e) => failed(rt, path, e),
     }
 }
 
 // A file, up to the buffer's end.
-pub fn load(path: &[u8], buf: &mut [u8]) -> Read
+pub fn load<R: Files + Eprint>(rt: &R, path: &str, buf: &mut [u8]) -> Read
     ensures { IsPrefixLen result.bytes buf.new }
 {
-    let fd = os::open_read(path);
-    if fd < 0 {
-        return failed(path);
+    match fs::open(rt, path) {
+        Ok(file) => contents(rt, file, path, buf),
+        Err(e) => failed(rt, path, e),
     }
-    let read = contents(fd, path, buf);
-    libc::close(fd);
-    read
 }
 
-// A byte of standard input.
-#[derive(Clone, Copy)]
-enum Next {
-    Byte(u8),
-    End,
-    Failed,
-}
-
-fn take_byte() -> Next {
+// The next byte, if there is one.
+fn take_byte<F: io::Read>(from: &mut F) -> io::Result<Option<u8>> {
     let mut byte = [0u8; 1];
-    let got = libc::read(STDIN_FILENO, &mut byte);
-    if got < 0 {
-        return Next::Failed;
-    }
+    let got = from.read(&mut byte)?;
     if got == 0 {
-        return Next::End;
+        return Ok(None);
     }
-    Next::Byte(byte[0])
+    Ok(Some(byte[0]))
 }
 
-// The section's name, "up to 0x0A or its end": what the buffer holds of it is all that is read.
-pub fn name(buf: &mut [u8]) -> Read
-    ensures { IsPrefixLen result.bytes buf.new }
+// The bytes up to 0x0A or the end: what the buffer holds of them is all that is read.
+fn line<F: io::Read>(from: &mut F, buf: &mut [u8]) -> io::Result<usize>
+    ensures { ReadsAtMost result buf.new }
 {
     let mut n = 0;
     while n < buf.len() {
-        let read = take_byte();
-        match read {
-            Next::Failed => return failed(b"standard input"),
-            Next::End => break,
-            Next::Byte(b) => {
-                if b == 0x0A {
-                    break;
-                }
+        match take_byte(from)? {
+            Some(0x0A) | None => break,
+            Some(b) => {
                 buf[n] = b;
                 n += 1;
             }
         }
     }
-    Read {
-        whole: true,
-        bytes: n,
+    Ok(n)
+}
+
+// The section's name, "up to 0x0A or its end".
+pub fn name<R: Input + Eprint>(rt: &R, buf: &mut [u8]) -> Read
+    ensures { IsPrefixLen result.bytes buf.new }
+{
+    let mut input = rt.reader();
+    match line(&mut input, buf) {
+        Ok(n) => Read {
+            whole: true,
+            bytes: n,
+        },
+        Err(e) => failed(rt, "standard input", e),
     }
 }

@@ -5,52 +5,53 @@
 mod file; // file.rt: what is read
 mod printing; // printing.rt: the report
 
-use libc::STDOUT_FILENO;
 use report::Report;
+use std::io;
 
 // The closing line.
-fn close(made: Report) {
-    io::print_decimal(STDOUT_FILENO, made.number as u64);
-    io::write_all(STDOUT_FILENO, b" ");
-    io::print_decimal(STDOUT_FILENO, made.line as u64);
-    io::write_all(STDOUT_FILENO, b" ");
-    io::print_decimal(STDOUT_FILENO, made.pages as u64);
-    io::write_all(STDOUT_FILENO, b" ");
-    io::print_decimal(STDOUT_FILENO, made.bytes as u64);
-    io::write_all(STDOUT_FILENO, b" ");
-    io::print_decimal(STDOUT_FILENO, made.questions as u64);
-    io::write_all(STDOUT_FILENO, b"\n");
+fn close(rt: &impl Print, made: Report) -> io::Result<()> {
+    let number = made.number;
+    let line = made.line;
+    let pages = made.pages;
+    let bytes = made.bytes;
+    let questions = made.questions;
+    println!(rt; "{number} {line} {pages} {bytes} {questions}")
 }
 
 // The report of what was read, printed. "Its text buffer has 65,536 bytes"
-fn print<'a>(template: &'a [u8], section: &'a [u8], store: &'a [u8]) {
-    let mut text = io::large_buffer();
+fn print<'a>(
+    rt: &impl Print,
+    template: &'a [u8],
+    section: &'a [u8],
+    store: &'a [u8],
+) -> io::Result<()> {
+    let mut text = [0u8; 65536];
     let made = printing::sheet(template, section, store, store.len(), &mut text);
     let n = made.bytes;
-    io::write_all(STDOUT_FILENO, &text[..n]);
-    close(made);
+    rt.write_all(&text[..n])?;
+    close(rt, made)
 }
 
 // No more is read than counts: sections are compared by the first eight bytes of their names, a template of 32,769 bytes is as
 // wrong as a longer one, and so is a store of 65,537.
-fn main() {
+fn main(rt: HostRuntime) -> io::Result<()> {
     let mut name = [0u8; 8];
-    let named = file::name(&mut name);
+    let named = file::name(&rt, &mut name);
     if !named.whole {
-        return;
+        return Ok(());
     }
     let mut template = [0u8; 32769];
-    let lines = file::load(b"template", &mut template);
+    let lines = file::load(&rt, "template", &mut template);
     if !lines.whole {
-        return;
+        return Ok(());
     }
     let mut store = [0u8; 65537];
-    let cells = file::load(b"store", &mut store);
+    let cells = file::load(&rt, "store", &mut store);
     if !cells.whole {
-        return;
+        return Ok(());
     }
     let a = named.bytes;
     let b = lines.bytes;
     let c = cells.bytes;
-    print(&template[..b], &name[..a], &store[..c]);
+    print(&rt, &template[..b], &name[..a], &store[..c])
 }

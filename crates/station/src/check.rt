@@ -13,8 +13,7 @@ fn refusal_number(refusal: Refusal) -> u32
     refusal.number() as u32
 }
 
-#[unsafe(no_mangle)]
-pub extern "C" fn station_check(text: &[u8], section: &[u8], line: &mut u32, start: &mut u32) -> u32
+pub fn station_check(text: &[u8], section: &[u8], line: &mut u32, start: &mut u32) -> u32
     ensures { ToldCheck (template_checked text.now section.now) line.new start.new result }
 {
     let checked = template::check(text, section);

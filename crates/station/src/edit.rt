@@ -13,13 +13,7 @@ pub fn number_of(end: Ended) -> u32
     end.number() as u32
 }
 
-#[unsafe(no_mangle)]
-pub extern "C" fn station_put(
-    buffer: &mut [u8],
-    length: usize,
-    cell: &[u8],
-    left: &mut usize,
-) -> u32
+pub fn station_put(buffer: &mut [u8], length: usize, cell: &[u8], left: &mut usize) -> u32
     ensures { ToldEdit (put_of buffer.old length cell.now) buffer.new left.new result }
 {
     let edited = store::put(buffer, length, cell);
@@ -28,13 +22,7 @@ pub extern "C" fn station_put(
     number_of(end)
 }
 
-#[unsafe(no_mangle)]
-pub extern "C" fn station_remove(
-    buffer: &mut [u8],
-    length: usize,
-    key: &[u8],
-    left: &mut usize,
-) -> u32
+pub fn station_remove(buffer: &mut [u8], length: usize, key: &[u8], left: &mut usize) -> u32
     ensures { ToldEdit (remove_of buffer.old length key.now) buffer.new left.new result }
 {
     let edited = store::remove(buffer, length, key);

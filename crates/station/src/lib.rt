@@ -2,6 +2,6 @@
 #![tactic(auto)]
 
 pub mod question; // question.rt: questions to a store
-mod edit; // edit.rt: puts and removes
-mod check; // check.rt: the checks of a template
-mod sheet; // sheet.rt: a report
+pub mod edit; // edit.rt: puts and removes
+pub mod check; // check.rt: the checks of a template
+pub mod sheet; // sheet.rt: a report

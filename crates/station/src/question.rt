@@ -44,8 +44,7 @@ pub fn hand_answer(
     }
 }
 
-#[unsafe(no_mangle)]
-pub extern "C" fn station_ask(
+pub fn station_ask(
     buffer: &[u8],
     length: usize,
     kind: u32,

@@ -23,8 +23,7 @@ fn hand_report<'b>(
     made.number as u32
 }
 
-#[unsafe(no_mangle)]
-pub extern "C" fn station_report<'a, 'b>(
+pub fn station_report<'a, 'b>(
     template: &'a [u8],
     section: &'a [u8],
     buffer: &'a [u8],

@@ -63,22 +63,19 @@ fn of_one(operation: u32, a: i64) -> Number
     numbers::integer::to_decimal(a)
 }
 
-#[unsafe(no_mangle)]
-pub extern "C" fn station_integers(operation: u32, a: i64, b: i64, res: &mut i64) -> u32
+pub fn station_integers(operation: u32, a: i64, b: i64, res: &mut i64) -> u32
     ensures { ToldResult (on_integers operation a b) res.old res.new result }
 {
     hand_back(of_integers(operation, a, b), res)
 }
 
-#[unsafe(no_mangle)]
-pub extern "C" fn station_decimals(operation: u32, a: i64, b: i64, res: &mut i64) -> u32
+pub fn station_decimals(operation: u32, a: i64, b: i64, res: &mut i64) -> u32
     ensures { ToldResult (on_decimals operation a b) res.old res.new result }
 {
     hand_back(of_decimals(operation, a, b), res)
 }
 
-#[unsafe(no_mangle)]
-pub extern "C" fn station_one(operation: u32, a: i64, res: &mut i64) -> u32
+pub fn station_one(operation: u32, a: i64, res: &mut i64) -> u32
     ensures { ToldResult (on_one operation a) res.old res.new result }
 {
     hand_back(of_one(operation, a), res)
@@ -106,24 +103,21 @@ fn compare(test: u32, p: Quantity, q: Quantity) -> bool
     numbers::order::equal(p, q)
 }
 
-#[unsafe(no_mangle)]
-pub extern "C" fn station_compare(test: u32, kind: u8, a: i64, other: u8, b: i64) -> bool
+pub fn station_compare(test: u32, kind: u8, a: i64, other: u8, b: i64) -> bool
     ensures { result ≡ compared_by test (quantity_of kind a) (quantity_of other b) }
 {
     compare(test, quantity(kind, a), quantity(other, b))
 }
 
 // The integer next to a number, toward zero.
-#[unsafe(no_mangle)]
-pub extern "C" fn station_whole(kind: u8, n: i64) -> i64
+pub fn station_whole(kind: u8, n: i64) -> i64
     ensures { result ≡ whole_of (quantity_of kind n) }
 {
     numbers::parts::whole(quantity(kind, n))
 }
 
 // Whether there is a rounded magnitude; it goes to `units`.
-#[unsafe(no_mangle)]
-pub extern "C" fn station_rounded(kind: u8, n: i64, places: usize, units: &mut u64) -> bool
+pub fn station_rounded(kind: u8, n: i64, places: usize, units: &mut u64) -> bool
     ensures { ToldUnits (rounded_to (quantity_of kind n) places) units.old units.new result }
 {
     let Rounded::Units(u) = numbers::places::rounded(quantity(kind, n), places) else {

@@ -18,8 +18,7 @@ fn places_of(said: bool, places: usize) -> Places
     Places::Unsaid
 }
 
-#[unsafe(no_mangle)]
-pub extern "C" fn station_number_field(
+pub fn station_number_field(
     buffer: &mut [u8],
     at: usize,
     width: usize,
@@ -35,20 +34,13 @@ pub extern "C" fn station_number_field(
     fields::number(buffer, at, width, d, q)
 }
 
-#[unsafe(no_mangle)]
-pub extern "C" fn station_string_field(
-    buffer: &mut [u8],
-    at: usize,
-    width: usize,
-    bytes: &[u8],
-) -> bool
+pub fn station_string_field(buffer: &mut [u8], at: usize, width: usize, bytes: &[u8]) -> bool
     ensures { Put buffer.old at (field_of width (places_said false 0) (some (G.string bytes.now))) buffer.new result }
 {
     fields::string(buffer, at, width, bytes)
 }
 
-#[unsafe(no_mangle)]
-pub extern "C" fn station_missing_field(buffer: &mut [u8], at: usize, width: usize) -> bool
+pub fn station_missing_field(buffer: &mut [u8], at: usize, width: usize) -> bool
     ensures { Put buffer.old at (field_of width (places_said false 0) none) buffer.new result }
 {
     fields::missing(buffer, at, width)

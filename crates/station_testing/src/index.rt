@@ -21,13 +21,7 @@ fn copy_in(starts: &mut [u16], found: &[u16])
 }
 
 // The places of the cells, and how many there are; 1 where the store is out of form, 16 where there are too few places.
-#[unsafe(no_mangle)]
-pub extern "C" fn station_index(
-    buffer: &[u8],
-    length: usize,
-    starts: &mut [u16],
-    count: &mut usize,
-) -> u32
+pub fn station_index(buffer: &[u8], length: usize, starts: &mut [u16], count: &mut usize) -> u32
     ensures { listing result count.new starts.new ≡ listed starts.old count.old (cells_held buffer.now length) }
 {
     let mut found = [0u16; 5461];
@@ -43,8 +37,7 @@ pub extern "C" fn station_index(
 }
 
 // A question over the index of a store.
-#[unsafe(no_mangle)]
-pub extern "C" fn station_look_up(
+pub fn station_look_up(
     buffer: &[u8],
     starts: &[u16],
     known: usize,
@@ -72,8 +65,7 @@ pub extern "C" fn station_look_up(
 }
 
 // The same, first sought near a hint; where the search ended goes to `ended`.
-#[unsafe(no_mangle)]
-pub extern "C" fn station_look_up_near(
+pub fn station_look_up_near(
     buffer: &[u8],
     starts: &[u16],
     known: usize,

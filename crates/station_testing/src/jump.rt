@@ -18,8 +18,7 @@ fn sought_of(code: u32) -> Sought
 }
 
 // How many bytes and lines of a part of a template are passed over.
-#[unsafe(no_mangle)]
-pub extern "C" fn station_skip(rest: &[u8], code: u32, bytes: &mut usize, lines: &mut u32)
+pub fn station_skip(rest: &[u8], code: u32, bytes: &mut usize, lines: &mut u32)
     ensures { ToldSkip (skipped rest.now (sought_of code)) bytes.new lines.new }
 {
     let sought = sought_of(code);

@@ -3,15 +3,13 @@ ghost use Rattle.buffers.specs.Buffer.{Stored};
 ghost use Rattle.form_codes.specs.Line.{line_numbers};
 ghost use Rattle.form_codes.specs.Piece.{piece_numbers};
 
-#[unsafe(no_mangle)]
-pub extern "C" fn station_line(line: &[u8], numbers: &mut [u64]) -> bool
+pub fn station_line(line: &[u8], numbers: &mut [u64]) -> bool
     ensures { Stored numbers.old 0 (line_numbers line.now) numbers.new result }
 {
     form_codes::line::write_line(line, numbers)
 }
 
-#[unsafe(no_mangle)]
-pub extern "C" fn station_piece(line: &[u8], at: usize, numbers: &mut [u64]) -> bool
+pub fn station_piece(line: &[u8], at: usize, numbers: &mut [u64]) -> bool
     ensures { Stored numbers.old 0 (piece_numbers line.now at) numbers.new result }
 {
     form_codes::piece::write_piece(line, at, numbers)

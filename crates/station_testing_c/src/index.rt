@@ -1,0 +1,68 @@
+// The index of a store, and questions over it.
+ghost use Rattle.std.specs.Prelude.{◌≡◌, length};
+ghost use Rattle.cells.specs.Store.{cells_held};
+ghost use Rattle.station.specs.Answers.{question_of};
+ghost use Rattle.station_testing.specs.Index.{listing, listed, ToldLookUp};
+
+// The places of the cells, and how many there are; 1 where the store is out of form, 16 where there are too few places.
+#[unsafe(no_mangle)]
+pub extern "C" fn station_index(
+    buffer: &[u8],
+    length: usize,
+    starts: &mut [u16],
+    count: &mut usize,
+) -> u32
+    ensures { listing result count.new starts.new ≡ listed starts.old count.old (cells_held buffer.now length) }
+{
+    station_testing::index::station_index(buffer, length, starts, count)
+}
+
+// A question over the index of a store.
+#[unsafe(no_mangle)]
+pub extern "C" fn station_look_up(
+    buffer: &[u8],
+    starts: &[u16],
+    known: usize,
+    kind: u32,
+    datasource: u32,
+    parameter: u32,
+    item: u32,
+    entry: u32,
+    answered: &mut u8,
+    value: &mut i64,
+    place: &mut usize,
+    count: &mut usize,
+)
+    ensures { ToldLookUp buffer.now starts.now known (question_of kind datasource parameter item entry) answered.new value.new place.new count.new }
+{
+    station_testing::index::station_look_up(
+        buffer, starts, known, kind, datasource, parameter, item, entry, answered, value, place,
+        count,
+    );
+}
+
+// The same, first sought near a hint; where the search ended goes to `ended`.
+#[unsafe(no_mangle)]
+pub extern "C" fn station_look_up_near(
+    buffer: &[u8],
+    starts: &[u16],
+    known: usize,
+    kind: u32,
+    datasource: u32,
+    parameter: u32,
+    item: u32,
+    entry: u32,
+    hint: usize,
+    answered: &mut u8,
+    value: &mut i64,
+    place: &mut usize,
+    count: &mut usize,
+    ended: &mut usize,
+)
+    ensures { ToldLookUp buffer.now starts.now known (question_of kind datasource parameter item entry) answered.new value.new place.new count.new }
+{
+    station_testing::index::station_look_up_near(
+        buffer, starts, known, kind, datasource, parameter, item, entry, hint, answered, value,
+        place, count, ended,
+    );
+}
