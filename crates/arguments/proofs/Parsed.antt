@@ -1,21 +1,18 @@
 -- What was parsed lies within its limits, and takes some bytes of its line.
 use mathlib.Core.Path.{◌≡◌, refl, subst}
-use mathlib.Core.Bool.{Bool, true, false, cond}
+use mathlib.Core.Bool.{Bool, true, false}
 use mathlib.Core.List.{List}
 use Prim.Native.Nat.{ℕ, ◌+◌, ◌≤◌, ◌<◌}
 use native.Mathlib.Omega.{arith}
 use borrow.Author.Tests.{eqb-true, eqb-false, ltb-false}
 use lib.Dec.{ltb, eqb}
-use lib.ListN.{length, take, drop, length-take, length-drop}
-use Rattle.numbers.specs.declared.Quantity.{Quantity}
+use lib.ListN.{drop, length-take}
 use Rattle.numbers.specs.Range.{integer_limit, decimal_limit}
-use Rattle.numbers.specs.Sign.{signed}
 use Rattle.numbers.proofs.Machine.{abs_signed}
 use Rattle.scan.specs.declared.digits.Numeral.{Numeral}
 use Rattle.scan.specs.declared.digits.Numeral.TheVariants.{Value, NoNumeral}
 use Rattle.scan.specs.declared.run.Class.TheVariants.{InString}
 use Rattle.scan.specs.Ascii.{ascii}
-use Rattle.scan.specs.Run.{span}
 use Rattle.scan.specs.Line.{byte_at, byte_is, window}
 use Rattle.scan.specs.Readers.Digits.{digits_at, number_at}
 use Rattle.scan.specs.Words.{stands_at, first_of}

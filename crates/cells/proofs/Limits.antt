@@ -1,7 +1,7 @@
 -- What `ask` answers: over a ready index the code's answer is the same, and every answer's value lies within its limits.
-use Rattle.std.proofs.Common.{◌≡◌, ℕ, ◌≤◌, max, Bool, true, false, cond, ◌&&◌, eqb, leb, List, [], ◌∷◌, length, nat_abs, sym, refl, ap, ◌∙◌, arith, leb-true}
+use Rattle.std.proofs.Common.{◌≡◌, ℕ, ◌≤◌, max, Bool, true, false, cond, eqb, leb, List, [], ◌∷◌, length, nat_abs, sym, refl, ap, ◌∙◌, arith, leb-true}
 use mathlib.Core.Option.{Option, none, some}
-use Rattle.numbers.specs.Range.{integer_limit, decimal_limit, within}
+use Rattle.numbers.specs.Range.{integer_limit, decimal_limit}
 use Rattle.numbers.proofs.Laws.{within_true}
 use Rattle.meaning.specs.Answer.{Value, string, Answer, missing, cell, highest}
 use Rattle.meaning.specs.Answer as A

@@ -1,8 +1,7 @@
 -- The i-th cell of a store, by the index: its bytes, its place and its key.
-use Rattle.std.proofs.Common.{◌≡◌, ℕ, zero, suc, ◌+◌, ◌-◌, ◌<◌, ◌≤◌, Bool, true, false, cond, ◌&&◌, ltb, leb, List, [], ◌∷◌, ◌++◌, length, get_or, take, drop, sym, refl, ap, ◌∙◌, ap₂, append_assoc, arith, length-append, length-drop, take-append-drop, length-take-le, get_or-drop, ltb-true, leb-true}
+use Rattle.std.proofs.Common.{◌≡◌, ℕ, zero, suc, ◌+◌, ◌<◌, ◌≤◌, Bool, true, false, cond, ◌&&◌, ltb, leb, List, [], ◌∷◌, ◌++◌, length, get_or, take, drop, sym, refl, ap, ◌∙◌, ap₂, append_assoc, arith, length-append, length-drop, take-append-drop, length-take-le, ltb-true, leb-true}
 use mathlib.Core.Option.{none, some}
 use lib.Seq.{drop-append_seam, get_or_at}
-use Rattle.cells.specs.Bytes.{pair_at, quad_from, octet_at}
 use Rattle.cells.specs.Cell.{Cell, key_as_number, key_number, key_at, cell_allowed, cell_bytes, kind_byte}
 use Rattle.cells.specs.Store.{encode, cells_allowed, above, rising, cells, cells_held}
 use Rattle.cells.specs.Inner.Index.{offsets, Ready, key_in, Sorted, First}

@@ -1,5 +1,5 @@
 -- Questions: their limits as the code tests them, and the range of keys that kinds 2 and 3 speak of.
-use Rattle.std.proofs.Common.{◌≡◌, ℕ, ◌+◌, ◌<◌, ◌≤◌, Bool, true, false, cond, not, ◌&&◌, eqb, leb, List, sym, refl, ap, ◌∙◌, arith, eq-eqb, ne_eqb, eqb-true, leb-true}
+use Rattle.std.proofs.Common.{◌≡◌, ℕ, ◌+◌, ◌<◌, ◌≤◌, Bool, true, false, cond, ◌&&◌, eqb, List, sym, refl, ap, ◌∙◌, arith, eq-eqb, ne_eqb, eqb-true}
 use mathlib.Core.Bool.{false≢true}
 use mathlib.Core.Option.{Option, none, some}
 use Rattle.meaning.specs.Answer.{missing, highest}
@@ -7,7 +7,7 @@ use Rattle.meaning.specs.declared.question.Question.{Question}
 use Rattle.cells.specs.declared.Answered.{Answered}
 use Rattle.cells.specs.declared.Answered.TheVariants.{Missing, Highest}
 use Rattle.cells.specs.Bytes.{pair, pair_at}
-use Rattle.cells.specs.Cell.{Key, key_of, Cell, between, key_allowed, key_bytes, key_as_number, cell_bytes}
+use Rattle.cells.specs.Cell.{Key, key_of, Cell, key_allowed, key_bytes, key_as_number, cell_bytes}
 use Rattle.cells.specs.Asking.{key_asked, Query, the_cell, highest_record, highest_entry, unused, query_of, query_allowed, question_allowed, lookup, found, highest_of, of_parameter, of_record, query_answer, answer, string_start, meant}
 use Rattle.cells.specs.Inner.Tests.{unused_zero}
 use Rattle.cells.specs.Inner.Index as I

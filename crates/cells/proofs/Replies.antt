@@ -1,8 +1,8 @@
 -- What `ask` hands back, from the index that was built.
-use Rattle.std.proofs.Common.{◌≡◌, ℕ, ◌+◌, ◌-◌, ◌*◌, ◌<◌, ◌≤◌, Bool, true, false, cond, not, List, [], ◌∷◌, ◌++◌, length, get_or, take, drop, sym, refl, ap, ◌∙◌, ap₂, arith, length-append, length-drop, drop_of_length-le, length-take-le, take_all}
+use Rattle.std.proofs.Common.{◌≡◌, ℕ, ◌+◌, ◌*◌, ◌≤◌, Bool, true, false, cond, List, [], ◌∷◌, ◌++◌, length, get_or, drop, sym, refl, ap, ◌∙◌, ap₂, arith, length-append, length-drop, length-take-le}
 use mathlib.Core.Option.{Option, none, some}
 use lib.ListN.{get_or-append}
-use lib.Seq.{sets, sets-eq, take-nil}
+use lib.Seq.{sets, sets-eq}
 use Rattle.meaning.specs.Answer.{missing}
 use Rattle.meaning.specs.declared.question.Question.{Question}
 use Rattle.meaning.specs.declared.refusal.Refusal.TheVariants as R

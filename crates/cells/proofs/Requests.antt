@@ -1,5 +1,5 @@
 -- What an edit is handed: the tests of the code, and the definitions.
-use Rattle.std.proofs.Common.{◌≡◌, ℕ, ◌+◌, ◌<◌, ◌≤◌, Bool, true, false, cond, not, ◌&&◌, eqb, List, [], ◌++◌, length, sym, refl, ap, ◌∙◌, subst, append-nil, arith, drop_of_length-le, eq-eqb, eqb-true}
+use Rattle.std.proofs.Common.{◌≡◌, ℕ, ◌+◌, ◌<◌, ◌≤◌, Bool, true, false, cond, ◌&&◌, eqb, List, [], ◌++◌, length, sym, refl, ap, ◌∙◌, subst, append-nil, arith, drop_of_length-le, eq-eqb, eqb-true}
 use mathlib.Core.Bool.{false≢true}
 use mathlib.Core.Option.{Option, none, some}
 use Rattle.cells.specs.declared.request.Request.TheVariants as R

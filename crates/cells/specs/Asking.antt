@@ -1,5 +1,5 @@
 -- "A question has a kind and four numbers."
-use Rattle.std.specs.Prelude.{ℕ, ◌+◌, max, Bool, true, false, cond, ◌&&◌, List, [], ◌∷◌, length, take, drop, ◌==◌}
+use Rattle.std.specs.Prelude.{ℕ, ◌+◌, max, Bool, false, cond, ◌&&◌, List, [], ◌∷◌, length, take, drop, ◌==◌}
 use Rattle.std.proofs.Math.Option.{Option, none, some}
 use Rattle.numbers.specs.declared.Quantity.TheVariants as Q
 use Rattle.meaning.specs.Answer as A

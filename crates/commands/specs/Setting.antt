@@ -1,5 +1,5 @@
 -- $SETE, $SETA, $SETS, $SETM, $SETD.
-use Rattle.std.specs.Prelude.{List, ℕ, zero, ℤ, pos, take}
+use Rattle.std.specs.Prelude.{List, ℕ, ℤ, pos, take}
 use Rattle.meaning.specs.Meaning.{Meaning}
 use Rattle.numbers.specs.Range.{integer_limit, decimal_limit}
 use Rattle.numbers.specs.Result.{Result, success}

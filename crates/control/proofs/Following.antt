@@ -9,7 +9,7 @@ use borrow.Author.Tests.{le-leb, lt-leb, leb-false}
 use lib.Dec.{leb}
 use lib.IntN.{ℤ, pos, negsuc}
 use lib.Signed.{lt_z}
-use lib.ListN.{length, set, drop_of_length-le}
+use lib.ListN.{length, drop_of_length-le}
 use Rattle.values.specs.Inner.Registers.{Puts}
 use Rattle.values.specs.Machine.{set_numbered}
 use Rattle.buffers.proofs.Laws.{map_set}

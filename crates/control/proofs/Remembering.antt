@@ -10,7 +10,7 @@ use Rattle.template.specs.declared.seek.Sought.TheVariants.{Branch, TestEnd, Tab
 use Rattle.template.specs.declared.seek.Skip.{Skip}
 use Rattle.template.specs.Seek.{skipped}
 use Rattle.template.proofs.Reach.{found_inside, part_skip}
-use Rattle.values.specs.Inner.State.{bank, jumps_in}
+use Rattle.values.specs.Inner.State.{jumps_in}
 use Rattle.values.specs.Inner.Registers.{Puts}
 use Rattle.values.proofs.Lists.{bank_in}
 use Rattle.values.proofs.Puts.{puts_in}

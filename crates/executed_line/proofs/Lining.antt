@@ -16,7 +16,6 @@ use Rattle.lines.specs.Readers.Command.{parse_line}
 use Rattle.template.specs.Shape.{shape_in, shape_of}
 use Rattle.template.proofs.Opening.{checks_short, opens_line}
 use Rattle.values.specs.declared.scene.Scene.{Scene}
-use Rattle.values.specs.declared.fetch.Along.TheVariants.{Records, Entries}
 use Rattle.values.specs.Inner.State.{tables_in, headings_in, Held}
 use Rattle.commands.specs.Inner.Open.{opened}
 use Rattle.commands.proofs.Tabling.{opened_length}

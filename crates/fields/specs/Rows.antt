@@ -1,6 +1,6 @@
 -- Fields at their limits: antt computes each. The rows of document 01 that are marked * stand in report/specs/Rows, as
 -- whole templates.
-use Rattle.std.specs.Prelude.{◌≡◌, refl, List, [], ◌∷◌, map, ℕ, ℤ, pos, negsuc}
+use Rattle.std.specs.Prelude.{◌≡◌, refl, List, [], ◌∷◌, map, ℕ, pos, negsuc}
 use Rattle.std.proofs.Math.Option.{Option, none, some}
 use Rattle.meaning.specs.Answer.{integer, decimal, string}
 use Rattle.numbers.specs.Range.{within}

@@ -15,7 +15,7 @@ use Rattle.meaning.specs.declared.end.Ended.TheVariants.{Finished, Halted}
 use Rattle.meaning.specs.declared.refusal.Refusal.{Refusal}
 use Rattle.meaning.specs.declared.refusal.Refusal.TheVariants.{BadStore, BadRequest, StoreFull, NoCell}
 use Rattle.cells.specs.Bytes.{equal_bytes}
-use Rattle.cells.specs.Cell.{Key, Cell, key_as_number, cell_allowed, key_allowed, cell_bytes, key_bytes, key_at, cell_of, whole_cell, whole_key}
+use Rattle.cells.specs.Cell.{Key, Cell, key_as_number, cell_allowed, key_allowed, key_bytes, key_at, cell_of, whole_cell, whole_key}
 use Rattle.cells.specs.Store.{capacity, encode, cells, cells_held}
 use Rattle.cells.specs.Asking.{lookup}
 use Rattle.cells.proofs.CellForm.{passing_some}

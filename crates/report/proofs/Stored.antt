@@ -8,7 +8,7 @@ use borrow.Author.Tests.{le-leb}
 use lib.ListN.{length, take}
 use lib.Seq.{take_all, length-take-le, get_or-take}
 use Rattle.cells.specs.Cell.{Cell}
-use Rattle.cells.specs.Store.{cells_held, cells}
+use Rattle.cells.specs.Store.{cells_held}
 use Rattle.cells.specs.Asking.{replied, ask_of}
 use Rattle.cells.specs.Inner.Index as I
 use Rattle.cells.specs.declared.index.Indexed.{Indexed}

@@ -11,7 +11,7 @@ use lib.ListN.{length, take, drop, replicate, length-take, length-drop}
 use lib.Seq.{length-take-le}
 use Rattle.meaning.specs.Answer.{Answer}
 use Rattle.meaning.specs.Tree.{done, stop, bind, End, finished}
-use Rattle.meaning.specs.Inner.Place.{Place, at, Does, from}
+use Rattle.meaning.specs.Inner.Place.{Place, at, Does}
 use Rattle.meaning.specs.Rule.{page_limit}
 use Rattle.meaning.specs.Number.{end_of}
 use Rattle.meaning.specs.Meaning.{Meaning}

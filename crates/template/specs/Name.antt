@@ -1,5 +1,5 @@
 -- The names of sections.
-use Rattle.std.specs.Prelude.{Bool, cond, ◌&&◌, List, [], ◌∷◌, ℕ, eqb, length}
+use Rattle.std.specs.Prelude.{Bool, cond, ◌&&◌, List, [], ℕ, eqb, length}
 use Rattle.scan.specs.Ascii.{ascii}
 use Rattle.scan.specs.Line.{window}
 use Rattle.scan.specs.Words.{begins}

@@ -32,7 +32,7 @@ use Rattle.values.specs.declared.working.Literal.{Literal}
 use Rattle.values.specs.declared.working.Literal.TheVariants as L
 use Rattle.values.specs.declared.working.Inputs.{Inputs}
 use Rattle.values.specs.declared.working.Inputs.TheVariants.{None, One, Two}
-use Rattle.values.specs.Worth.{Worth, missing}
+use Rattle.values.specs.Worth.{missing}
 use Rattle.values.specs.Meanings.{argument_meaning}
 use Rattle.values.specs.Inner.Yielding.{meant, ArgumentValue}
 use Rattle.values.specs.Inner.Working.{worths, inputs_meaning, Literally, LiteralOf, first_parameter, second_parameter, Workable, WorksOut}

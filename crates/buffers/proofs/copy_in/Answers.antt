@@ -1,7 +1,7 @@
 -- The loop keeps: the buffer is the first one with the first j bytes stored.
 use mathlib.Core.Path.{refl}
 use native.Mathlib.Omega.{arith}
-use Prim.Native.Nat.{◌-◌, zero-le}
+use Prim.Native.Nat.{zero-le}
 use lib.ListN.{length-set}
 use Rattle.buffers.proofs.Laws.{copied_more, copied_all}
 use Rattle.buffers.proofs.copy_in.Goals as goal

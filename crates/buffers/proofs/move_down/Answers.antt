@@ -1,7 +1,7 @@
 -- The loop keeps: the buffer is the first one with the first j bytes of the part stored at `to`.
 use mathlib.Core.Path.{refl}
 use native.Mathlib.Omega.{arith}
-use Prim.Native.Nat.{◌-◌, zero-le}
+use Prim.Native.Nat.{zero-le}
 use lib.ListN.{length-set}
 use Rattle.buffers.proofs.Laws.{moved_down, down_end}
 use Rattle.buffers.proofs.move_down.Goals as goal

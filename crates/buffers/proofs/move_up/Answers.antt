@@ -1,7 +1,6 @@
 -- The loop keeps: the buffer is the first one with the part's bytes from j on stored at `to + j`.
 use mathlib.Core.Path.{refl}
 use native.Mathlib.Omega.{arith}
-use Prim.Native.Nat.{◌-◌}
 use lib.ListN.{length-set}
 use Rattle.buffers.proofs.Laws.{up_start, up_step, up_end}
 use Rattle.buffers.proofs.move_up.Goals as goal

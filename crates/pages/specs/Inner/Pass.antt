@@ -29,7 +29,6 @@ use Rattle.values.specs.Inner.Yielding.{ArgumentValue}
 use Rattle.values.specs.declared.worth.Valued.{Valued}
 use Rattle.values.specs.declared.worth.Worth as C
 use Rattle.values.specs.declared.worth.Worth.TheVariants as W
-use Rattle.values.specs.Worth.{Worth}
 use Rattle.values.specs.Meanings.{argument_meaning}
 use Rattle.pages.specs.declared.text.FieldValue.{FieldValue}
 use Rattle.pages.specs.declared.text.FieldValue.TheVariants.{ValueOf}

@@ -1,6 +1,5 @@
 -- The arguments of a line, worked out before its command.
 use Rattle.std.specs.Prelude.{◌≡◌, List, ℕ, ◌+◌, ◌≤◌, length}
-use Rattle.numbers.specs.declared.Quantity.{Quantity}
 use Rattle.meaning.specs.Tree.{done, bind}
 use Rattle.meaning.specs.Meaning.{Meaning}
 use Rattle.meaning.specs.Number.{end_of}

@@ -1,4 +1,3 @@
-use Rattle.std.proofs.Common.{◌-◌}
 use Rattle.cells.proofs.Halving.{Halved}
 use Rattle.cells.proofs.find.position.Given as goal
 

@@ -1,5 +1,5 @@
 -- The loop keeps: what is left of the bytes is within the limits just when all of them are.
-use Rattle.std.proofs.Common.{◌-◌, sym, refl, ◌∙◌}
+use Rattle.std.proofs.Common.{sym, refl, ◌∙◌}
 use Rattle.cells.proofs.Laws.{between_low, between_high, between_in, each_stop, each_more, each_end}
 use Rattle.cells.proofs.form.all_between.Goals as goal
 

@@ -1,5 +1,5 @@
 -- The loop keeps what `Walked` says: the bytes passed are those of cells in form, whose places are written down.
-use Rattle.std.proofs.Common.{◌-◌, arith}
+use Rattle.std.proofs.Common.{arith}
 use Rattle.cells.proofs.Walking.{walk_start, walk_end, walk_no_cell, walk_low_key, walk_more}
 use Rattle.cells.proofs.index.walk.Goals as goal
 

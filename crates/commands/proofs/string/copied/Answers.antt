@@ -1,6 +1,5 @@
 -- The loop keeps: the first j bytes are in the row.
 use Rattle.commands.proofs.Copying.{copy_start, copy_next, copy_short, copy_full}
-use Prim.Native.Nat.{◌-◌}
 use Rattle.commands.proofs.string.copied.Goals as goal
 
 pub loop-j-init : goal.loop-j-init

@@ -1,8 +1,7 @@
 use mathlib.Core.Path.{refl}
 use native.Mathlib.Omega.{arith}
-use Prim.Native.Nat.{◌-◌, zero-le}
+use Prim.Native.Nat.{zero-le}
 use lib.ListN.{length-set}
-use Rattle.values.specs.Letters.{upper}
 use Rattle.pages.proofs.Shows.{raise_more, raise_all}
 use Rattle.pages.proofs.field.raise.Goals as goal
 

@@ -3,7 +3,6 @@ use Rattle.pages.proofs.Heads.{nine_headings}
 use Rattle.pages.proofs.Stepping.{lines_begin, line_row, line_ready, line_same, line_over, line_next, lines_said}
 use Rattle.pages.specs.Inner.Packed.{headings_of}
 use Rattle.values.specs.Inner.State.{headings_in}
-use Prim.Native.Nat.{◌-◌}
 use native.Mathlib.Omega.{arith}
 use Rattle.pages.proofs.step.say_lines.Goals as goal
 

@@ -1,6 +1,5 @@
 use mathlib.Core.Path.{sym, ◌∙◌}
 use Rattle.pages.proofs.Making.{begins, refused, onward, run_small, run_onward, run, field_room, field_small, field_ready, field, over, makes}
-use Prim.Native.Nat.{◌-◌}
 use native.Mathlib.Omega.{arith}
 use Rattle.pages.proofs.text.make.Goals as goal
 

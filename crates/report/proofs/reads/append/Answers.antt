@@ -1,10 +1,9 @@
 use mathlib.Core.Path.{◌≡◌, sym, subst}
 use native.Mathlib.Omega.{arith}
 use borrow.Author.Rules.{rules}
-use Rattle.values.specs.Inner.Word.{unpacked}
 use Rattle.meaning.specs.declared.question.Question.{Question}
-use Prim.Native.Nat.{◌+◌, ◌<◌}
-use lib.ListN.{length, set, get_or}
+use Prim.Native.Nat.{◌+◌}
+use lib.ListN.{length, set}
 use Rattle.report.proofs.Appending.{Added, none, more, all}
 use Rattle.report.proofs.reads.append.Goals as goal
 

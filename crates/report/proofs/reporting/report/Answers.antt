@@ -1,7 +1,6 @@
 -- The loop keeps `Reached`, and `left_of` falls.
-use mathlib.Core.Path.{◌≡◌, sym, subst}
+use mathlib.Core.Path.{sym, subst}
 use mathlib.Core.List.{List}
-use Prim.Native.Nat.{ℕ}
 use Rattle.meaning.specs.declared.question.Question.{Question}
 use Rattle.report.proofs.Driving.{Reached, begins, log_fits, falls, goes_on}
 use Rattle.report.proofs.reporting.report.Goals as goal

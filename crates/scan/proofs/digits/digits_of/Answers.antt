@@ -1,7 +1,6 @@
 -- The loop keeps: the value so far with the digits of the rest is the value of the whole; it is below 10 to the count.
 use mathlib.Core.Path.{refl, sym, ◌∙◌}
 use native.Mathlib.Omega.{arith}
-use Prim.Native.Nat.{◌-◌}
 use Rattle.scan.specs.declared.run.Class.TheVariants.{Digit}
 use Rattle.scan.proofs.RunLaws.{counted_end, counted_stop, counted_more}
 use Rattle.scan.proofs.DigitLaws.{digit_bounds, value_end, value_stop, value_more, bound_more, bound_ten}

@@ -1,6 +1,5 @@
 -- The loop keeps: the bytes passed and the run of the rest are the run of the whole.
 use mathlib.Core.Path.{sym, ◌∙◌}
-use Prim.Native.Nat.{◌-◌}
 use Rattle.scan.proofs.RunLaws.{counted_end, counted_stop, counted_more}
 use Rattle.scan.proofs.run.count.Goals as goal
 

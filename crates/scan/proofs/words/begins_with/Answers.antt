@@ -1,6 +1,5 @@
 -- The loop keeps: the rest of the line begins with the rest of the word where the line has the word.
 use mathlib.Core.Path.{refl, sym, ◌∙◌}
-use Prim.Native.Nat.{◌-◌}
 use Rattle.scan.specs.Words.{stands_at}
 use Rattle.scan.proofs.WordLaws.{begins_end, begins_short, begins_other, begins_same}
 use Rattle.scan.proofs.words.begins_with.Goals as goal

@@ -1,6 +1,5 @@
 -- The loop keeps: the rest of the line begins with the rest of the row's word where the line has the word.
 use mathlib.Core.Path.{refl}
-use Prim.Native.Nat.{◌-◌}
 use Rattle.scan.specs.Words.{stands_at}
 use Rattle.scan.proofs.WordLaws.{row_end, row_stop, row_short, row_other, row_same}
 use Rattle.scan.proofs.words.row_stands.Goals as goal

@@ -1,7 +1,6 @@
 -- The loop keeps: the words from the k-th on give what the whole table gives.
 use mathlib.Core.Path.{sym, ap, ◌∙◌}
 use native.Mathlib.Omega.{arith}
-use Prim.Native.Nat.{◌-◌}
 use lib.ListN.{length}
 use Rattle.scan.specs.Inner.Tables.{word_at}
 use Rattle.scan.proofs.WordLaws.{word_within, row_word, word_none, word_found, word_next, word_start}

@@ -1,6 +1,6 @@
 -- The loop keeps both verdicts: the lines from its place on, counted on, give what the whole template gives in 3 and in 4.
 use mathlib.Core.Path.{refl, sym, ap, ◌∙◌}
-use Prim.Native.Nat.{◌-◌, zero-le}
+use Prim.Native.Nat.{zero-le}
 use native.Mathlib.Omega.{arith}
 use Rattle.template.specs.Shape.{is_formed}
 use Rattle.template.specs.Checks.{form_check}

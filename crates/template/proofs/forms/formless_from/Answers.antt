@@ -1,6 +1,5 @@
 -- The loop keeps: the lines from its place on, counted on, give what the lines from the start do.
 use mathlib.Core.Path.{refl, sym, ap, ◌∙◌}
-use Prim.Native.Nat.{◌-◌}
 use native.Mathlib.Omega.{arith}
 use Rattle.template.specs.Shape.{is_formed}
 use Rattle.template.proofs.LineLaws.{part_line}

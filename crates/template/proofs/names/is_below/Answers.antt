@@ -1,6 +1,5 @@
 -- The loop keeps: the bytes from its place on are in the order of the whole.
 use mathlib.Core.Path.{refl}
-use Prim.Native.Nat.{◌-◌}
 use Rattle.template.proofs.SectionNames.{below_end, below_short, below_line_end, below_here, below_more}
 use Rattle.template.proofs.names.is_below.Goals as goal
 

@@ -1,6 +1,6 @@
 -- The loop keeps: the lines from its place on, counted on, give what the whole template gives, and the names before stand in the row.
 use mathlib.Core.Path.{refl, sym}
-use Prim.Native.Nat.{ℕ, ◌-◌, zero-le}
+use Prim.Native.Nat.{ℕ, zero-le}
 use native.Mathlib.Omega.{arith}
 use lib.ListN.{length-replicate}
 use Rattle.template.specs.Checks.{name_step, name_end, name_check}

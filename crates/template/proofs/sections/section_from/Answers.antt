@@ -1,6 +1,5 @@
 -- The loop keeps: the search from its place on finds what the search from the start finds.
 use mathlib.Core.Path.{refl}
-use Prim.Native.Nat.{◌-◌}
 use native.Mathlib.Omega.{arith}
 use Rattle.template.specs.Inner.Within.{Within}
 use Rattle.template.proofs.LineLaws.{part_line}

@@ -1,6 +1,6 @@
 -- The loop keeps: the lines from its place on, with what is open inside, give what the whole part gives.
 use mathlib.Core.Path.{refl, sym, ◌∙◌}
-use Prim.Native.Nat.{◌-◌, zero-le}
+use Prim.Native.Nat.{zero-le}
 use native.Mathlib.Omega.{arith}
 use Rattle.template.proofs.LineLaws.{part_line}
 use Rattle.template.proofs.SeekLaws.{past_bound, skip_end, skip_here, skip_on}

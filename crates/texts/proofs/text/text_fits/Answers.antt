@@ -1,6 +1,5 @@
 -- The loop keeps: the rest of the text from here on fits behind what was measured where the whole does.
 use mathlib.Core.Path.{refl, sym, ◌∙◌}
-use Prim.Native.Nat.{◌-◌}
 use native.Mathlib.Omega.{arith}
 use Rattle.texts.specs.Readers.Text.{text_fits}
 use Rattle.texts.proofs.PieceLaws.{piece_ends}

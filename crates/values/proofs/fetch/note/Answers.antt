@@ -1,6 +1,5 @@
 -- The loop keeps: the first k words are in the log.
 use Rattle.values.proofs.Fetches.{noted_start, noted_next, noted_end}
-use Prim.Native.Nat.{◌-◌}
 use Rattle.values.proofs.fetch.note.Goals as goal
 
 pub loop-k-init : goal.loop-k-init

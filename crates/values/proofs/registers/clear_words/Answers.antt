@@ -1,7 +1,6 @@
 -- The loop keeps: what lies before j is 0.
 use Rattle.values.proofs.Clearing.{clear_start, clear_next, clear_end}
 use mathlib.Core.Path.{refl}
-use Prim.Native.Nat.{◌-◌}
 use native.Mathlib.Omega.{arith}
 use Rattle.values.proofs.registers.clear_words.Goals as goal
 

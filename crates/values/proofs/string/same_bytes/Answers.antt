@@ -1,7 +1,5 @@
 -- The loop keeps: what is left is alike where the whole is.
 use Rattle.values.proofs.Texts.{compare_start, compare_end, compare_short, compare_differs, compare_next}
-use Rattle.values.specs.Letters.{letter}
-use Prim.Native.Nat.{◌-◌}
 use Rattle.values.proofs.string.same_bytes.Goals as goal
 
 pub loop-i-init : goal.loop-i-init
