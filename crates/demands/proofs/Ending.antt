@@ -21,7 +21,7 @@ use Rattle.template.specs.declared.Extent.{Extent}
 use Rattle.template.specs.declared.Checked.TheVariants.{Accepted}
 use Rattle.template.specs.Order.{template_checked}
 use Rattle.meaning.specs.Answer.{Answer}
-use Rattle.meaning.specs.Event.{Event, line, break, breaks}
+use Rattle.meaning.specs.Event.{Event, break, breaks}
 use Rattle.meaning.specs.Tree.{done, stop, bind, Cause, refused, cut, End, finished, halted, Run, run}
 use Rattle.meaning.specs.Rule.{Keeps}
 use Rattle.meaning.specs.Meaning.{Meaning}

@@ -13,7 +13,7 @@ use Rattle.arguments.specs.declared.argument.Argument.{Argument}
 use Rattle.lines.specs.declared.command.Line.{Line}
 use Rattle.lines.specs.declared.command.Line.TheVariants as form
 use Rattle.lines.specs.Readers.Command.{parse_line}
-use Rattle.nesting.specs.declared.Shape.TheVariants.{Test, Else}
+use Rattle.nesting.specs.declared.Shape.TheVariants.{Test}
 use Rattle.nesting.specs.Nest.{Mark}
 use Rattle.template.specs.declared.Extent.{Extent}
 use Rattle.template.specs.declared.Checked.TheVariants.{Accepted}

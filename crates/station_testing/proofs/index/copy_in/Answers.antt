@@ -2,7 +2,7 @@
 use mathlib.Core.Path.{refl}
 use native.Mathlib.Nat.{zero-add}
 use native.Mathlib.Omega.{arith}
-use Prim.Native.Nat.{◌-◌, zero-le}
+use Prim.Native.Nat.{zero-le}
 use lib.ListN.{length-set}
 use Rattle.buffers.proofs.Laws.{copied_more, copied_all}
 use Rattle.station_testing.proofs.index.copy_in.Goals as goal
