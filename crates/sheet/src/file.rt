@@ -13,11 +13,30 @@ pub struct Read {
     pub bytes: usize,
 }
 
+// The system's words for an error, without the number that std writes behind them.
+fn words(text: &str) -> &str {
+    match text.split_once(" (os error ") {
+        Some((words, _)) => words,
+        None => text,
+    }
+}
+
+// Where memory runs out the number stands.
+fn say<R: Eprint + AllocGlobal>(rt: &R, what: &str, why: io::Error) -> io::Result<()> {
+    match format!(in rt.alloc(); "{why}") {
+        Ok(text) => {
+            let message = words(&text);
+            eprintln!(rt; "{what}: {message}")
+        }
+        Err(_) => eprintln!(rt; "{what}: {why}"),
+    }
+}
+
 // Nothing more can be done where the message can't be written either.
-fn failed<R: Eprint>(rt: &R, what: &str, why: io::Error) -> Read
+fn failed<R: Eprint + AllocGlobal>(rt: &R, what: &str, why: io::Error) -> Read
     ensures { result.bytes ≡ 0 }
 {
-    let _ = eprintln!(rt; "{what}: {why}");
+    let _ = say(rt, what, why);
     Read {
         whole: false,
         bytes: 0,
@@ -40,7 +59,12 @@ fn fill<F: io::Read>(from: &mut F, buf: &mut [u8]) -> io::Result<usize>
 }
 
 // What an open file holds, up to the buffer's end.
-fn contents<R: Files + Eprint>(rt: &R, file: R::File, path: &str, buf: &mut [u8]) -> Read
+fn contents<R: Files + Eprint + AllocGlobal>(
+    rt: &R,
+    file: R::File,
+    path: &str,
+    buf: &mut [u8],
+) -> Read
     ensures { IsPrefixLen result.bytes buf.new }
 {
     let mut file = file;
@@ -54,7 +78,7 @@ fn contents<R: Files + Eprint>(rt: &R, file: R::File, path: &str, buf: &mut [u8]
 }
 
 // A file, up to the buffer's end.
-pub fn load<R: Files + Eprint>(rt: &R, path: &str, buf: &mut [u8]) -> Read
+pub fn load<R: Files + Eprint + AllocGlobal>(rt: &R, path: &str, buf: &mut [u8]) -> Read
     ensures { IsPrefixLen result.bytes buf.new }
 {
     match fs::open(rt, path) {
@@ -91,7 +115,7 @@ fn line<F: io::Read>(from: &mut F, buf: &mut [u8]) -> io::Result<usize>
 }
 
 // The section's name, "up to 0x0A or its end".
-pub fn name<R: Input + Eprint>(rt: &R, buf: &mut [u8]) -> Read
+pub fn name<R: Input + Eprint + AllocGlobal>(rt: &R, buf: &mut [u8]) -> Read
     ensures { IsPrefixLen result.bytes buf.new }
 {
     let mut input = rt.reader();

@@ -10,7 +10,7 @@ unfoldable pub or_no_pieces : Option (List Piece) → List Piece
 or_no_pieces (some ps) = ps
 or_no_pieces none = []
 
--- of the line l, whose text starts at `from`: those that it spells (grammar/proofs/There:pieces-are, text_pieces_law, heading_pieces)
+-- of the line l, whose text starts at `from`: those that it spells (grammar/proofs/There:pieces_are, text_pieces_law, heading_pieces)
 unfoldable pub pieces_of : List ℕ → ℕ → List Piece
 pieces_of l from = or_no_pieces (text_pieces l from)
 
