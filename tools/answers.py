@@ -58,10 +58,6 @@ class Names:
             place = self.parent.get(place)
         return out
 
-    def depth(self, place):
-        # arms join two places into one: In-X-1 and In-X have the same record
-        return self.chain(place)
-
     def need(self, old):
         n = norm(old)
         for k in (n, re.sub(r"^(overflow|nonzero)-", "", n), re.sub(r"^(shared-|mut-)?slice-bounds-", "slice-aggregate-", n)):
@@ -134,7 +130,6 @@ def turn_paths(body, roots, names, helpers, said):
             for line in re.findall(r"^let (\S+) : ", body_of):
                 said.append(f"{h}: a let in it")
     if lets:
-        start = "\n    " if not body.startswith("\n") else "\n    "
         inner = body.strip()
         body = "".join(f"\n    let {h} : {g} = {b} in" for h, g, b in lets) + "\n    " + inner
 
@@ -152,14 +147,6 @@ def turn_paths(body, roots, names, helpers, said):
     body = PATH.sub(path, body).replace("␟", "")
     # what an `if !x` says is now said of x itself
     return re.sub(r"\bnot-(?:true|false) (?:_|\((?:[^()]|\([^()]*\))*\)|[^\s()]+) (?=\w+(?:\.[^\s(){},;.]+)*\.if-not-)", "", body)
-
-
-def names_between(names, place, target):
-    n, p = 0, place
-    while p != target:
-        n += 1
-        p = names.parent[p]
-    return n
 
 
 def imports_of(text):
