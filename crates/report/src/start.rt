@@ -1,5 +1,5 @@
 // The checks, and what the first stretch of a run starts from.
-ghost use Rattle.std.specs.Prelude.{◌≡◌, ◌≤◌, length};
+ghost use Rattle.std.specs.Prelude.{◌≡◌, ◌≤◌, length, replicate};
 ghost use Rattle.report.specs.Inner.Start.{no_log, start_flow, start_saved, nothing_saved, refused_at, started_at};
 ghost use Rattle.report.specs.Inner.Begun.{Begun};
 
@@ -23,9 +23,9 @@ fn no_log() -> Log
     }
 }
 
-// The rows of SV1 to SV99.
+// The rows of SV1 to SV99, no byte of which is set.
 pub fn no_strings() -> [[u8; 16]; 99]
-    ensures { length result ≡ 99 }
+    ensures { result ≡ replicate 99 (replicate 16 0) }
 {
     [[0; 16]; 99]
 }
