@@ -7,8 +7,7 @@ use std::fs;
 use std::path::{Path, PathBuf};
 
 /// Names that stand in several files and mean the same in each, with the crates that have them.
-const SAME: [(&str, &[&str]); 8] = [
-    ("Places", &["fields", "texts"]),    // the d of a field
+const SAME: [(&str, &[&str]); 7] = [
     ("Worth", &["values"]), // the definition, and the type of the code that stands for it
     ("begins", &["cells", "scan"]), // a list of bytes begins with another
     ("missing", &["meaning", "values"]), // of an answer, and of what an argument is worth

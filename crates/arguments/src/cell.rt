@@ -4,41 +4,31 @@ ghost use Rattle.std.specs.Prelude.{◌≡◌};
 ghost use Rattle.arguments.specs.Inner.CellArgument.{record_at, ReadsCell};
 
 use crate::index;
-use crate::index::{Index, IndexRead};
-use scan::digits::Numeral;
+use crate::index::Index;
 use scan::{bytes, digits};
 
-// The parameter, the record's index and the place behind it, where the comma of a field stands; or that something else is there.
-#[derive(Clone, Copy)]
-pub enum CellRead {
-    CellTo(usize, Index, usize),
-    Other,
-}
-
 // What stands behind a cell's parameter: "absent parts 0".
-fn record_at(line: &[u8], at: usize) -> IndexRead
+#[tactic(auto, unfolding(crate::specs::Inner::CellArgument::record_at))]
+fn record_at(line: &[u8], at: usize) -> Option<(Index, usize)>
     ensures { result ≡ record_at line.now at }
 {
     if bytes::byte(line, at) == b'.' {
         return index::index_at(line, at + 1);
     }
-    IndexRead::IndexTo(Index::Fixed(0), at)
+    Some((Index::Fixed(0), at))
 }
 
-pub fn cell_at(line: &[u8], at: usize) -> CellRead
+#[tactic(auto, using(crate::proofs::CellLaws::other_reads))]
+pub fn cell_at(line: &[u8], at: usize) -> Option<(usize, Index, usize)>
     ensures { ReadsCell line.now at result }
 {
     if bytes::byte(line, at) != b'P' {
-        return CellRead::Other;
+        return None;
     }
-    let Numeral::Value(n, next) = digits::number_at(line, at + 1, 65_535) else {
-        return CellRead::Other;
-    };
-    let IndexRead::IndexTo(r, end) = record_at(line, next) else {
-        return CellRead::Other;
-    };
+    let (n, next) = digits::number_at(line, at + 1, 65_535)?;
+    let (r, end) = record_at(line, next)?;
     if bytes::byte(line, end) != b',' {
-        return CellRead::Other;
+        return None;
     }
-    CellRead::CellTo(n, r, end)
+    Some((n, r, end))
 }

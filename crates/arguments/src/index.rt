@@ -2,7 +2,6 @@
 ghost use Rattle.std.specs.Prelude.{◌≡◌};
 ghost use Rattle.arguments.specs.Readers.Index.{index_at};
 
-use scan::digits::Numeral;
 use scan::{digits, words};
 
 #[derive(Clone, Copy)]
@@ -15,29 +14,21 @@ pub enum Index {
     Loop,
 }
 
-// An index, and the place behind it.
-#[derive(Clone, Copy)]
-pub enum IndexRead {
-    IndexTo(Index, usize),
-    NoIndex,
-}
-
 // "An index .. is 1–3 digits, IVn or LOOP"
-pub fn index_at(line: &[u8], at: usize) -> IndexRead
+#[tactic(auto, unfolding(crate::specs::Readers::Index::index_at, crate::specs::Readers::Index::variable_index))]
+pub fn index_at(line: &[u8], at: usize) -> Option<(Index, usize)>
     ensures { result ≡ index_at line.now at }
 {
     let digits = digits::digits_at(line, at, 3);
-    if digits.count == 0 {
-        if words::begins_with(line, at, b"LOOP") {
-            return IndexRead::IndexTo(Index::Loop, at + 4);
-        }
-        if words::begins_with(line, at, b"IV") {
-            let Numeral::Value(n, next) = digits::number_at(line, at + 2, 99) else {
-                return IndexRead::NoIndex;
-            };
-            return IndexRead::IndexTo(Index::Variable(n), next);
-        }
-        return IndexRead::NoIndex;
+    if digits.count > 0 {
+        return Some((Index::Fixed(digits.value), at + digits.count));
     }
-    IndexRead::IndexTo(Index::Fixed(digits.value), at + digits.count)
+    if words::begins_with(line, at, b"LOOP") {
+        return Some((Index::Loop, at + 4));
+    }
+    if words::begins_with(line, at, b"IV") {
+        let (n, next) = digits::number_at(line, at + 2, 99)?;
+        return Some((Index::Variable(n), next));
+    }
+    None
 }

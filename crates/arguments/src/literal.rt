@@ -6,13 +6,6 @@ ghost use Rattle.arguments.specs.Readers.Literal.{literal_at, unsigned_at, fract
 use numbers::Quantity;
 use scan::{bytes, digits};
 
-// A number, and the place behind it.
-#[derive(Clone, Copy)]
-pub enum LiteralRead {
-    LiteralTo(Quantity, usize),
-    NoLiteral,
-}
-
 const INTEGER_LIMIT: usize = 2_000_000_000;
 
 const DECIMAL_LIMIT: usize = 2_000_000_000_000_000;
@@ -29,30 +22,32 @@ fn with_sign(negative: bool, magnitude: usize) -> i64
 }
 
 // The digits behind a decimal's point, with what stands before it.
-fn fraction_at(line: &[u8], at: usize, negative: bool, whole: usize) -> LiteralRead
+#[tactic(auto, using(crate::proofs::SignLaws::read_back, crate::proofs::ScaleLaws::scale_power), unfolding(crate::specs::Readers::Literal::fraction_at, crate::specs::Readers::Literal::in_millionths))]
+fn fraction_at(line: &[u8], at: usize, negative: bool, whole: usize) -> Option<(Quantity, usize)>
     requires { whole < 10000000000 }
     ensures { result ≡ fraction_at line.now at negative whole }
 {
     let fraction = digits::digits_at(line, at, 6);
     if fraction.count == 0 {
-        return LiteralRead::NoLiteral;
+        return None;
     }
     let scale = numbers::places::scale(6 - fraction.count) as usize;
     let magnitude = whole * 1_000_000 + fraction.value * scale;
     if DECIMAL_LIMIT < magnitude {
-        return LiteralRead::NoLiteral;
+        return None;
     }
     let millionths = with_sign(negative, magnitude);
-    LiteralRead::LiteralTo(Quantity::Decimal(millionths), at + fraction.count)
+    Some((Quantity::Decimal(millionths), at + fraction.count))
 }
 
 // A number without its sign.
-fn unsigned_at(line: &[u8], at: usize, negative: bool) -> LiteralRead
+#[tactic(auto, using(crate::proofs::SignLaws::read_back), unfolding(crate::specs::Readers::Literal::unsigned_at))]
+fn unsigned_at(line: &[u8], at: usize, negative: bool) -> Option<(Quantity, usize)>
     ensures { result ≡ unsigned_at line.now at negative }
 {
     let whole = digits::digits_at(line, at, 10);
     if whole.count == 0 {
-        return LiteralRead::NoLiteral;
+        return None;
     }
     let end = at + whole.count;
     let behind = bytes::byte(line, end);
@@ -60,14 +55,15 @@ fn unsigned_at(line: &[u8], at: usize, negative: bool) -> LiteralRead
         return fraction_at(line, end + 1, negative, whole.value);
     }
     if INTEGER_LIMIT < whole.value {
-        return LiteralRead::NoLiteral;
+        return None;
     }
     let value = with_sign(negative, whole.value);
-    LiteralRead::LiteralTo(Quantity::Integer(value), end)
+    Some((Quantity::Integer(value), end))
 }
 
 // "an integer (optional `-`, 1–10 digits); a decimal (the same, a point, 1–6 digits)"
-pub fn literal_at(line: &[u8], at: usize) -> LiteralRead
+#[tactic(auto, unfolding(crate::specs::Readers::Literal::literal_at))]
+pub fn literal_at(line: &[u8], at: usize) -> Option<(Quantity, usize)>
     ensures { result ≡ literal_at line.now at }
 {
     let first = bytes::byte(line, at);

@@ -1,15 +1,19 @@
--- Laws of `set`, `sets` and `map`, of room, and of the loops that copy, fill and move: d is what the buffer b holds after j steps.
+-- Laws of `set`, `sets` and `map`, of room, and of what the calls of the library leave in a buffer.
 use mathlib.Core.Path.{◌≡◌, refl, sym, ap, ◌∙◌}
 use mathlib.Core.List.{List, [], ◌∷◌, ◌++◌, map}
 use mathlib.Core.Bool.{Bool, true, false, cond}
 use Prim.Native.Nat.{ℕ, zero, suc, ◌+◌, ◌-◌, ◌≤◌, ◌<◌}
-use native.Mathlib.Nat.{add-zero, add-suc, le_antisymm}
+use native.Mathlib.Nat.{add-zero}
 use native.Mathlib.Numerals.{add-one}
 use native.Mathlib.Omega.{arith}
 use borrow.Author.Tests.{le-leb, lt-leb, leb-true, leb-false}
 use lib.Dec.{leb}
-use lib.ListN.{length, get_or, take, drop, set, replicate, length-replicate, replicate-append-replicate, length-drop, drop_of_length-le}
-use lib.Seq.{sets, length-sets, take-suc, drop-cons, length-take-le, take_all, set_comm, get_or-set_other, get_or-take, get_or-drop}
+use lib.ListN.{length, get_or, take, drop, set, replicate, length-replicate, length-drop}
+use lib.Seq.{take-suc, paste, sets, length-sets, length-take-le, take_all, set_comm, get_or-set_other, get_or-take, get_or-drop}
+use Rattle.std.specs.List.{between, copy_within}
+use Rattle.std.proofs.lemmas.List.Edits.{length-between, sets-eq}
+use Rattle.std.proofs.lemmas.Slice.{put_mid-paste}
+use borrow.Rule.Slice.PartMut.{put_mid}
 use Rattle.buffers.specs.Buffer.{has_room, part, stored, shifted, Stored, Shifted}
 
 module _ {A : Type 0} where
@@ -66,20 +70,19 @@ module _ {A : Type 0} (d b s : List A) (n j : ℕ) (inv : d ≡ sets b n (take j
   pub copied_all : length s ≤ j → d ≡ sets b n s
   copied_all h = inv ∙ ap (sets b n) (take_all j s h)
 
--- a copy from the last element on: one more
-pub copied_down : {A : Type 0} (d b s : List A) (n j : ℕ) (z : A) → d ≡ sets b (n + suc j) (drop (suc j) s) → j < length s → set d (n + j) (get_or s j z) ≡ sets b (n + j) (drop j s)
-copied_down d b s n j z inv h =
-    let t : drop j s ≡ get_or s j z ∷ drop (suc j) s = drop-cons s j z h in
-    rw (inv, t, add-suc) (sym (sets_before (drop (suc j) s) b (n + j) (suc (n + j)) (get_or s j z) (omega arith)))
+-- a write to the k bytes at n, as the library says it
+pasted : {A : Type 0} (b s : List A) (n : ℕ) → n + length s ≤ length b → paste b n s (length s) ≡ sets b n s
+pasted b s n h = rw (take_all (length s) s (omega arith)) (sym (sets-eq s b n h))
 
--- filling: one more, and all
-pub filled_more : (d b : List ℕ) (n x j : ℕ) → d ≡ sets b n (replicate j x) → set d (n + j) x ≡ sets b n (replicate (j + 1) x)
-filled_more d b n x j inv =
-    let l : length (replicate j x) ≡ j = length-replicate j x in
-    rw (inv, ← replicate-append-replicate j 1 x, sets_append (replicate j x) b n (replicate 1 x), l)
+pub mid_sets : {A : Type 0} (b : List A) (n k : ℕ) (v s : List A) → v ≡ s → k ≡ length s → n + length s ≤ length b → put_mid n k b v ≡ sets b n s
+mid_sets b n k v s e l h =
+    put_mid-paste n k b v s (length s) e (sym l) refl ∙ pasted b s n h
 
-pub filled_all : (d b : List ℕ) (n x j k : ℕ) → d ≡ sets b n (replicate j x) → j ≤ k → k ≤ j → d ≡ sets b n (replicate k x)
-filled_all d b n x j k inv h h' = inv ∙ ap (λ (i : ℕ). sets b n (replicate i x)) (le_antisymm h h')
+pub filled : (b : List ℕ) (n k x : ℕ) (v : List ℕ) → v ≡ replicate (length (between n (n + k) b)) x → n + k ≤ length b → put_mid n (n + k - n) b v ≡ sets b n (replicate k x)
+filled b n k x v e h =
+    let l : length (between n (n + k) b) ≡ k = omega (arith, length-between b n (n + k) h) in
+    let r : length (replicate k x) ≡ k = length-replicate k x in
+    mid_sets b n _ v (replicate k x) (rw l at e) (omega arith) (omega arith)
 
 -- a part of the buffer, and its elements
 pub length_part : (b : List ℕ) (n k : ℕ) → n + k ≤ length b → length (part b n k) ≡ k
@@ -88,20 +91,12 @@ length_part b n k h = length-take-le k (drop n b) (omega (arith, length-drop n b
 pub get_d_part : (b : List ℕ) (n k i : ℕ) → i < k → get_or (part b n k) i 0 ≡ get_or b (n + i) 0
 get_d_part b n k i h = get_or-take k (drop n b) i 0 h ∙ get_or-drop n b i 0
 
--- moving down: what is read next is still as it was
-pub moved_down : (d b : List ℕ) (from to k j : ℕ) → d ≡ sets b to (take j (part b from k)) → to ≤ from → from + k ≤ length b → j < k → set d (to + j) (get_or d (from + j) 0) ≡ sets b to (take (j + 1) (part b from k))
-moved_down d b from to k j inv h f t =
-    let m : length (part b from k) ≡ k = length_part b from k f in
-    let l : length (take j (part b from k)) ≡ j = length-take-le j (part b from k) (omega arith) in
-    let e : get_or d (from + j) 0 ≡ get_or (part b from k) j 0 = ap (λ (x : List ℕ). get_or x (from + j) 0) inv ∙ get_or_behind (take j (part b from k)) b (from + j) to 0 (omega arith) ∙ sym (get_d_part b from k j t) in
-    rw e (copied_more d b (part b from k) to j inv 0 (omega arith))
-
--- moving up, from the last: the same
-pub moved_up : (d b : List ℕ) (from to k j : ℕ) → d ≡ sets b (to + suc j) (drop (suc j) (part b from k)) → from ≤ to → from + k ≤ length b → j < k → set d (to + j) (get_or d (from + j) 0) ≡ sets b (to + j) (drop j (part b from k))
-moved_up d b from to k j inv h f t =
-    let m : length (part b from k) ≡ k = length_part b from k f in
-    let e : get_or d (from + j) 0 ≡ get_or (part b from k) j 0 = ap (λ (x : List ℕ). get_or x (from + j) 0) inv ∙ get_or_before (drop (suc j) (part b from k)) b (from + j) (to + suc j) 0 (omega arith) ∙ sym (get_d_part b from k j t) in
-    rw e (copied_down d b (part b from k) to j 0 inv (omega arith))
+-- what a copy of them leaves, as the library says it
+pub moved : (b : List ℕ) (from to k : ℕ) → from + k ≤ length b → to + k ≤ length b → copy_within b from (from + k) to ≡ sets b to (part b from k)
+moved b from to k h g =
+    let l : length (part b from k) ≡ k = length_part b from k h in
+    let d : from + k - from ≡ k = omega arith in
+    rw d (rw l at (sym (sets-eq (part b from k) b to (omega arith))))
 
 -- room, and what it says
 pub room_true : (b : List ℕ) (n k : ℕ) → n + k ≤ length b → has_room b n k ≡ true
@@ -167,20 +162,3 @@ room_tail b n k h = go (leb k (length b - n)) refl
     go : (r : Bool) → leb k (length b - n) ≡ r → r ≡ has_room b n k
     go true e = sym (room_true b n k (omega (arith, leb-true k (length b - n) e)))
     go false e = sym (room_false b n k (omega (arith, leb-false k (length b - n) e)))
-
-pub down_end : (d b : List ℕ) (from to k j : ℕ) → d ≡ sets b to (take j (part b from k)) → from + k ≤ length b → k ≤ j → d ≡ sets b to (part b from k)
-down_end d b from to k j inv f h = copied_all d b (part b from k) to j inv (omega (arith, length_part b from k f))
-
--- moving up starts with nothing moved, and is done when the first byte is
-pub up_start : (b : List ℕ) (from to k : ℕ) → from + k ≤ length b → b ≡ sets b (to + k) (drop k (part b from k))
-up_start b from to k f = rw (drop_of_length-le (part b from k) {i = k} (omega (arith, length_part b from k f)))
-
-pub up_step : (d b : List ℕ) (from to k j : ℕ) → d ≡ sets b (to + j) (drop j (part b from k)) → from ≤ to → to + k ≤ length b → 0 < j → j ≤ k → set d (to + (j - 1)) (get_or d (from + (j - 1)) 0) ≡ sets b (to + (j - 1)) (drop (j - 1) (part b from k))
-up_step d b from to k j inv h f t u =
-    let e : j ≡ suc (j - 1) = omega arith in
-    moved_up d b from to k (j - 1) (inv ∙ ap (λ (i : ℕ). sets b (to + i) (drop i (part b from k))) e) h (omega arith) (omega arith)
-
-pub up_end : (d b : List ℕ) (from to k j : ℕ) → d ≡ sets b (to + j) (drop j (part b from k)) → j ≤ 0 → d ≡ sets b to (part b from k)
-up_end d b from to k j inv h =
-    let e : j ≡ 0 = omega arith in
-    inv ∙ ap (λ (i : ℕ). sets b (to + i) (drop i (part b from k))) e ∙ rw add-zero

@@ -1,7 +1,7 @@
 -- Answers over the list of cells, by the position that halving finds.
+use Rattle.std.specs.Prelude.{Some, None}
 use Rattle.std.proofs.Common.{◌≡◌, ℕ, suc, ◌+◌, ◌-◌, ◌<◌, ◌≤◌, Bool, true, false, cond, eqb, leb, List, [], ◌∷◌, ◌++◌, length, get_or, drop, sym, refl, ap, ◌∙◌, subst, ⊎_elim, le_trans, le_antisymm, eq-or-lt_of_le, arith, length-append, eq-eqb, ne_eqb, eqb-true, leb-false, leb-true}
 use mathlib.Core.Bool.{false≢true}
-use mathlib.Core.Option.{none, some}
 use native.Mathlib.Nat.{le-max_left, le-max_right, max-le}
 use lib.ListN.{get_or-append}
 use Rattle.meaning.specs.Each.{Each}
@@ -37,19 +37,19 @@ front_pair c r i h =
 
 -- ---- the cell of a key
 
-pub lookup_none : (k : ℕ) (cs : List Cell) → ((i : ℕ) → i < length cs → get_or (keys cs) i 0 ≡ k → ⊥) → lookup k cs ≡ none
+pub lookup_none : (k : ℕ) (cs : List Cell) → ((i : ℕ) → i < length cs → get_or (keys cs) i 0 ≡ k → ⊥) → lookup k cs ≡ None
 unfolding lookup
 lookup_none k [] h = refl
 lookup_none k (c ∷ cs) h =
     rw (ne_eqb (key_number c) k (h 0 (omega arith))) (lookup_none k cs (λ i l. h (suc i) (omega arith)))
 
-lookup_at : (k : ℕ) (xs : List Cell) (c : Cell) (ys : List Cell) → ((i : ℕ) → i < length xs → get_or (keys (xs ++ (c ∷ ys))) i 0 ≡ k → ⊥) → key_number c ≡ k → lookup k (xs ++ (c ∷ ys)) ≡ some c
+lookup_at : (k : ℕ) (xs : List Cell) (c : Cell) (ys : List Cell) → ((i : ℕ) → i < length xs → get_or (keys (xs ++ (c ∷ ys))) i 0 ≡ k → ⊥) → key_number c ≡ k → lookup k (xs ++ (c ∷ ys)) ≡ Some c
 unfolding lookup
 lookup_at k [] c ys h e = rw (eq-eqb _ _ e)
 lookup_at k (x ∷ xs) c ys h e =
     rw (ne_eqb (key_number x) k (h 0 (omega arith))) (lookup_at k xs c ys (λ i l. h (suc i) (omega arith)) e)
 
-pub lookup_here : (k : ℕ) (cs xs : List Cell) (c : Cell) (ys : List Cell) → cs ≡ xs ++ (c ∷ ys) → ((i : ℕ) → i < length xs → get_or (keys cs) i 0 ≡ k → ⊥) → key_number c ≡ k → lookup k cs ≡ some c
+pub lookup_here : (k : ℕ) (cs xs : List Cell) (c : Cell) (ys : List Cell) → cs ≡ xs ++ (c ∷ ys) → ((i : ℕ) → i < length xs → get_or (keys cs) i 0 ≡ k → ⊥) → key_number c ≡ k → lookup k cs ≡ Some c
 lookup_here k cs xs c ys s h e =
     ap (lookup k) s ∙ lookup_at k xs c ys (λ i l q. h i l (ap (λ (z : List Cell). get_or (keys z) i 0) s ∙ q)) e
 
@@ -109,7 +109,7 @@ module _ (b index : List ℕ) (count k p : ℕ) (q : Position b index count k p)
         found_in : meant b v ≡ found (lookup k cs)
         unfolding found
         found_in =
-            let x : lookup k cs ≡ some here.picked.cell = lookup_here k cs here.picked.left here.picked.cell here.picked.right here.picked.split lower has_key in
+            let x : lookup k cs ≡ Some here.picked.cell = lookup_here k cs here.picked.left here.picked.cell here.picked.right here.picked.split lower has_key in
             w.value here.picked.cell here.rest here.allowed begins_here ∙ ap found (sym x)
 
         held_in : InStore b n (cell_start k cs + 9) v

@@ -1,7 +1,8 @@
 -- A cell's bytes, read back as the cell; and bytes that pass the code's tests, as the bytes of a cell.
-use Rattle.std.proofs.Common.{◌≡◌, ℕ, zero, suc, ◌+◌, ◌-◌, ◌*◌, ◌/◌, ◌%◌, ◌<◌, ◌≤◌, Bool, true, false, cond, ◌&&◌, eqb, leb, List, [], ◌∷◌, ◌++◌, length, get_or, take, drop, replicate, ℤ, nat_abs, sym, refl, ap, ◌∙◌, subst, ap₂, append_assoc, arith, length-append, length-drop, take-append-drop, length-take-le, drop-drop, take_at, ne_eqb, eqb-true, leb-true}
+use Rattle.std.specs.Prelude.{Option, Some, None}
+use mathlib.Core.Option as M
+use Rattle.std.proofs.Common.{◌≡◌, ℕ, zero, suc, ◌+◌, ◌-◌, ◌*◌, ◌/◌, ◌%◌, ◌<◌, ◌≤◌, Bool, true, false, cond, ◌&&◌, eqb, leb, List, [], ◌∷◌, ◌++◌, length, get_or, take, drop, replicate, ℤ, nat_abs, sym, refl, ap, ◌∙◌, subst, ap₂, append_assoc, arith, length-append, length-drop, take-append-drop, length-take-le, drop-drop, take_at, eq-eqb, ne_eqb, eqb-true, leb-true}
 use mathlib.Core.Bool.{false≢true}
-use mathlib.Core.Option.{Option, none, some}
 use lib.ListN.{length-replicate}
 use lib.Seq.{take-append_seam, drop-append_seam}
 use Rattle.meaning.specs.Answer.{Value, integer, decimal, string}
@@ -10,7 +11,9 @@ use Rattle.numbers.specs.declared.Quantity.TheVariants as Q
 use Rattle.numbers.specs.Range.{integer_limit, decimal_limit, within}
 use Rattle.cells.specs.Bytes.{pair, quad, octet, pair_at, quad_from, octet_at, in_complement, from_complement, word_range, long_range, begins}
 use Rattle.cells.specs.Cell.{Key, between, key_allowed, key_bytes, key_as_number, each, printable, Kind, integer_row, decimal_row, string_row, kinds, row_in, kind_and_body, kind_byte, value_allowed, value_bytes, integer_kind, decimal_kind, string_kind, Cell, cell_allowed, cell_bytes, key_at, cell_by, cell_of, passing, front}
-use Rattle.cells.specs.Inner.Tests.{size_by, size_of, zeros, string_formed, value_formed, size_found, front_size, Sized}
+use Rattle.cells.specs.Inner.Tests.{size_by, size_of, kind_of, kind_size, zeros, string_formed, value_formed, size_found, front_size, Sized, FrontSized}
+use Rattle.cells.specs.declared.form.ValueKind.{ValueKind}
+use Rattle.cells.specs.declared.form.ValueKind.TheVariants as K
 use Rattle.cells.proofs.BigEndian.{Bytes, and_true, both, begins_self, begins_says, pair_reads, quad_reads, octet_reads, signed_unsigned, unsigned_signed, quad_below, octet_below, next, pair_back, quad_back, octet_back, quad_at, octet_at_law}
 
 -- ---- the limits of a key
@@ -120,7 +123,7 @@ row_sound (A.number (Q.Integer z)) = integers_sound
 row_sound (A.number (Q.Decimal z)) = decimals_sound
 row_sound (string t) = strings_sound
 
-row_found : (v : Value) → row_in kinds (kind_byte v) ≡ some (kind_and_body v).kind
+row_found : (v : Value) → row_in kinds (kind_byte v) ≡ M.some (kind_and_body v).kind
 unfolding kind_byte
 row_found (A.number (Q.Integer z)) = refl
 row_found (A.number (Q.Decimal z)) = refl
@@ -145,12 +148,12 @@ pub first_byte : (c : Cell) (r : List ℕ) → get_or (cell_bytes c ++ r) 0 0 �
 unfolding cell_bytes
 first_byte c r = refl
 
-pub cell_reads : (c : Cell) (r : List ℕ) → value_allowed c.value ≡ true → cell_of (cell_bytes c ++ r) ≡ some c
+pub cell_reads : (c : Cell) (r : List ℕ) → value_allowed c.value ≡ true → cell_of (cell_bytes c ++ r) ≡ Some c
 unfolding cell_of cell_by
 cell_reads c r e =
     let k : Kind = (kind_and_body c.value).kind in
     let v : k.value (k.read (drop 8 (cell_bytes c ++ r))) ≡ c.value = ap (λ (s : List ℕ). k.value (k.read s)) (value_behind c r) ∙ value_reads c.value r e in
-    ap (λ (o : Option Kind). cell_by o (cell_bytes c ++ r)) (ap (row_in kinds) (first_byte c r) ∙ row_found c.value) ∙ (λ i. some (record { key = cell_key c r i; value = v i }))
+    ap (λ (o : M.Option Kind). cell_by o (cell_bytes c ++ r)) (ap (row_in kinds) (first_byte c r) ∙ row_found c.value) ∙ (λ i. Some (record { key = cell_key c r i; value = v i }))
 
 -- the cell whose bytes a list begins with is read, and only that
 pub key_allowed_law : (c : Cell) → cell_allowed c ≡ true → key_allowed c.key ≡ true
@@ -161,17 +164,17 @@ pub value_allowed_law : (c : Cell) → cell_allowed c ≡ true → value_allowed
 unfolding cell_allowed
 value_allowed_law c e = (and_true (key_allowed c.key) _ e).1
 
-pub front_cell : (c : Cell) (r : List ℕ) → cell_allowed c ≡ true → front (cell_bytes c ++ r) ≡ some c
+pub front_cell : (c : Cell) (r : List ℕ) → cell_allowed c ≡ true → front (cell_bytes c ++ r) ≡ Some c
 unfolding front passing
 front_cell c r e =
     ap (passing (λ b. begins b (cell_bytes c ++ r))) (cell_reads c r (value_allowed_law c e)) ∙ rw (e, begins_self (cell_bytes c) r)
 
-pub passing_some : (test : List ℕ → Bool) (o : Option Cell) (c : Cell) → passing test o ≡ some c → (cell_allowed c ≡ true) × (test (cell_bytes c) ≡ true)
+pub passing_some : (test : List ℕ → Bool) (o : Option Cell) (c : Cell) → passing test o ≡ Some c → (cell_allowed c ≡ true) × (test (cell_bytes c) ≡ true)
 unfolding passing
-passing_some test none c e = let z : ◌≡◌ {A = ℕ} 0 1 = cc in absurd (omega arith)
-passing_some test (some d) c e = go (cell_allowed d && test (cell_bytes d)) refl e
+passing_some test None c e = let z : ◌≡◌ {A = ℕ} 0 1 = cc in absurd (omega arith)
+passing_some test (Some d) c e = go (cell_allowed d && test (cell_bytes d)) refl e
   where
-    go : (t : Bool) → cell_allowed d && test (cell_bytes d) ≡ t → cond t (some d) none ≡ some c → (cell_allowed c ≡ true) × (test (cell_bytes c) ≡ true)
+    go : (t : Bool) → cell_allowed d && test (cell_bytes d) ≡ t → cond t (Some d) None ≡ Some c → (cell_allowed c ≡ true) × (test (cell_bytes c) ≡ true)
     go true t q = let w : d ≡ c = cc in subst (λ (x : Cell). (cell_allowed x ≡ true) × (test (cell_bytes x) ≡ true)) w (and_true _ _ t)
     go false t q = let z : ◌≡◌ {A = ℕ} 0 1 = cc in absurd (omega arith)
 
@@ -179,7 +182,7 @@ pub record Front (s : List ℕ) (c : Cell) : Type 0 where
   pub allowed : cell_allowed c ≡ true
   pub bytes : s ≡ cell_bytes c ++ drop (length (cell_bytes c)) s
 
-pub front_some : (s : List ℕ) (c : Cell) → front s ≡ some c → Front s c
+pub front_some : (s : List ℕ) (c : Cell) → front s ≡ Some c → Front s c
 unfolding front
 front_some s c e = let h = passing_some (λ b. begins b s) (cell_of s) c e in record { allowed = h.0; bytes = begins_says _ _ h.1 }
 
@@ -209,7 +212,7 @@ pub record Formed (s : List ℕ) : Type 0 where
 -- s begins with a cell that has the key at 1
 record FrontOf (s : List ℕ) : Type 0 where
   value : Value
-  read : front s ≡ some (record { key = key_at s 1; value = value })
+  read : front s ≡ Some (record { key = key_at s 1; value = value })
 
 zeros_are : (s : List ℕ) (n : ℕ) → length s ≡ n → zeros s ≡ true → replicate n 0 ≡ s
 unfolding each between
@@ -330,27 +333,19 @@ module _ (k : Key) (r : List ℕ) where
         value = formed_value v b;
       }
 
-pub front_formed : (s : List ℕ) (c : Cell) → front s ≡ some c → Formed s
+pub front_formed : (s : List ℕ) (c : Cell) → front s ≡ Some c → Formed s
 front_formed s c e =
     let f = front_some s c e in
     subst Formed (sym f.bytes) (cell_formed c.key (drop (length (cell_bytes c)) s) c.value (key_allowed_law c f.allowed) (value_allowed_law c f.allowed))
 
 -- ---- the size of the cell
 
-pub size_integer : (k : ℕ) → k ≡ integer_kind → size_of k ≡ 12
-unfolding size_of size_by
-size_integer k e = rw e
-
-pub size_decimal : (k : ℕ) → k ≡ decimal_kind → size_of k ≡ 16
-unfolding size_of size_by
-size_decimal k e = rw e
-
 -- a kind that is none of the others is the last
-pub string_row_law : (k : ℕ) → (k ≡ integer_kind → ⊥) → (k ≡ decimal_kind → ⊥) → 0 < size_of k → row_in kinds k ≡ some string_row
+pub string_row_law : (k : ℕ) → (k ≡ integer_kind → ⊥) → (k ≡ decimal_kind → ⊥) → 0 < size_of k → row_in kinds k ≡ M.some string_row
 unfolding size_of size_by
 string_row_law k a b h = go (eqb k string_kind) refl
   where
-    go : (t : Bool) → eqb k string_kind ≡ t → row_in kinds k ≡ some string_row
+    go : (t : Bool) → eqb k string_kind ≡ t → row_in kinds k ≡ M.some string_row
     go true e = rw (ne_eqb _ _ a, ne_eqb _ _ b, e)
     go false e = let z : 0 < 0 = rw (ne_eqb _ _ a, ne_eqb _ _ b, e) at h in absurd (omega arith)
 
@@ -362,7 +357,7 @@ pub size_least : (k : ℕ) → 0 < size_of k → 12 ≤ size_of k
 unfolding size_of size_by
 size_least k h = go (eqb k integer_kind) (eqb k decimal_kind) (eqb k string_kind) h
   where
-    go : (p q r : Bool) → 0 < size_by (cond p (some integer_row) (cond q (some decimal_row) (cond r (some string_row) none))) → 12 ≤ size_by (cond p (some integer_row) (cond q (some decimal_row) (cond r (some string_row) none)))
+    go : (p q r : Bool) → 0 < size_by (cond p (M.some integer_row) (cond q (M.some decimal_row) (cond r (M.some string_row) M.none))) → 12 ≤ size_by (cond p (M.some integer_row) (cond q (M.some decimal_row) (cond r (M.some string_row) M.none)))
     go true q r h = omega arith
     go false true r h = omega arith
     go false false true h = omega arith
@@ -372,11 +367,80 @@ pub size_most : (k : ℕ) → size_of k ≤ 25
 unfolding size_of size_by
 size_most k = go (eqb k integer_kind) (eqb k decimal_kind) (eqb k string_kind)
   where
-    go : (p q r : Bool) → size_by (cond p (some integer_row) (cond q (some decimal_row) (cond r (some string_row) none))) ≤ 25
+    go : (p q r : Bool) → size_by (cond p (M.some integer_row) (cond q (M.some decimal_row) (cond r (M.some string_row) M.none))) ≤ 25
     go true q r = omega arith
     go false true r = omega arith
     go false false true = omega arith
     go false false false = omega arith
+
+-- ---- the kinds of the code
+
+module _ (b : ℕ) where
+  pub kind_none : kind_of b ≡ None → size_of b ≡ 0
+  unfolding kind_of size_of size_by
+  kind_none e = go (eqb b integer_kind) (eqb b decimal_kind) (eqb b string_kind) e
+    where
+      go : (p q r : Bool) → cond p (Some K.Integer) (cond q (Some K.Decimal) (cond r (Some K.String) None)) ≡ None → size_by (cond p (M.some integer_row) (cond q (M.some decimal_row) (cond r (M.some string_row) M.none))) ≡ 0
+      go true q r e = absurd (let z : ◌≡◌ {A = ℕ} 0 1 = cc in omega arith)
+      go false true r e = absurd (let z : ◌≡◌ {A = ℕ} 0 1 = cc in omega arith)
+      go false false true e = absurd (let z : ◌≡◌ {A = ℕ} 0 1 = cc in omega arith)
+      go false false false e = refl
+
+  pub kind_some : (k : ValueKind) → kind_of b ≡ Some k → size_of b ≡ kind_size k
+  unfolding kind_of kind_size size_of size_by
+  kind_some k e = go (eqb b integer_kind) (eqb b decimal_kind) (eqb b string_kind) e
+    where
+      go : (p q r : Bool) → cond p (Some K.Integer) (cond q (Some K.Decimal) (cond r (Some K.String) None)) ≡ Some k → size_by (cond p (M.some integer_row) (cond q (M.some decimal_row) (cond r (M.some string_row) M.none))) ≡ kind_size k
+      go true q r e = let z : K.Integer ≡ k = cc in ap kind_size z
+      go false true r e = let z : K.Decimal ≡ k = cc in ap kind_size z
+      go false false true e = let z : K.String ≡ k = cc in ap kind_size z
+      go false false false e = absurd (let z : ◌≡◌ {A = ℕ} 0 1 = cc in omega arith)
+
+  pub kind_integer : kind_of b ≡ Some K.Integer → b ≡ integer_kind
+  unfolding kind_of
+  kind_integer e = go (eqb b integer_kind) refl (eqb b decimal_kind) (eqb b string_kind) e
+    where
+      go : (p : Bool) → eqb b integer_kind ≡ p → (q r : Bool) → cond p (Some K.Integer) (cond q (Some K.Decimal) (cond r (Some K.String) None)) ≡ Some K.Integer → b ≡ integer_kind
+      go true h q r e = eqb-true _ _ h
+      go false h true r e = absurd (let z : ◌≡◌ {A = ℕ} 0 1 = cc in omega arith)
+      go false h false true e = absurd (let z : ◌≡◌ {A = ℕ} 0 1 = cc in omega arith)
+      go false h false false e = absurd (let z : ◌≡◌ {A = ℕ} 0 1 = cc in omega arith)
+
+  not_eqb : (m : ℕ) → eqb b m ≡ false → b ≡ m → ⊥
+  not_eqb m h e = false≢true (sym h ∙ eq-eqb b m e)
+
+  pub kind_decimal : kind_of b ≡ Some K.Decimal → (b ≡ integer_kind → ⊥) × (b ≡ decimal_kind)
+  unfolding kind_of
+  kind_decimal e = go (eqb b integer_kind) refl (eqb b decimal_kind) refl (eqb b string_kind) e
+    where
+      go : (p : Bool) → eqb b integer_kind ≡ p → (q : Bool) → eqb b decimal_kind ≡ q → (r : Bool) → cond p (Some K.Integer) (cond q (Some K.Decimal) (cond r (Some K.String) None)) ≡ Some K.Decimal → (b ≡ integer_kind → ⊥) × (b ≡ decimal_kind)
+      go true h q i r e = absurd (let z : ◌≡◌ {A = ℕ} 0 1 = cc in omega arith)
+      go false h true i r e = (not_eqb integer_kind h, eqb-true _ _ i)
+      go false h false i true e = absurd (let z : ◌≡◌ {A = ℕ} 0 1 = cc in omega arith)
+      go false h false i false e = absurd (let z : ◌≡◌ {A = ℕ} 0 1 = cc in omega arith)
+
+  pub kind_string : kind_of b ≡ Some K.String → (b ≡ integer_kind → ⊥) × (b ≡ decimal_kind → ⊥)
+  unfolding kind_of
+  kind_string e = go (eqb b integer_kind) refl (eqb b decimal_kind) refl (eqb b string_kind) e
+    where
+      go : (p : Bool) → eqb b integer_kind ≡ p → (q : Bool) → eqb b decimal_kind ≡ q → (r : Bool) → cond p (Some K.Integer) (cond q (Some K.Decimal) (cond r (Some K.String) None)) ≡ Some K.String → (b ≡ integer_kind → ⊥) × (b ≡ decimal_kind → ⊥)
+      go true h q i r e = absurd (let z : ◌≡◌ {A = ℕ} 0 1 = cc in omega arith)
+      go false h true i r e = absurd (let z : ◌≡◌ {A = ℕ} 0 1 = cc in omega arith)
+      go false h false i r e = (not_eqb integer_kind h, not_eqb decimal_kind i)
+
+pub kind_least : (k : ValueKind) → 12 ≤ kind_size k
+unfolding kind_size
+kind_least K.Integer = omega arith
+kind_least K.Decimal = omega arith
+kind_least K.String = omega arith
+
+pub front_none : (s : List ℕ) (r : Option ℕ) → FrontSized s r → r ≡ None → Sized s 0
+unfolding FrontSized
+front_none s r f e = rw e at f
+
+pub front_sized : (s : List ℕ) (r : Option ℕ) (n : ℕ) → FrontSized s r → r ≡ Some n → Sized s n × (0 < n)
+unfolding FrontSized
+front_sized s r n f e = rw e at f
 
 -- the answers of `cell_size`
 module _ (s : List ℕ) where
@@ -385,8 +449,8 @@ module _ (s : List ℕ) where
   no_cell n = record { size = go (front s) refl; inside = omega arith; least = λ h. absurd (omega arith) }
     where
       go : (o : Option Cell) → front s ≡ o → 0 ≡ size_found o
-      go none e = refl
-      go (some c) e = absurd (n (front_formed s c e))
+      go None e = refl
+      go (Some c) e = absurd (n (front_formed s c e))
 
   pub one_cell : Bytes s → Formed s → Sized s (size_of (get_or s 0 0))
   unfolding front_size size_found
@@ -400,25 +464,28 @@ module _ (s : List ℕ) where
         least = size_least _;
       }
 
-  pub no_bytes : length s < 1 → Sized s 0
-  no_bytes h = no_cell (λ f. omega arith)
+  unknown_front : (Formed s → ⊥) → FrontSized s None
+  unfolding FrontSized
+  unknown_front n = no_cell n
 
-  module _ (n : ℕ) (e : n ≡ size_of (get_or s 0 0)) where
-    pub unknown_kind : n < 1 → Sized s 0
-    unknown_kind h = no_cell (λ f. omega arith)
+  pub unknown_kind : kind_of (get_or s 0 0) ≡ None → FrontSized s None
+  unknown_kind e = unknown_front (λ f. omega (arith, f.known, kind_none _ e))
 
-    pub cut_short : length s < n → Sized s 0
-    cut_short h = no_cell (λ f. omega arith)
+  module _ (k : ValueKind) (e : kind_of (get_or s 0 0) ≡ Some k) (n : ℕ) (m : n ≡ kind_size k) where
+    pub cut_short : length s < n → FrontSized s None
+    cut_short h = unknown_front (λ f. omega (arith, f.fits, kind_some _ k e))
 
-    pub room_for_key : 1 ≤ n → n ≤ length s → 8 ≤ length s
-    room_for_key h k = omega (arith, size_least (get_or s 0 0) (omega arith))
+    pub room_for_key : n ≤ length s → 8 ≤ length s
+    room_for_key h = omega (arith, kind_least k)
 
-    pub sized_cell : Bytes s → 1 ≤ n → n ≤ length s → (r : Bool) → r ≡ key_allowed (key_at s 1) → r ≡ true → (q : Bool) → q ≡ value_formed s → q ≡ true → Sized s n
-    sized_cell b h k r x y q v w =
-        rw e (one_cell b (record { known = omega arith; fits = omega arith; key = sym x ∙ y; value = sym v ∙ w }))
+    pub refused_key : (r : Bool) → r ≡ key_allowed (key_at s 1) → r ≡ false → FrontSized s None
+    refused_key r x y = unknown_front (λ f. false≢true (sym y ∙ x ∙ f.key))
 
-  pub refused_key : (r : Bool) → r ≡ key_allowed (key_at s 1) → r ≡ false → Sized s 0
-  refused_key r e n = no_cell (λ f. false≢true (sym n ∙ e ∙ f.key))
+    pub refused_value : (r : Bool) → r ≡ value_formed s → r ≡ false → FrontSized s None
+    refused_value r x y = unknown_front (λ f. false≢true (sym y ∙ x ∙ f.value))
 
-  pub refused_value : (r : Bool) → r ≡ value_formed s → r ≡ false → Sized s 0
-  refused_value r e n = no_cell (λ f. false≢true (sym n ∙ e ∙ f.value))
+    pub sized_cell : Bytes s → n ≤ length s → (r : Bool) → r ≡ key_allowed (key_at s 1) → r ≡ true → (q : Bool) → q ≡ value_formed s → q ≡ true → FrontSized s (Some n)
+    unfolding FrontSized
+    sized_cell b h r x y q v w =
+        let l : size_of (get_or s 0 0) ≡ n = kind_some _ k e ∙ sym m in
+        (rw (sym l) (one_cell b (record { known = omega (arith, kind_least k); fits = omega arith; key = sym x ∙ y; value = sym v ∙ w })), omega (arith, kind_least k))

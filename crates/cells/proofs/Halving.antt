@@ -1,6 +1,5 @@
 -- Halving: the cells before `low` have lower keys, those from `low + size` on have not.
-use Rattle.std.proofs.Common.{◌≡◌, ℕ, ◌+◌, ◌-◌, ◌*◌, ◌/◌, ◌%◌, ◌<◌, ◌≤◌, Bool, true, false, eqb, ltb, leb, List, length, get_or, sym, refl, ap, ◌∙◌, subst, ⊎_elim, eq-or-lt_of_le, mul-zero, mul-one, arith, ltb-false, ltb-true, le-ltb, lt-ltb, eq-eqb, ne_eqb, le-leb}
-use borrow.Author.Tests.{lt-leb}
+use Rattle.std.proofs.Common.{◌≡◌, ℕ, ◌+◌, ◌-◌, ◌*◌, ◌/◌, ◌%◌, ◌<◌, ◌≤◌, Bool, true, false, ltb, List, length, get_or, sym, refl, ap, ◌∙◌, subst, ⊎_elim, eq-or-lt_of_le, mul-zero, mul-one, arith, ltb-false, ltb-true, le-ltb, lt-ltb}
 use Rattle.cells.specs.Cell.{key_as_number, key_at}
 use Rattle.cells.specs.Inner.Index.{key_in, Sorted, Position, LowerAt, below_of, bound_of}
 
@@ -58,20 +57,6 @@ lower_at b starts bound i at x r p f t g =
           let u : x / 256 < 18014398509481984 = omega (arith, s.small i c) in
           g (omega arith) (omega (arith, bound_small k)) ∙ ap (below_of x) e ∙ bound_below x k u ∙ ap (λ (y : ℕ). below_of y k) q;
     }
-
--- a key with a byte behind it, compared with another key: the tests of `has_key`
-module _ (x n k : ℕ) (e : x / 256 ≡ n) where
-  pub key_past : x < 18446744073709551616 → 72057594037927936 ≤ k → false ≡ eqb n k
-  key_past l h = sym (ne_eqb n k (λ (q : n ≡ k). omega arith))
-
-  pub key_above : x < k * 256 → false ≡ eqb n k
-  key_above h = sym (ne_eqb n k (λ (q : n ≡ k). omega arith))
-
-  pub key_level : k * 256 ≤ x → leb x (k * 256 + 255) ≡ eqb n k
-  key_level h =
-      below_cases (leb x (k * 256 + 255) ≡ eqb n k) (k * 256 + 255) x
-      (λ (u : k * 256 + 255 < x). lt-leb x (k * 256 + 255) u ∙ sym (ne_eqb n k (λ (q : n ≡ k). omega arith)))
-      (λ (u : x ≤ k * 256 + 255). le-leb x (k * 256 + 255) u ∙ sym (eq-eqb n k (omega arith)))
 
 one_cases : (P : ℕ → Type 0) (r : ℕ) → r ≤ 1 → (r ≡ 1 → P 1) → (r ≡ 0 → P 0) → P r
 one_cases P r l one none =

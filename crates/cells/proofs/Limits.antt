@@ -1,6 +1,6 @@
 -- What `ask` answers: over a ready index the code's answer is the same, and every answer's value lies within its limits.
+use Rattle.std.specs.Prelude.{Option, Some, None}
 use Rattle.std.proofs.Common.{◌≡◌, ℕ, ◌≤◌, max, Bool, true, false, cond, eqb, leb, List, [], ◌∷◌, length, nat_abs, sym, refl, ap, ◌∙◌, arith, leb-true}
-use mathlib.Core.Option.{Option, none, some}
 use Rattle.numbers.specs.Range.{integer_limit, decimal_limit}
 use Rattle.numbers.proofs.Laws.{within_true}
 use Rattle.meaning.specs.Answer.{Value, string, Answer, missing, cell, highest}
@@ -71,16 +71,16 @@ module _ (P : Value → Type 0) (every : (v : Value) → value_allowed v ≡ tru
       t : (cell_allowed c ≡ true) × (cells_allowed cs ≡ true)
       t = and_true (cell_allowed c) (cells_allowed cs) h
 
-      go : (b : Bool) → AnswerHas P (found (lookup n cs)) → AnswerHas P (found (cond b (some c) (lookup n cs)))
+      go : (b : Bool) → AnswerHas P (found (lookup n cs)) → AnswerHas P (found (cond b (Some c) (lookup n cs)))
       go true r = every c.value (value_allowed_law c t.0)
       go false r = r
 
   query_has : (o : Option Query) (cs : List Cell) → cells_allowed cs ≡ true → AnswerHas P (query_answer o cs)
   unfolding query_answer
-  query_has none cs h = tt
-  query_has (some (the_cell k)) cs h = lookup_has (key_as_number k) cs h
-  query_has (some (highest_record d p)) cs h = highest_within (of_parameter d p) (λ c. c.key.record_number) (λ c k. (limits c.key (key_allowed_law c k)).record_number) cs h
-  query_has (some (highest_entry d p r)) cs h = highest_within (of_record d p r) (λ c. c.key.entry_number) (λ c k. (limits c.key (key_allowed_law c k)).entry_number) cs h
+  query_has None cs h = tt
+  query_has (Some (the_cell k)) cs h = lookup_has (key_as_number k) cs h
+  query_has (Some (highest_record d p)) cs h = highest_within (of_parameter d p) (λ c. c.key.record_number) (λ c k. (limits c.key (key_allowed_law c k)).record_number) cs h
+  query_has (Some (highest_entry d p r)) cs h = highest_within (of_record d p r) (λ c. c.key.entry_number) (λ c k. (limits c.key (key_allowed_law c k)).entry_number) cs h
 
   pub ask_has : (b : List ℕ) (n : ℕ) (q : Question) → AnswerHas P (ask_of b n q).answer
   unfolding ask_of replied answer
@@ -91,8 +91,8 @@ module _ (P : Value → Type 0) (every : (v : Value) → value_allowed v ≡ tru
       by false cs h = tt
 
       go : (o : Option (List Cell)) → cells_held b n ≡ o → AnswerHas P (replied q o).answer
-      go none e = tt
-      go (some cs) e = by (question_allowed q) cs (held_some b n cs e).holds.valid.allowed
+      go None e = tt
+      go (Some cs) e = by (question_allowed q) cs (held_some b n cs e).holds.valid.allowed
 
 -- An answer lies within its limits.
 pub ask_within : (b : List ℕ) (n : ℕ) (q : Question) → AnswerWithin (ask_of b n q).answer

@@ -1,6 +1,6 @@
 -- The i-th cell of a store, by the index: its bytes, its place and its key.
+use Rattle.std.specs.Prelude.{Some, None}
 use Rattle.std.proofs.Common.{◌≡◌, ℕ, zero, suc, ◌+◌, ◌<◌, ◌≤◌, Bool, true, false, cond, ◌&&◌, ltb, leb, List, [], ◌∷◌, ◌++◌, length, get_or, take, drop, sym, refl, ap, ◌∙◌, ap₂, append_assoc, arith, length-append, length-drop, take-append-drop, length-take-le, ltb-true, leb-true}
-use mathlib.Core.Option.{none, some}
 use lib.Seq.{drop-append_seam, get_or_at}
 use Rattle.cells.specs.Cell.{Cell, key_as_number, key_number, key_at, cell_allowed, cell_bytes, kind_byte}
 use Rattle.cells.specs.Store.{encode, cells_allowed, above, rising, cells, cells_held}
@@ -17,11 +17,11 @@ pub record HeldAs (b : List ℕ) (n : ℕ) (cs : List Cell) : Type 0 where
   pub most : n ≤ 65536
   pub holds : Holds (take n b) cs
 
-pub held_some : (b : List ℕ) (n : ℕ) (cs : List Cell) → cells_held b n ≡ some cs → HeldAs b n cs
+pub held_some : (b : List ℕ) (n : ℕ) (cs : List Cell) → cells_held b n ≡ Some cs → HeldAs b n cs
 unfolding cells_held
 held_some b n cs e = go (leb n (length b) && leb n 65536) refl e
   where
-    go : (t : Bool) → leb n (length b) && leb n 65536 ≡ t → cond t (cells (take n b)) none ≡ some cs → HeldAs b n cs
+    go : (t : Bool) → leb n (length b) && leb n 65536 ≡ t → cond t (cells (take n b)) None ≡ Some cs → HeldAs b n cs
     go true q f =
         let t = and_true (leb n (length b)) (leb n 65536) q in
         record { inside = leb-true _ _ t.0; most = leb-true _ _ t.1; holds = cells_some (take n b) cs f }

@@ -1,6 +1,6 @@
 -- Where the string that is answered begins, its bytes stand, inside the store.
+use Rattle.std.specs.Prelude.{Option, Some, None}
 use Rattle.std.proofs.Common.{◌≡◌, ℕ, ◌+◌, ◌-◌, ◌≤◌, Bool, true, false, cond, eqb, List, [], ◌∷◌, ◌++◌, length, take, drop, replicate, sym, refl, ap, ◌∙◌, subst, append_assoc, arith, length-append, take-append-drop, length-take-le, drop-drop, take_at}
-use mathlib.Core.Option.{Option, none, some}
 use lib.Seq.{drop-append_seam}
 use Rattle.meaning.specs.Answer.{Value, string, Answer, missing, cell, highest}
 use Rattle.meaning.specs.Answer as A
@@ -59,7 +59,7 @@ module _ (b : List ℕ) (n : ℕ) where
       size : length (cell_bytes c ++ encode cs) ≡ length (cell_bytes c) + length (encode cs)
       size = length-append (cell_bytes c) (encode cs)
 
-      go : (t : Bool) → Stands b n (at + length (cell_bytes c) + cell_start k cs + 9) (found (lookup k cs)) → Stands b n (at + cond t 0 (length (cell_bytes c) + cell_start k cs) + 9) (found (cond t (some c) (lookup k cs)))
+      go : (t : Bool) → Stands b n (at + length (cell_bytes c) + cell_start k cs + 9) (found (lookup k cs)) → Stands b n (at + cond t 0 (length (cell_bytes c) + cell_start k cs) + 9) (found (cond t (Some c) (lookup k cs)))
       go true later = moved (cell c.value) (omega arith) (cell_stands at c (encode cs ++ r) here (omega (arith, size)))
       go false later = moved (found (lookup k cs)) (omega arith) later
 
@@ -69,8 +69,8 @@ unfolding ask_of replied answer query_answer string_start
 string_stands b n q = go (cells_held b n) refl
   where
     go : (o : Option (List Cell)) → cells_held b n ≡ o → Stands b n (string_start q o) (replied q o).answer
-    go none e = tt
-    go (some cs) e = by (question_allowed q)
+    go None e = tt
+    go (Some cs) e = by (question_allowed q)
       where
         bytes : drop 0 b ≡ encode cs ++ drop n b
         bytes = sym (take-append-drop n b) ∙ ap (λ (x : List ℕ). x ++ drop n b) (sym (held_some b n cs e).holds.bytes)

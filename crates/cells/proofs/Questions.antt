@@ -1,7 +1,7 @@
 -- Questions: their limits as the code tests them, and the range of keys that kinds 2 and 3 speak of.
-use Rattle.std.proofs.Common.{◌≡◌, ℕ, ◌+◌, ◌<◌, ◌≤◌, Bool, true, false, cond, ◌&&◌, eqb, List, sym, refl, ap, ◌∙◌, arith, eq-eqb, ne_eqb, eqb-true}
+use Rattle.std.specs.Prelude.{Option, Some, None}
+use Rattle.std.proofs.Common.{◌≡◌, ℕ, ◌+◌, ◌≤◌, Bool, true, false, cond, ◌&&◌, eqb, List, sym, refl, ap, ◌∙◌, arith, eq-eqb, ne_eqb, eqb-true}
 use mathlib.Core.Bool.{false≢true}
-use mathlib.Core.Option.{Option, none, some}
 use Rattle.meaning.specs.Answer.{missing, highest}
 use Rattle.meaning.specs.declared.question.Question.{Question}
 use Rattle.cells.specs.declared.Answered.{Answered}
@@ -85,11 +85,11 @@ and_none false = refl
 
 module _ (q : Question) where
   -- what holds of the three questions that the numbers can ask, and of none, holds of what they ask
-  pub by_query : (P : Option Query → Type 0) → P none → P (some (the_cell (key_asked q))) → P (some (highest_record q.datasource q.parameter)) → P (some (highest_entry q.datasource q.parameter q.«record»)) → P (query_of q)
+  pub by_query : (P : Option Query → Type 0) → P None → P (Some (the_cell (key_asked q))) → P (Some (highest_record q.datasource q.parameter)) → P (Some (highest_entry q.datasource q.parameter q.«record»)) → P (query_of q)
   unfolding query_of unused
   by_query P n x y z = go (eqb q.kind 1) (eqb q.kind 2) (eqb q.kind 3) (eqb q.«record» 0) (eqb q.entry 0)
     where
-      go : (a b c r e : Bool) → P (cond a (some (the_cell (key_asked q))) (cond b (cond r (cond e (some (highest_record q.datasource q.parameter)) none) none) (cond c (cond e (some (highest_entry q.datasource q.parameter q.«record»)) none) none)))
+      go : (a b c r e : Bool) → P (cond a (Some (the_cell (key_asked q))) (cond b (cond r (cond e (Some (highest_record q.datasource q.parameter)) None) None) (cond c (cond e (Some (highest_entry q.datasource q.parameter q.«record»)) None) None)))
       go true b c r e = x
       go false true c true true = y
       go false true c true false = n
@@ -103,7 +103,7 @@ module _ (q : Question) where
   unfolding question_allowed query_of query_allowed unused unused_zero
   by_numbers = go (eqb q.kind 1) (eqb q.kind 2) (eqb q.kind 3) (eqb q.«record» 0) refl (eqb q.entry 0) refl
     where
-      go : (a b c r : Bool) → eqb q.«record» 0 ≡ r → (e : Bool) → eqb q.entry 0 ≡ e → query_allowed (cond a (some (the_cell (key_asked q))) (cond b (cond r (cond e (some (highest_record q.datasource q.parameter)) none) none) (cond c (cond e (some (highest_entry q.datasource q.parameter q.«record»)) none) none))) ≡ key_allowed (key_asked q) && cond a true (cond b (r && e) (cond c e false))
+      go : (a b c r : Bool) → eqb q.«record» 0 ≡ r → (e : Bool) → eqb q.entry 0 ≡ e → query_allowed (cond a (Some (the_cell (key_asked q))) (cond b (cond r (cond e (Some (highest_record q.datasource q.parameter)) None) None) (cond c (cond e (Some (highest_entry q.datasource q.parameter q.«record»)) None) None))) ≡ key_allowed (key_asked q) && cond a true (cond b (r && e) (cond c e false))
       go true b c r i e j = sym (and_one (key_allowed (key_asked q)))
       go false true c true i true j = rw (eqb-true q.«record» 0 i, eqb-true q.entry 0 j) (sym (and_one (key_allowed (key_of q.datasource q.parameter 0 0))))
       go false true c true i false j = sym (and_none (key_allowed (key_asked q)))
@@ -136,27 +136,8 @@ module _ (q : Question) (t : Bool) (k : t ≡ key_allowed (key_asked q)) where
     inside : key_allowed (key_asked q) ≡ true
     inside = sym k ∙ n
 
-    pub allowed_one : q.kind ≡ 1 → true ≡ question_allowed q
-    unfolding unused_zero
-    allowed_one e = rw (by_numbers q, inside, eq-eqb _ _ e)
-
-    module _ (a : q.kind ≡ 1 → ⊥) where
-      pub refused_record : q.kind ≡ 2 → 0 < q.«record» → false ≡ question_allowed q
-      unfolding unused_zero
-      refused_record e h = rw (by_numbers q, inside, ne_eqb _ _ a, eq-eqb _ _ e, ne_eqb q.«record» 0 (λ z. omega arith))
-
-      pub allowed_two : q.kind ≡ 2 → q.«record» ≤ 0 → eqb q.entry 0 ≡ question_allowed q
-      unfolding unused_zero
-      allowed_two e h = rw (by_numbers q, inside, ne_eqb _ _ a, eq-eqb _ _ e, eq-eqb q.«record» 0 (omega arith))
-
-      module _ (b : q.kind ≡ 2 → ⊥) where
-        pub allowed_three : q.kind ≡ 3 → eqb q.entry 0 ≡ question_allowed q
-        unfolding unused_zero
-        allowed_three e = rw (by_numbers q, inside, ne_eqb _ _ a, ne_eqb _ _ b, eq-eqb _ _ e)
-
-        pub refused_kind : (q.kind ≡ 3 → ⊥) → false ≡ question_allowed q
-        unfolding unused_zero
-        refused_kind e = rw (by_numbers q, inside, ne_eqb _ _ a, ne_eqb _ _ b, ne_eqb _ _ e)
+    pub allowed_rest : (u : Bool) → u ≡ unused_zero q → u ≡ question_allowed q
+    allowed_rest u e = rw (by_numbers q, inside) e
 
 -- ---- the answers of `answer`
 

@@ -1,6 +1,6 @@
 -- Runs of cells: their bytes give back the cells, and only they do.
+use Rattle.std.specs.Prelude.{Option, Some, None}
 use Rattle.std.proofs.Common.{◌≡◌, ℕ, zero, suc, ◌<◌, ◌≤◌, Bool, true, false, cond, List, [], ◌∷◌, ◌++◌, length, drop, sym, refl, ap, ◌∙◌, subst, arith, length-append}
-use mathlib.Core.Option.{Option, none, some}
 use lib.Seq.{drop-append_seam}
 use Rattle.cells.specs.Cell.{Cell, cell_allowed, cell_bytes, front}
 use Rattle.cells.specs.Store.{encode, cells_allowed, rising, with_first, cell_run, ordered, cells}
@@ -20,16 +20,16 @@ pub record Holds (s : List ℕ) (cs : List Cell) : Type 0 where
 -- ---- one cell after another
 
 abbrev continued : ℕ → List ℕ → Option Cell → Option (List Cell)
-continued n s none = none
-continued n s (some c) = with_first c (cell_run n (drop (length (cell_bytes c)) s))
+continued n s None = None
+continued n s (Some c) = with_first c (cell_run n (drop (length (cell_bytes c)) s))
 
 run_step : (n b : ℕ) (t : List ℕ) → cell_run (suc n) (b ∷ t) ≡ continued n (b ∷ t) (front (b ∷ t))
 unfolding cell_run
 run_step n b t = go (front (b ∷ t))
   where
-    go : (o : Option Cell) → elim o [ none ↦ none | some c ↦ with_first c (cell_run n (drop (length (cell_bytes c)) (b ∷ t))) ] ≡ continued n (b ∷ t) o
-    go none = refl
-    go (some c) = refl
+    go : (o : Option Cell) → elim o [ None ↦ None | Some c ↦ with_first c (cell_run n (drop (length (cell_bytes c)) (b ∷ t))) ] ≡ continued n (b ∷ t) o
+    go None = refl
+    go (Some c) = refl
 
 run_cell : (c : Cell) (s : List ℕ) (n : ℕ) → cell_allowed c ≡ true → cell_run (suc n) (cell_bytes c ++ s) ≡ with_first c (cell_run n s)
 unfolding cell_bytes
@@ -40,7 +40,7 @@ pub cell_some : (c : Cell) → 0 < length (cell_bytes c)
 unfolding cell_bytes
 cell_some c = omega arith
 
-run_encode : (cs : List Cell) (n : ℕ) → length (encode cs) ≤ n → cells_allowed cs ≡ true → cell_run n (encode cs) ≡ some cs
+run_encode : (cs : List Cell) (n : ℕ) → length (encode cs) ≤ n → cells_allowed cs ≡ true → cell_run n (encode cs) ≡ Some cs
 unfolding encode cells_allowed with_first cell_run
 run_encode [] zero h e = refl
 run_encode [] (suc n) h e = refl
@@ -52,50 +52,50 @@ run_encode (c ∷ cs) (suc n) h e =
 abbrev Found : List ℕ → List Cell → Type 0
 Found s cs = (encode cs ≡ s) × (cells_allowed cs ≡ true)
 
-pub some_inj : {A : Type 0} {x y : A} → some x ≡ some y → x ≡ y
+pub some_inj : {A : Type 0} {x y : A} → Some x ≡ Some y → x ≡ y
 some_inj e = cc
 
-pub none_some : {A : Type 0} {x : A} → none ≡ some x → ⊥
+pub none_some : {A : Type 0} {x : A} → None ≡ Some x → ⊥
 none_some e = let z : ◌≡◌ {A = ℕ} 0 1 = cc in omega arith
 
-run_stop : (s : List ℕ) (cs : List Cell) → cell_run zero s ≡ some cs → Found s cs
+run_stop : (s : List ℕ) (cs : List Cell) → cell_run zero s ≡ Some cs → Found s cs
 unfolding cell_run encode cells_allowed
 run_stop [] cs e = subst (Found []) (some_inj e) (refl, refl)
 run_stop (b ∷ t) cs e = absurd (none_some e)
 
-run_more : (n : ℕ) → ((s : List ℕ) (cs : List Cell) → cell_run n s ≡ some cs → Found s cs) → (s : List ℕ) (cs : List Cell) → cell_run (suc n) s ≡ some cs → Found s cs
+run_more : (n : ℕ) → ((s : List ℕ) (cs : List Cell) → cell_run n s ≡ Some cs → Found s cs) → (s : List ℕ) (cs : List Cell) → cell_run (suc n) s ≡ Some cs → Found s cs
 unfolding cell_run encode cells_allowed with_first
 run_more n ih [] cs e = subst (Found []) (some_inj e) (refl, refl)
 run_more n ih (b ∷ t) cs e = go (front (b ∷ t)) refl (sym (run_step n b t) ∙ e)
   where
-    behind : (c : Cell) → Front (b ∷ t) c → (o : Option (List Cell)) → cell_run n (drop (length (cell_bytes c)) (b ∷ t)) ≡ o → with_first c o ≡ some cs → Found (b ∷ t) cs
-    behind c f none r x = absurd (none_some x)
-    behind c f (some ds) r x =
+    behind : (c : Cell) → Front (b ∷ t) c → (o : Option (List Cell)) → cell_run n (drop (length (cell_bytes c)) (b ∷ t)) ≡ o → with_first c o ≡ Some cs → Found (b ∷ t) cs
+    behind c f None r x = absurd (none_some x)
+    behind c f (Some ds) r x =
         let g = ih (drop (length (cell_bytes c)) (b ∷ t)) ds r in
         subst (Found (b ∷ t)) (some_inj x) (ap (λ (y : List ℕ). cell_bytes c ++ y) g.0 ∙ sym f.bytes, both f.allowed g.1)
 
-    go : (o : Option Cell) → front (b ∷ t) ≡ o → continued n (b ∷ t) o ≡ some cs → Found (b ∷ t) cs
-    go none q x = absurd (none_some x)
-    go (some c) q x = behind c (front_some (b ∷ t) c q) (cell_run n (drop (length (cell_bytes c)) (b ∷ t))) refl x
+    go : (o : Option Cell) → front (b ∷ t) ≡ o → continued n (b ∷ t) o ≡ Some cs → Found (b ∷ t) cs
+    go None q x = absurd (none_some x)
+    go (Some c) q x = behind c (front_some (b ∷ t) c q) (cell_run n (drop (length (cell_bytes c)) (b ∷ t))) refl x
 
-run_some : (n : ℕ) (s : List ℕ) (cs : List Cell) → cell_run n s ≡ some cs → Found s cs
+run_some : (n : ℕ) (s : List ℕ) (cs : List Cell) → cell_run n s ≡ Some cs → Found s cs
 run_some zero = run_stop
 run_some (suc n) = run_more n (run_some n)
 
 -- `cells (encode cs) ≡ some cs` for cells in form and order
-pub cells_encode : (cs : List Cell) → Valid cs → cells (encode cs) ≡ some cs
+pub cells_encode : (cs : List Cell) → Valid cs → cells (encode cs) ≡ Some cs
 unfolding cells ordered
 cells_encode cs v = rw (run_encode cs (length (encode cs)) (omega arith) v.allowed, v.rising)
 
 -- and back
-pub cells_some : (s : List ℕ) (cs : List Cell) → cells s ≡ some cs → Holds s cs
+pub cells_some : (s : List ℕ) (cs : List Cell) → cells s ≡ Some cs → Holds s cs
 unfolding cells ordered
 cells_some s cs e = go (cell_run (length s) s) refl e
   where
-    kept : (ds : List Cell) (t : Bool) → rising ds ≡ t → Found s ds → cond t (some ds) none ≡ some cs → Holds s cs
+    kept : (ds : List Cell) (t : Bool) → rising ds ≡ t → Found s ds → cond t (Some ds) None ≡ Some cs → Holds s cs
     kept ds true r g x = subst (Holds s) (some_inj x) (record { bytes = g.0; valid = record { allowed = g.1; rising = r } })
     kept ds false r g x = absurd (none_some x)
 
-    go : (o : Option (List Cell)) → cell_run (length s) s ≡ o → ordered o ≡ some cs → Holds s cs
-    go none q f = let z : ◌≡◌ {A = ℕ} 0 1 = cc in absurd (omega arith)
-    go (some ds) q f = kept ds (rising ds) refl (run_some (length s) s ds q) f
+    go : (o : Option (List Cell)) → cell_run (length s) s ≡ o → ordered o ≡ Some cs → Holds s cs
+    go None q f = let z : ◌≡◌ {A = ℕ} 0 1 = cc in absurd (omega arith)
+    go (Some ds) q f = kept ds (rising ds) refl (run_some (length s) s ds q) f

@@ -1,48 +1,37 @@
 -- The value of the cell at a place of the store.
-use Rattle.std.proofs.Common.{◌≡◌, ℕ, zero, suc, ◌+◌, ◌-◌, ◌*◌, ◌/◌, ◌%◌, ◌^◌, ◌<◌, ◌≤◌, Bool, true, false, cond, ltb, List, ◌++◌, length, get_or, take, drop, ℤ, pos, negsuc, ◌-ℤ◌, sym, refl, ap, ◌∙◌, ap₂, add-zero, arith, length-append, length-drop, get_or-drop, drop-drop, w64, SFits, to_z, of_z, ltb-false, ltb-true, le-ltb, lt-ltb, eq-eqb, ne_eqb}
-use mathlib.Core.Option.{Option, some}
+use Rattle.std.specs.Prelude.{Some, None}
+use mathlib.Core.Option as M
+use Rattle.std.proofs.Common.{◌≡◌, ℕ, suc, ◌+◌, ◌-◌, ◌*◌, ◌^◌, ◌<◌, ◌≤◌, Bool, true, false, cond, ltb, List, ◌++◌, length, get_or, take, drop, ℤ, pos, negsuc, sym, refl, ap, ◌∙◌, ap₂, add-zero, arith, length-append, length-drop, get_or-drop, drop-drop, w32, w64, SFits, to_z, of_z, ltb-false, ltb-true, le-ltb, lt-ltb, eq-eqb, ne_eqb}
 use mir.ValLaws.{to_z-of_z}
 use Rattle.meaning.specs.Answer.{integer, decimal, string, cell}
 use Rattle.cells.specs.declared.Answered.TheVariants.{Missing, Integer, Decimal, StringAt}
 use Rattle.cells.specs.Bytes.{quad_from, octet_at, from_complement, word_range, long_range}
 use Rattle.cells.specs.Cell.{Kind, integer_row, decimal_row, string_row, kinds, row_in, kind_byte, integer_kind, decimal_kind, Cell, cell_allowed, cell_bytes, cell_by, cell_of}
-use Rattle.cells.specs.Inner.Tests.{size_of}
+use Rattle.cells.specs.Inner.Tests.{size_of, kind_of}
 use Rattle.cells.specs.Asking.{meant}
 use Rattle.cells.specs.Inner.Index.{InStore, ValueAt, SizeAt}
-use Rattle.cells.proofs.CellForm.{first_byte, cell_reads, value_allowed_law, cell_size, known_kind, string_row_law, size_string, string_short}
+use Rattle.cells.proofs.CellForm.{first_byte, cell_reads, value_allowed_law, cell_size, known_kind, string_row_law, size_string, string_short, kind_none}
 use Rattle.cells.proofs.Runs.{some_inj}
 use Rattle.cells.proofs.Locating.{cell_least}
 use Rattle.cells.proofs.BigEndian.{quad_at, octet_at_law}
 
 -- ---- two's complement
 
-module _ (top n : ℕ) where
-  pub signed_low : n ≤ top / 2 → pos n ≡ from_complement (top + 1) n
-  unfolding from_complement
-  signed_low h = rw (lt-ltb (2 * n) (top + 1) (omega arith))
-
-  pub signed_high : n ≤ top → top / 2 < n → negsuc (top - n) ≡ from_complement (top + 1) n
-  unfolding from_complement
-  signed_high h k =
-      let d : top + 1 - suc n ≡ top - n = omega arith in
-      rw (le-ltb (2 * n) (top + 1) (omega arith), d)
-
-pub minus_one : (m : ℕ) → negsuc 0 -ℤ pos m ≡ negsuc m
-minus_one zero = refl
-minus_one (suc m) = ap negsuc (omega arith)
-
--- 32 bits, half of the width up and down again
-pub signed_around : (n : ℕ) → n < 4294967296 → pos ((n + 2147483648) % 4294967296) -ℤ pos 2147483648 ≡ from_complement 4294967296 n
+pub complement_quad : (n : ℕ) → n < 4294967296 → to_z w32 n ≡ from_complement 4294967296 n
 unfolding from_complement
-signed_around n h = go (ltb (2 * n) 4294967296) refl
+complement_quad n h = go (ltb (2 * n) 4294967296) refl
   where
-    go : (t : Bool) → ltb (2 * n) 4294967296 ≡ t → pos ((n + 2147483648) % 4294967296) -ℤ pos 2147483648 ≡ cond t (pos n) (negsuc (4294967296 - suc n))
-    go true e =
-        let l : 2 * n < 4294967296 = ltb-true _ _ e in
-        rw (le-ltb ((n + 2147483648) % 4294967296) 2147483648 (omega arith)) (ap pos (omega arith))
-    go false e =
-        let l : 4294967296 ≤ 2 * n = ltb-false _ _ e in
-        rw (lt-ltb ((n + 2147483648) % 4294967296) 2147483648 (omega arith)) (ap negsuc (omega arith))
+    go : (t : Bool) → ltb (2 * n) 4294967296 ≡ t → to_z w32 n ≡ cond t (pos n) (negsuc (4294967296 - suc n))
+    go true e = let l : 2 * n < 4294967296 = ltb-true _ _ e in rw (lt-ltb n (2 ^ 31) (omega arith))
+    go false e = let l : 4294967296 ≤ 2 * n = ltb-false _ _ e in rw (le-ltb n (2 ^ 31) (omega arith))
+
+pub complement_octet : (n : ℕ) → n < 18446744073709551616 → to_z w64 n ≡ from_complement 18446744073709551616 n
+unfolding from_complement
+complement_octet n h = go (ltb (2 * n) 18446744073709551616) refl
+  where
+    go : (t : Bool) → ltb (2 * n) 18446744073709551616 ≡ t → to_z w64 n ≡ cond t (pos n) (negsuc (18446744073709551616 - suc n))
+    go true e = let l : 2 * n < 18446744073709551616 = ltb-true _ _ e in rw (lt-ltb n (2 ^ 63) (omega arith))
+    go false e = let l : 18446744073709551616 ≤ 2 * n = ltb-false _ _ e in rw (le-ltb n (2 ^ 63) (omega arith))
 
 -- a number of two's complement in 64 bits is read back from its bits
 pub signed_fits : (top n : ℕ) → n ≤ top → top < 2 ^ 64 → SFits w64 (from_complement (top + 1) n)
@@ -70,10 +59,10 @@ module _ (b : List ℕ) (at : ℕ) where
         ap (λ (i : ℕ). get_or b i 0) (sym z) ∙ sym (get_or-drop at b 0 0) ∙ ap (λ (l : List ℕ). get_or l 0 0) e ∙ first_byte c rest
 
     -- the row of its kind reads its value
-    value_by : (k : Kind) → row_in kinds (get_or b at 0) ≡ some k → k.value (k.read (drop 8 (drop at b))) ≡ c.value
+    value_by : (k : Kind) → row_in kinds (get_or b at 0) ≡ M.some k → k.value (k.read (drop 8 (drop at b))) ≡ c.value
     unfolding cell_of cell_by
     value_by k f =
-        let w : cell_by (some k) (drop at b) ≡ some c = ap (λ (o : Option Kind). cell_by o (drop at b)) (sym f ∙ ap (row_in kinds) (sym kind_at)) ∙ ap cell_of e ∙ cell_reads c rest (value_allowed_law c a) in
+        let w : cell_by (M.some k) (drop at b) ≡ Some c = ap (λ (o : M.Option Kind). cell_by o (drop at b)) (sym f ∙ ap (row_in kinds) (sym kind_at)) ∙ ap cell_of e ∙ cell_reads c rest (value_allowed_law c a) in
         ap (λ (x : Cell). x.value) (some_inj w)
 
     has_room : at + size_of (get_or b at 0) ≤ length b
@@ -82,9 +71,9 @@ module _ (b : List ℕ) (at : ℕ) where
     known : 0 < size_of (get_or b at 0)
     known = rw kind_is (known_kind c.value)
 
-  pub value_past : length b ≤ at → ValueAt b at Missing
+  pub value_unknown : kind_of (get_or b at 0) ≡ None → ValueAt b at Missing
   unfolding InStore
-  value_past h = record { value = λ c r a e. absurd (omega (arith, has_room c r a e, known c r a e)); inside = λ c r a e. tt }
+  value_unknown h = record { value = λ c r a e. absurd (omega (arith, known c r a e, kind_none _ h)); inside = λ c r a e. tt }
 
   pub value_short : (room size : ℕ) → room ≡ length b - at → size ≡ size_of (get_or b at 0) → room < size → ValueAt b at Missing
   unfolding InStore
@@ -107,14 +96,6 @@ module _ (b : List ℕ) (at : ℕ) where
       }
 
   module _ (j : get_or b at 0 ≡ integer_kind → ⊥) (k : get_or b at 0 ≡ decimal_kind → ⊥) where
-    pub text_short : (room : ℕ) → room ≡ length b - at → room < 25 → ValueAt b at Missing
-    unfolding InStore
-    text_short room r h =
-        record {
-          value = λ c q a e. absurd (omega (arith, has_room c q a e, size_string _ j k (known c q a e)));
-          inside = λ c q a e. tt;
-        }
-
     pub value_text : (n : ℕ) → n ≡ get_or b (at + 8) 0 → ValueAt b at (StringAt (at + 9) n)
     unfolding meant InStore
     value_text n q =
@@ -133,5 +114,5 @@ module _ (b : List ℕ) (at : ℕ) where
   pub size_in : (r : ℕ) → r ≡ size_of (get_or b at 0) → SizeAt b at r
   size_in r s = record { size = λ c q a e. s ∙ ap size_of (kind_is c q a e) ∙ sym (cell_size c.key c.value (value_allowed_law c a)) }
 
-  pub size_past : length b ≤ at → SizeAt b at 0
-  size_past h = record { size = λ c q a e. absurd (omega (arith, has_room c q a e, known c q a e)) }
+  pub size_none : kind_of (get_or b at 0) ≡ None → SizeAt b at 0
+  size_none h = record { size = λ c q a e. absurd (omega (arith, known c q a e, kind_none _ h)) }

@@ -1,11 +1,9 @@
 -- The walk over a store: what it has read so far, and why a refusal is right.
+use Rattle.std.specs.Prelude.{Some, None, Option}
 use Rattle.std.proofs.Common.{◌≡◌, ℕ, suc, ◌+◌, ◌-◌, ◌<◌, ◌≤◌, Bool, true, false, cond, ◌&&◌, ltb, leb, List, [], ◌∷◌, ◌++◌, length, take, drop, set, sym, refl, ap, ◌∙◌, subst, ap₂, append_assoc, append-nil, add-zero, arith, length-append, length-drop, length-set, drop_of_length-le, take_all, drop-drop, ltb-true, lt-ltb, le-leb}
-use mathlib.Core.Option.{Option, none, some}
 use borrow.Author.Tests.{lt-leb}
 use lib.Seq.{sets}
 use Rattle.buffers.proofs.Laws.{sets_append}
-use Rattle.cells.specs.declared.index.Indexed.{Indexed}
-use Rattle.cells.specs.declared.index.Indexed.TheVariants.{Count, BadStore}
 use Rattle.cells.specs.Cell.{Cell, key_as_number, key_number, key_at, cell_allowed, cell_bytes, front}
 use Rattle.cells.specs.Inner.Tests.{size_found, front_size, Sized}
 use Rattle.cells.specs.Store.{encode, cells_allowed, above, rising, cells, cells_held}
@@ -91,7 +89,7 @@ behind (x ∷ xs) (c ∷ cs) r a b e =
     let p = and_true (cell_allowed x) (cells_allowed xs) a in
     let q = and_true (cell_allowed c) (cells_allowed cs) b in
     let f : cell_bytes c ++ encode cs ≡ cell_bytes x ++ (encode xs ++ r) = e ∙ append_assoc (cell_bytes x) (encode xs) r in
-    let s : some c ≡ some x = sym (front_cell c (encode cs) q.0) ∙ ap front f ∙ front_cell x (encode xs ++ r) p.0 in
+    let s : Some c ≡ Some x = sym (front_cell c (encode cs) q.0) ∙ ap front f ∙ front_cell x (encode xs ++ r) p.0 in
     let w : c ≡ x = cc in
     let g : cell_bytes x ++ encode cs ≡ cell_bytes x ++ (encode xs ++ r) = ap (λ (y : Cell). cell_bytes y ++ encode cs) (sym w) ∙ f in
     let h = behind xs cs r p.1 q.1 (append_same (cell_bytes x) g) in
@@ -99,11 +97,11 @@ behind (x ∷ xs) (c ∷ cs) r a b e =
 
 -- ---- the walk
 
-pub size_found_law : (s : List ℕ) (n : ℕ) (c : Cell) → n ≡ front_size s → front s ≡ some c → n ≡ length (cell_bytes c)
+pub size_found_law : (s : List ℕ) (n : ℕ) (c : Cell) → n ≡ front_size s → front s ≡ Some c → n ≡ length (cell_bytes c)
 unfolding front_size size_found
 size_found_law s n c h e = h ∙ ap size_found e
 
-pub size_none : (s : List ℕ) (n : ℕ) → n ≡ front_size s → front s ≡ none → n ≡ 0
+pub size_none : (s : List ℕ) (n : ℕ) → n ≡ front_size s → front s ≡ None → n ≡ 0
 unfolding front_size size_found
 size_none s n h e = h ∙ ap size_found e
 
@@ -140,12 +138,12 @@ walk_start bs starts =
 
 module _ (bs places₀ : List ℕ) (at count least : ℕ) (starts : List ℕ) (w : Walked bs places₀ at count least starts) where
   -- at the end
-  pub walk_end : length bs ≤ at → Indexes places₀ (cells bs) starts (Count count)
+  pub walk_end : length bs ≤ at → Indexes places₀ (cells bs) starts (Some count)
   unfolding counted Filled
   walk_end h =
       let e : bs ≡ encode w.read = w.bytes ∙ ap (λ (l : List ℕ). encode w.read ++ l) (drop_of_length-le bs h) ∙ append-nil (encode w.read) in
-      let f : cells bs ≡ some w.read = ap cells e ∙ cells_encode w.read w.valid in
-      rw f (record { told = ap Count w.tally; filled = w.index })
+      let f : cells bs ≡ Some w.read = ap cells e ∙ cells_encode w.read w.valid in
+      rw f (record { told = ap Some w.tally; filled = w.index })
 
   -- one cell more
   module _ (size key : ℕ) (c : Cell) (f : Front (drop at bs) c) (z : size ≡ length (cell_bytes c)) (m : key ≡ key_number c) (l : least ≤ key) (inside : size ≤ length (drop at bs)) where
@@ -187,7 +185,7 @@ module _ (bs places₀ : List ℕ) (at count least : ℕ) (starts : List ℕ) (w
 
   -- a refusal: no run of cells can go on like this
   module _ (more : at < length bs) where
-    none_held : ((c : Cell) (cs : List Cell) → front (drop at bs) ≡ some c → rising (w.read ++ (c ∷ cs)) ≡ true → drop at bs ≡ cell_bytes c ++ encode cs → ⊥) → cells bs ≡ none
+    none_held : ((c : Cell) (cs : List Cell) → front (drop at bs) ≡ Some c → rising (w.read ++ (c ∷ cs)) ≡ true → drop at bs ≡ cell_bytes c ++ encode cs → ⊥) → cells bs ≡ None
     unfolding encode cells_allowed
     none_held never = go (cells bs) refl
       where
@@ -197,14 +195,14 @@ module _ (bs places₀ : List ℕ) (at count least : ℕ) (starts : List ℕ) (w
             let t = and_true (cell_allowed c) (cells_allowed rest) a in
             never c rest (ap front (sym r) ∙ front_cell c (encode rest) t.0) (ap rising (sym q) ∙ h.valid.rising) (sym r)
 
-        go : (o : Option (List Cell)) → cells bs ≡ o → o ≡ none
-        go none e = refl
-        go (some cs) e =
+        go : (o : Option (List Cell)) → cells bs ≡ o → o ≡ None
+        go None e = refl
+        go (Some cs) e =
             let h = cells_some bs cs e in
             let b = behind w.read cs (drop at bs) w.valid.allowed h.valid.allowed (h.bytes ∙ w.bytes) in
             absurd (found cs h b.rest b.cells b.bytes b.allowed)
 
-    refused : cells bs ≡ none → (places' : List ℕ) → Indexes places₀ (cells bs) places' BadStore
+    refused : cells bs ≡ None → (places' : List ℕ) → Indexes places₀ (cells bs) places' None
     unfolding counted Filled
     refused e places' = rw e (record { told = refl; filled = tt })
 
@@ -216,25 +214,25 @@ module _ (bs places₀ : List ℕ) (at count least : ℕ) (starts : List ℕ) (w
       s : Sized (drop at bs) size
       s = subst (λ (x : List ℕ). Sized x size) whole cut
 
-      pub walk_no_cell : size < 1 → Indexes places₀ (cells bs) starts BadStore
+      pub walk_no_cell : size < 1 → Indexes places₀ (cells bs) starts None
       walk_no_cell h = refused (none_held (λ c cs e r b. no_size c e)) starts
         where
-          no_size : (c : Cell) → front (drop at bs) ≡ some c → ⊥
+          no_size : (c : Cell) → front (drop at bs) ≡ Some c → ⊥
           no_size c e = omega (arith, size_found_law (drop at bs) size c s.size e, cell_some c)
 
       module _ (key : ℕ) (k : key ≡ key_as_number (key_at (take (length bs - at) (drop at bs)) 1)) where
         key_of : (c : Cell) (r : List ℕ) → drop at bs ≡ cell_bytes c ++ r → key ≡ key_number c
         key_of c r b = k ∙ ap (λ (l : List ℕ). key_as_number (key_at l 1)) (whole ∙ b) ∙ ap key_as_number (cell_key c r)
 
-        pub walk_low_key : key < least → Indexes places₀ (cells bs) starts BadStore
+        pub walk_low_key : key < least → Indexes places₀ (cells bs) starts None
         walk_low_key h = refused (none_held (λ c cs e r b. omega (arith, w.next c cs r, key_of c (encode cs) b))) starts
 
         pub walk_more : 1 ≤ size → least ≤ key → (places' : List ℕ) → places' ≡ set starts count at → Walked bs places₀ (at + size) (count + 1) (key + 1) places'
         walk_more h l places' p = go (front (drop at bs)) refl
           where
             go : (o : Option Cell) → front (drop at bs) ≡ o → Walked bs places₀ (at + size) (count + 1) (key + 1) places'
-            go none e = absurd (omega (arith, size_none (drop at bs) size s.size e))
-            go (some c) e =
+            go None e = absurd (omega (arith, size_none (drop at bs) size s.size e))
+            go (Some c) e =
                 let f = front_some (drop at bs) c e in
                 let m : Walked bs places₀ (at + size) (count + 1) (key + 1) (set starts count at) =
                 one_more size key c f (size_found_law (drop at bs) size c s.size e) (key_of c (drop (length (cell_bytes c)) (drop at bs)) f.bytes) l s.inside h in
@@ -243,19 +241,19 @@ module _ (bs places₀ : List ℕ) (at count least : ℕ) (starts : List ℕ) (w
 -- ---- the store as a buffer and a length
 
 module _ (b : List ℕ) (n : ℕ) where
-  held_none : (starts places' : List ℕ) → cells_held b n ≡ none → Indexes starts (cells_held b n) places' BadStore
+  held_none : (starts places' : List ℕ) → cells_held b n ≡ None → Indexes starts (cells_held b n) places' None
   unfolding counted Filled
   held_none starts places' e = rw e (record { told = refl; filled = tt })
 
-  pub held_past : length b < n → cells_held b n ≡ none
+  pub held_past : length b < n → cells_held b n ≡ None
   unfolding cells_held
   held_past h = rw (lt-leb n (length b) h)
 
-  pub held_over : 65536 < n → cells_held b n ≡ none
+  pub held_over : 65536 < n → cells_held b n ≡ None
   unfolding cells_held
   held_over h = go (leb n (length b))
     where
-      go : (t : Bool) → cond (t && leb n 65536) (cells (take n b)) none ≡ none
+      go : (t : Bool) → cond (t && leb n 65536) (cells (take n b)) None ≡ None
       go true = rw (lt-leb n 65536 h)
       go false = refl
 
@@ -263,13 +261,13 @@ module _ (b : List ℕ) (n : ℕ) where
   unfolding cells_held
   held_cells h k = rw (le-leb n (length b) h, le-leb n 65536 k)
 
-  pub build_past : (starts : List ℕ) → length b < n → Indexes starts (cells_held b n) starts BadStore
+  pub build_past : (starts : List ℕ) → length b < n → Indexes starts (cells_held b n) starts None
   build_past starts h = held_none starts starts (held_past h)
 
-  pub build_over : (starts : List ℕ) → 65536 < n → Indexes starts (cells_held b n) starts BadStore
+  pub build_over : (starts : List ℕ) → 65536 < n → Indexes starts (cells_held b n) starts None
   build_over starts h = held_none starts starts (held_over h)
 
-  pub build_walk : (starts places' : List ℕ) (r : Indexed) → n ≤ length b → n ≤ 65536 → Indexes starts (cells (take (n - 0) b)) places' r → Indexes starts (cells_held b n) places' r
+  pub build_walk : (starts places' : List ℕ) (r : Option ℕ) → n ≤ length b → n ≤ 65536 → Indexes starts (cells (take (n - 0) b)) places' r → Indexes starts (cells_held b n) places' r
   build_walk starts places' r h k w =
       let z : n - 0 ≡ n = omega arith in
       subst (λ (o : Option (List Cell)). Indexes starts o places' r) (ap (λ (m : ℕ). cells (take m b)) z ∙ sym (held_cells h k)) w

@@ -1,6 +1,6 @@
 -- "A cell is one byte of kind, a 7-byte key, a value."
-use Rattle.std.specs.Prelude.{ℕ, ◌+◌, ◌-◌, ◌*◌, Bool, true, cond, ◌&&◌, List, [], ◌∷◌, ◌++◌, length, take, drop, replicate, ℤ, ◌==◌, nat_le, slice_index}
-use Rattle.std.proofs.Math.Option.{Option, none, some}
+use Rattle.std.specs.Prelude.{ℕ, ◌+◌, ◌-◌, ◌*◌, Bool, true, cond, ◌&&◌, List, [], ◌∷◌, ◌++◌, length, take, drop, replicate, ℤ, ◌==◌, nat_le, slice_index, Option, Some, None}
+use Rattle.std.proofs.Math.Option as M
 use Rattle.meaning.specs.Answer.{Value, integer, decimal, string}
 use Rattle.meaning.specs.Answer as A
 use Rattle.numbers.specs.declared.Quantity.TheVariants as Q
@@ -102,10 +102,10 @@ string_row =
 abbrev pub kinds : List Kind
 kinds = integer_row ∷ decimal_row ∷ string_row ∷ []
 
--- the row with a byte of kind
-abbrev pub row_in : List Kind → ℕ → Option Kind
-row_in [] b = none
-row_in (k ∷ ks) b = cond (b == k.byte) (some k) (row_in ks b)
+-- the row with a byte of kind; a row holds a type, so the logic's own option holds the row
+abbrev pub row_in : List Kind → ℕ → M.Option Kind
+row_in [] b = M.none
+row_in (k ∷ ks) b = cond (b == k.byte) (M.some k) (row_in ks b)
 
 -- a value, as what its row holds
 pub record Kinded : Type 1 where
@@ -156,9 +156,9 @@ cell_bytes c = kind_byte c.value ∷ (key_bytes c.key ++ value_bytes c.value)
 unfoldable pub key_at : List ℕ → ℕ → Key
 key_at s i = key_of (slice_index s i) (pair_at s (i + 1)) (pair_at s (i + 3)) (pair_at s (i + 5))
 
-unfoldable pub cell_by : Option Kind → List ℕ → Option Cell
-cell_by none s = none
-cell_by (some k) s = some (record { key = key_at s 1; value = k.value (k.read (drop 8 s)) })
+unfoldable pub cell_by : M.Option Kind → List ℕ → Option Cell
+cell_by M.none s = None
+cell_by (M.some k) s = Some (record { key = key_at s 1; value = k.value (k.read (drop 8 s)) })
 
 -- the cell that s holds by its byte of kind
 unfoldable pub cell_of : List ℕ → Option Cell
@@ -166,8 +166,8 @@ cell_of s = cell_by (row_in kinds (slice_index s 0)) s
 
 -- a cell within the limits whose bytes pass a test, or none
 unfoldable pub passing : (List ℕ → Bool) → Option Cell → Option Cell
-passing test none = none
-passing test (some c) = cond (cell_allowed c && test (cell_bytes c)) (some c) none
+passing test None = None
+passing test (Some c) = cond (cell_allowed c && test (cell_bytes c)) (Some c) None
 
 -- the cell within the limits whose bytes s begins with, or none
 unfoldable pub front : List ℕ → Option Cell
@@ -178,4 +178,4 @@ unfoldable pub whole_cell : List ℕ → Option Cell
 whole_cell s = passing (λ b. equal_bytes b s) (cell_of s)
 
 unfoldable pub whole_key : List ℕ → Option Key
-whole_key s = cond (key_allowed (key_at s 0) && equal_bytes (key_bytes (key_at s 0)) s) (some (key_at s 0)) none
+whole_key s = cond (key_allowed (key_at s 0) && equal_bytes (key_bytes (key_at s 0)) s) (Some (key_at s 0)) None

@@ -1,6 +1,5 @@
 -- Small stores, read and asked by the definitions.
-use Rattle.std.specs.Prelude.{◌≡◌, ℕ, true, List, [], ◌∷◌, ◌++◌, replicate, pos, negsuc, refl}
-use Rattle.std.proofs.Math.Option.{none, some}
+use Rattle.std.specs.Prelude.{◌≡◌, ℕ, true, List, [], ◌∷◌, ◌++◌, replicate, pos, negsuc, refl, Some, None}
 use Rattle.meaning.specs.Answer.{Value, integer, decimal, string, missing, cell, highest}
 use Rattle.meaning.specs.declared.question.Question.{Question}
 use Rattle.numbers.specs.Range.{within}
@@ -32,16 +31,16 @@ sample_bytes =
 abbrev Rows : Type 0
 Rows =
     (encode sample ≡ sample_bytes)
-    × (cells sample_bytes ≡ some sample)
-    × (cells [] ≡ some [])
+    × (cells sample_bytes ≡ Some sample)
+    × (cells [] ≡ Some [])
     -- a cell cut short, an unknown kind, keys that do not rise
-    × (cells (73 ∷ 1 ∷ 0 ∷ 1 ∷ 0 ∷ 0 ∷ 0 ∷ 0 ∷ 0 ∷ 0 ∷ 0 ∷ []) ≡ none)
-    × (cells (74 ∷ 1 ∷ 0 ∷ 1 ∷ 0 ∷ 0 ∷ 0 ∷ 0 ∷ 0 ∷ 0 ∷ 0 ∷ 0 ∷ []) ≡ none)
-    × (cells (encode (cell_with (key_of 1 2 0 0) (integer (pos 0)) ∷ cell_with (key_of 1 1 0 0) (integer (pos 0)) ∷ [])) ≡ none)
+    × (cells (73 ∷ 1 ∷ 0 ∷ 1 ∷ 0 ∷ 0 ∷ 0 ∷ 0 ∷ 0 ∷ 0 ∷ 0 ∷ []) ≡ None)
+    × (cells (74 ∷ 1 ∷ 0 ∷ 1 ∷ 0 ∷ 0 ∷ 0 ∷ 0 ∷ 0 ∷ 0 ∷ 0 ∷ 0 ∷ []) ≡ None)
+    × (cells (encode (cell_with (key_of 1 2 0 0) (integer (pos 0)) ∷ cell_with (key_of 1 1 0 0) (integer (pos 0)) ∷ [])) ≡ None)
     -- datasource 36, 2,000,000,001, a byte behind the string that isn't zero
-    × (front (cell_bytes (cell_with (key_of 36 1 0 0) (integer (pos 0)))) ≡ none)
-    × (front (cell_bytes (cell_with (key_of 1 1 0 0) (integer (pos 2000000001)))) ≡ none)
-    × (front (83 ∷ 1 ∷ 0 ∷ 1 ∷ 0 ∷ 0 ∷ 0 ∷ 0 ∷ 0 ∷ 65 ∷ replicate 15 0) ≡ none)
+    × (front (cell_bytes (cell_with (key_of 36 1 0 0) (integer (pos 0)))) ≡ None)
+    × (front (cell_bytes (cell_with (key_of 1 1 0 0) (integer (pos 2000000001)))) ≡ None)
+    × (front (83 ∷ 1 ∷ 0 ∷ 1 ∷ 0 ∷ 0 ∷ 0 ∷ 0 ∷ 0 ∷ 65 ∷ replicate 15 0) ≡ None)
     -- the three kinds of question
     × (answer (question_by 1 1 258 7 0) sample ≡ cell (string (67 ∷ 115 ∷ [])))
     × (answer (question_by 1 1 258 7 1) sample ≡ missing)
@@ -50,7 +49,7 @@ Rows =
     × (answer (question_by 3 1 258 3 0) sample ≡ highest 4)
     × (question_allowed (question_by 2 1 258 0 0) ≡ true)
     -- "Cs" stands behind the 12 bytes of the integer's cell and 9 bytes of its own
-    × (string_start (question_by 1 1 258 7 0) (some sample) ≡ 21)
+    × (string_start (question_by 1 1 258 7 0) (Some sample) ≡ 21)
 
 -- The rows hold.
 pub rows : Rows

@@ -3,7 +3,8 @@ ghost use Rattle.std.specs.Prelude.{◌≡◌, ◌+◌, ◌/◌, ◌<◌, ◌≤
 ghost use Rattle.cells.specs.Cell.{key_as_number, key_at};
 ghost use Rattle.cells.specs.Inner.Index.{Position, LowerAt, SizeAt, below_of, bound_of};
 
-use crate::{bytes, form};
+use crate::bytes;
+use crate::form::ValueKind;
 
 // So many keys have 7 bytes: 2^56.
 const KEYS: u64 = 72057594037927936;
@@ -18,16 +19,10 @@ const HIGHEST_BIT: u64 = 9223372036854775808;
 pub fn place_of(starts: &[u16], i: usize) -> usize
     ensures { result ≡ slice_index starts.now i }
 {
-    if i < starts.len() {
-        return wide_place(starts[i]);
+    match starts.get(i) {
+        Some(&place) => usize::from(place),
+        None => 0,
     }
-    0
-}
-
-fn wide_place(place: u16) -> usize
-    ensures { result ≡ place }
-{
-    place as usize
 }
 
 // The key of the cell at a place with the byte behind it, as one number: eight bytes are one load, seven are not. 0 where
@@ -35,28 +30,18 @@ fn wide_place(place: u16) -> usize
 pub fn key_and_byte(store: &[u8], at: usize) -> u64
     ensures { at + 9 ≤ length store.now → result / 256 ≡ key_as_number (key_at store.now (at + 1)) }
 {
-    let n = store.len();
-    if n < 9 {
-        return 0;
-    }
-    if n - 9 < at {
+    if store.len() < 9 || store.len() - 9 < at {
         return 0;
     }
     bytes::octet(store, at + 1)
 }
 
-// Whether the cell at a place has a key.
+// Whether the cell at a place has a key. It compares, for the reason at `lower_at`.
 pub fn has_key(store: &[u8], at: usize, key: u64) -> bool
     ensures { at + 9 ≤ length store.now → result ≡ (key_as_number (key_at store.now (at + 1)) == key) }
 {
     let found = key_and_byte(store, at);
-    if KEYS <= key {
-        return false;
-    }
-    if found < key * 256 {
-        return false;
-    }
-    found <= key * 256 + 255
+    key < KEYS && (key * 256..=key * 256 + 255).contains(&found)
 }
 
 // 1 where a number is below another, else 0, for numbers below 2^63. It has no branch, which a search would mostly
@@ -68,16 +53,15 @@ fn below(a: u64, b: u64) -> usize
 }
 
 // What a key with the byte behind it is compared with.
+#[tactic(auto, unfolding(crate::specs::Inner::Index::bound_of))]
 fn bound_of(key: u64) -> u64
     ensures { result ≡ bound_of key }
 {
-    if key < KEYS_ALLOWED {
-        return key * 256;
-    }
-    KEYS_ALLOWED * 256
+    key.min(KEYS_ALLOWED) * 256
 }
 
-// The first cell whose key is not below a number, by halving; the count where there is none.
+// The first cell whose key is not below a number, by halving; the count where there is none. It steps by `below`, and not by the
+// library's `partition_point`, so that no step branches on a key.
 pub fn position(store: &[u8], starts: &[u16], count: usize, key: u64) -> usize
     ensures { Position store.now starts.now count key result }
 {
@@ -89,7 +73,7 @@ pub fn position(store: &[u8], starts: &[u16], count: usize, key: u64) -> usize
     let mut size = count;
     while 0 < size {
         let half = size - size / 2;
-        let at = wide_place(starts[low + half - 1]);
+        let at = usize::from(starts[low + half - 1]);
         low += half * below(key_and_byte(store, at), bound);
         size -= half;
     }
@@ -102,7 +86,7 @@ fn lower_at(store: &[u8], starts: &[u16], bound: u64, i: usize) -> usize
     requires { i < length starts.now }
     ensures { LowerAt store.now starts.now bound i result }
 {
-    let at = wide_place(starts[i]);
+    let at = usize::from(starts[i]);
     if key_and_byte(store, at) < bound {
         return 1;
     }
@@ -140,8 +124,8 @@ pub fn near(store: &[u8], starts: &[u16], count: usize, key: u64, hint: usize) -
 pub fn size_at(store: &[u8], at: usize) -> usize
     ensures { SizeAt store.now at result }
 {
-    if at < store.len() {
-        return form::size_of(store[at]);
+    match ValueKind::at(store, at) {
+        Some(kind) => kind.size(),
+        None => 0,
     }
-    0
 }

@@ -5,58 +5,46 @@ ghost use Rattle.cells.specs.Inner.Index.{Indexes};
 
 use crate::{bytes, form};
 
-// What the walk found: so many cells, or a store out of form.
-#[derive(Clone, Copy)]
-pub enum Indexed {
-    Count(usize),
-    BadStore,
-}
-
 // Writes down a place, where the list has room for it.
+// An index is tested: the proof of a `get_mut` didn't close.
 fn note(starts: &mut [u16], count: usize, at: usize)
     requires { at < 65536 }
     ensures { starts.new ≡ slice_set starts.old count at }
 {
     if count < starts.len() {
         starts[count] = at as u16;
-        return;
     }
 }
 
-fn walk(run: &[u8], starts: &mut [u16]) -> Indexed
+fn walk(run: &[u8], starts: &mut [u16]) -> Option<usize>
     requires { length run.now ≤ 65536 }
     ensures { Indexes starts.old (cells run.now) starts.new result }
 {
     let mut at = 0;
     let mut count = 0;
     let mut least: u64 = 0;
+    // Each cell's own bytes say where the next begins: no iterator of slices steps so.
     while at < run.len() {
         let rest = &run[at..];
-        let size = form::cell_size(rest);
-        if size < 1 {
-            return Indexed::BadStore;
-        }
+        let size = form::cell_size(rest)?;
         let key = bytes::key_number(rest, 1);
         if key < least {
-            return Indexed::BadStore;
+            return None;
         }
         note(starts, count, at);
         least = key + 1;
         at += size;
         count += 1;
     }
-    Indexed::Count(count)
+    Some(count)
 }
 
 // Checks the form of a store, a buffer and a length, and writes down where each cell begins.
-pub fn build(store: &[u8], len: usize, starts: &mut [u16]) -> Indexed
+pub fn build(store: &[u8], len: usize, starts: &mut [u16]) -> Option<usize>
     ensures { Indexes starts.old (cells_held store.now len) starts.new result }
 {
-    if store.len() < len {
-        return Indexed::BadStore;
-    }
-    if 65536 < len {
-        return Indexed::BadStore;
+    if store.len() < len || 65536 < len {
+        return None;
     }
     walk(&store[0..len], starts)
 }

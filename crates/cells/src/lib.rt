@@ -16,9 +16,8 @@ mod value; // value.rt: the parts of a cell
 pub mod index; // index.rt: the walk over a store
 
 ghost use Rattle.std.specs.Prelude.{◌≡◌};
-ghost use Rattle.cells.specs.Asking.{asked_of};
+ghost use Rattle.cells.specs.Asking.{asked_as, asked_of};
 
-use index::Indexed;
 use meaning::end::{Ended, Halt};
 use meaning::question::Question;
 use meaning::refusal::Refusal;
@@ -33,32 +32,38 @@ pub enum Answered {
     Highest(u32),
 }
 
+// An end and no Result: the line that a refusal names is promised too, 0 for each of them.
 #[derive(Clone, Copy)]
 pub struct Asked {
     pub end: Ended,
     pub answer: Answered,
 }
 
+// The answer to a question, or how the question is refused. 1, then 15
+fn answer_of(store: &[u8], len: usize, question: Question) -> Result<Answered, Refusal>
+    ensures { asked_as result ≡ asked_of store.now len question }
+{
+    let mut starts = [0u16; 5461];
+    let count = index::build(store, len, &mut starts).ok_or(Refusal::BadStore)?;
+    if !question::allowed(question) {
+        return Err(Refusal::BadRequest);
+    }
+    Ok(question::answer(store, &starts, count, question))
+}
+
 // "Ask answers one question." 1 and 15 are refused, and answer missing.
+#[tactic(auto, unfolding(crate::specs::Asking::asked_as))]
 pub fn ask(store: &[u8], len: usize, question: Question) -> Asked
     ensures { result ≡ asked_of store.now len question }
 {
-    let mut starts = [0u16; 5461];
-    let Indexed::Count(count) = index::build(store, len, &mut starts) else {
-        return Asked {
-            end: Ended::Halted(Halt::Refused(Refusal::BadStore), 0),
+    match answer_of(store, len, question) {
+        Ok(answer) => Asked {
+            end: Ended::Finished,
+            answer,
+        },
+        Err(refusal) => Asked {
+            end: Ended::Halted(Halt::Refused(refusal), 0),
             answer: Answered::Missing,
-        };
-    };
-    if !question::allowed(question) {
-        return Asked {
-            end: Ended::Halted(Halt::Refused(Refusal::BadRequest), 0),
-            answer: Answered::Missing,
-        };
-    }
-    let answer = question::answer(store, &starts, count, question);
-    Asked {
-        end: Ended::Finished,
-        answer: answer,
+        },
     }
 }

@@ -2,45 +2,34 @@
 ghost use Rattle.std.specs.Prelude.{◌≡◌, ◌+◌, ◌<◌, ◌≤◌, true};
 ghost use Rattle.cells.specs.Cell.{key_of, key_as_number, key_allowed};
 ghost use Rattle.cells.specs.Asking.{question_allowed};
+ghost use Rattle.cells.specs.Inner.Tests.{unused_zero};
 ghost use Rattle.cells.specs.Inner.Index.{CellAnswer, Highest, Answers, reach_of, offset_of};
 
 use crate::{Answered, find, form, value};
 use meaning::question::Question;
 
-fn wide(n: u32) -> u64
-    ensures { result ≡ n }
+// "Unused numbers are 0."
+#[tactic(auto, unfolding(crate::specs::Inner::Tests::unused_zero))]
+fn unused_zero(question: Question) -> bool
+    ensures { result ≡ unused_zero question }
 {
-    n as u64
+    match question.kind {
+        1 => true,
+        2 => question.record == 0 && question.entry == 0,
+        3 => question.entry == 0,
+        _ => false,
+    }
 }
 
-// "Unused numbers are 0."
 pub fn allowed(question: Question) -> bool
     ensures { result ≡ question_allowed question }
 {
-    let kind = question.kind;
-    let r = question.record;
-    let e = question.entry;
-    if !form::within_limits(
-        wide(question.datasource),
-        wide(question.parameter),
-        wide(r),
-        wide(e),
-    ) {
-        return false;
-    }
-    if kind == 1 {
-        return true;
-    }
-    if kind == 2 {
-        if 0 < r {
-            return false;
-        }
-        return e == 0;
-    }
-    if kind == 3 {
-        return e == 0;
-    }
-    false
+    form::within_limits(
+        u64::from(question.datasource),
+        u64::from(question.parameter),
+        u64::from(question.record),
+        u64::from(question.entry),
+    ) && unused_zero(question)
 }
 
 // A key within the limits as one number.
@@ -48,8 +37,8 @@ fn number_of(datasource: u32, parameter: u32, record_number: u32, entry: u32) ->
     requires { key_allowed (key_of datasource parameter record_number entry) ≡ true }
     ensures { (result ≡ key_as_number (key_of datasource parameter record_number entry)) × (result < 72057594037927936) }
 {
-    let d = wide(datasource) * 65536 + wide(parameter);
-    (d * 65536 + wide(record_number)) * 65536 + wide(entry)
+    let d = u64::from(datasource) * 65536 + u64::from(parameter);
+    (d * 65536 + u64::from(record_number)) * 65536 + u64::from(entry)
 }
 
 // An answer, and the position where its search ended: a hint for the next.
@@ -64,41 +53,29 @@ fn cell_answer(store: &[u8], starts: &[u16], count: usize, key: u64, hint: usize
     ensures { CellAnswer store.now starts.now count key result.answer }
 {
     let position = find::near(store, starts, count, key, hint);
-    if count <= position {
-        return Near {
-            answer: Answered::Missing,
-            position,
-        };
-    }
     let at = find::place_of(starts, position);
-    if find::has_key(store, at, key) {
-        let answer = value::value_at(store, at);
-        return Near { answer, position };
-    }
-    Near {
-        answer: Answered::Missing,
-        position,
-    }
+    let answer = if position < count && find::has_key(store, at, key) {
+        value::value_at(store, at)
+    } else {
+        Answered::Missing
+    };
+    Near { answer, position }
 }
 
-// The keys of a parameter reach so far for kind 2, those of a record for kind 3.
+// A kind is a number, since C hands in any. The keys of a parameter reach so far for kind 2, those of a record for kind 3.
+#[tactic(auto, unfolding(crate::specs::Inner::Index::reach_of))]
 fn reach_of(kind: u32) -> u64
     ensures { result ≡ reach_of kind }
 {
-    if kind == 2 {
-        return 4294967296;
-    }
-    65536
+    if kind == 2 { 4294967296 } else { 65536 }
 }
 
 // Where the record number or the entry number stands in a cell.
+#[tactic(auto, unfolding(crate::specs::Inner::Index::offset_of))]
 fn offset_of(kind: u32) -> usize
     ensures { result ≡ offset_of kind }
 {
-    if kind == 2 {
-        return 4;
-    }
-    6
+    if kind == 2 { 4 } else { 6 }
 }
 
 // Kinds 2 and 3: the number at an offset in the last of the cells whose keys lie from `low` up to `end`, 0 if there is none.

@@ -4,39 +4,23 @@ ghost use Rattle.cells.specs.Inner.Request.{CellAsked, KeyAsked};
 
 use crate::{bytes, form};
 
-// The key of a request as one number, or a request out of form.
-#[derive(Clone, Copy)]
-pub enum Request {
-    Key(u64),
-    Bad,
-}
-
 // Whether these bytes are one cell in form, and its key.
-pub fn cell_request(cell: &[u8]) -> Request
+pub fn cell_request(cell: &[u8]) -> Option<u64>
     ensures { CellAsked cell.now (whole_cell cell.now) result }
 {
-    let size = form::cell_size(cell);
-    if size < 1 {
-        return Request::Bad;
-    }
+    let size = form::cell_size(cell)?;
     if size < cell.len() {
-        return Request::Bad;
+        return None;
     }
-    Request::Key(bytes::key_number(cell, 1))
+    Some(bytes::key_number(cell, 1))
 }
 
 // Whether these bytes are one key in form.
-pub fn key_request(key: &[u8]) -> Request
+pub fn key_request(key: &[u8]) -> Option<u64>
     ensures { KeyAsked (whole_key key.now) result }
 {
-    if key.len() < 7 {
-        return Request::Bad;
+    if key.len() == 7 && form::key_allowed(key, 0) {
+        return Some(bytes::key_number(key, 0));
     }
-    if 7 < key.len() {
-        return Request::Bad;
-    }
-    if !form::key_allowed(key, 0) {
-        return Request::Bad;
-    }
-    Request::Key(bytes::key_number(key, 0))
+    None
 }

@@ -1,10 +1,12 @@
 -- Strings as the rows and lengths of SV1 to SV99: one law for each return of the code.
+use Rattle.std.specs.Prelude.{Result, Ok}
 use mathlib.Core.Path.{◌≡◌, refl, sym, ap, ◌∙◌}
 use mathlib.Core.Bool.{Bool, true, false}
 use mathlib.Core.List.{List, [], ◌∷◌}
 use Prim.Native.Nat.{ℕ, zero, suc, ◌+◌, ◌-◌, ◌≤◌, ◌<◌, min}
 use native.Mathlib.Omega.{arith}
-use native.Mathlib.Nat.{le_antisymm}
+use borrow.Author.Tests.{leb-true, leb-false}
+use lib.Dec.{leb}
 use lib.ListN.{length, take, drop, get_or, set, length-set, length-take}
 use lib.Seq.{sets, sets-eq, take_all, take_at, length-take-le}
 use Rattle.values.specs.Inner.Registers.{Puts}
@@ -18,22 +20,12 @@ use Rattle.values.proofs.Texts.{text_is, length_cased}
 use Rattle.values.specs.Inner.State.{texts, bank, lengths_in}
 use Rattle.values.specs.declared.worth.Worth.{Worth}
 use Rattle.values.proofs.Keeping.{strings_kept}
-use Rattle.commands.specs.declared.settle.Assigned.TheVariants as Ve
-use Rattle.commands.specs.declared.settle.Phrase.{Phrase}
-use Rattle.commands.specs.declared.settle.Phrase.TheVariants.{String, NoString}
 use Rattle.commands.specs.Setting.{as_variable, string_new}
-use Rattle.commands.specs.Settling.{settled}
 use Rattle.commands.specs.Inner.Taking.{TakesText}
 use Rattle.commands.specs.Inner.Assigning.{Rowed, PutsString, StoresString}
 use Rattle.values.proofs.Puts.{put_none, put_in, put_past}
 
 -- ---- a copy of at most 16 bytes
-
--- The loop stands at j: so many bytes lie in the row.
-pub record Copied (s : List ℕ) (u : Bool) (row : List ℕ) (j : ℕ) : Type 0 where
-  pub row_is : row ≡ sets zeros 0 (take j (cased u s))
-  pub most : j ≤ 16
-  pub few : j ≤ length s
 
 get_or_cased : (u : Bool) (s : List ℕ) (j : ℕ) → j < length s → get_or (cased u s) j 0 ≡ letter u (get_or s j 0)
 unfolding cased
@@ -42,29 +34,24 @@ get_or_cased true (b ∷ s) zero h = refl
 get_or_cased true (b ∷ s) (suc j) h = get_or_cased true s j (omega arith)
 get_or_cased false s j h = refl
 
-module _ (s : List ℕ) (u : Bool) where
-  pub copy_start : Copied s u zeros 0
-  copy_start = record { row_is = refl; most = omega arith; few = omega arith }
+module _ (s : List ℕ) (u : Bool) (row : List ℕ) (j : ℕ) (h : row ≡ sets zeros 0 (take j (cased u s))) where
+  -- a byte more, and all
+  pub copy_next : j < length (take 16 s) → (b : ℕ) → b ≡ letter u (get_or s j 0) → set row j b ≡ sets zeros 0 (take (j + 1) (cased u s))
+  copy_next k b e =
+      let z : 0 + j ≡ j = omega arith in
+      let l : j < length s = omega (arith, length-take 16 s) in
+      rw (e, ← (get_or_cased u s j l)) (rw z at (copied_more row zeros (cased u s) 0 j h 0 (omega (arith, length_cased u s))))
 
-  module _ (row : List ℕ) (j : ℕ) (h : Copied s u row j) where
-    pub copy_next : j < 16 → j < length s → (b : ℕ) → b ≡ letter u (get_or s j 0) → Copied s u (set row j b) (j + 1)
-    copy_next k l b e = record {
-      row_is = let z : 0 + j ≡ j = omega arith in rw (e, ← (get_or_cased u s j l)) (rw z at (copied_more row zeros (cased u s) 0 j h.row_is 0 (omega (arith, length_cased u s))));
-      most = omega arith;
-      few = omega arith;
-    }
-
-    pub copy_short : length s ≤ j → row ≡ sets zeros 0 (take 16 (cased u s))
-    copy_short l = h.row_is ∙ ap (sets zeros 0) (take_all j (cased u s) (omega (arith, length_cased u s)) ∙ sym (take_all 16 (cased u s) (omega (arith, length_cased u s, h.few, h.most))))
-
-    pub copy_full : 16 ≤ j → row ≡ sets zeros 0 (take 16 (cased u s))
-    copy_full l = h.row_is ∙ ap (λ (i : ℕ). sets zeros 0 (take i (cased u s))) (le_antisymm h.most l)
-
-pub count_short : (s : List ℕ) → length s < 16 → length s ≡ length (take 16 s)
-count_short s h = ap length (sym (take_all 16 s (omega arith)))
-
-pub count_full : (s : List ℕ) → 16 ≤ length s → 16 ≡ length (take 16 s)
-count_full s h = sym (length-take-le 16 s h)
+  pub copy_all : j ≡ length (take 16 s) → row ≡ sets zeros 0 (take 16 (cased u s))
+  copy_all e = h ∙ ap (sets zeros 0) (same_front (leb 16 (length s)) refl)
+    where
+      same_front : (t : Bool) → leb 16 (length s) ≡ t → take j (cased u s) ≡ take 16 (cased u s)
+      same_front true q =
+          let l : j ≡ 16 = omega (arith, e, length-take-le 16 s (leb-true 16 (length s) q)) in
+          ap (λ (n : ℕ). take n (cased u s)) l
+      same_front false q =
+          let l : length (cased u s) ≤ j = omega (arith, e, length_cased u s, length-take 16 s, leb-false 16 (length s) q) in
+          take_all j (cased u s) l ∙ sym (take_all 16 (cased u s) (omega (arith, length_cased u s, leb-false 16 (length s) q)))
 
 take_most : (n : ℕ) (l : List ℕ) → length (take n l) ≤ n
 take_most zero l = omega arith
@@ -105,19 +92,15 @@ module _ (rows : List (List ℕ)) (words : List ℕ) (n : ℕ) (row : List ℕ) 
 
 -- ---- a value in hand
 
-module _ (line store : List ℕ) (rows : List (List ℕ)) (words : List ℕ) (n : ℕ) (w : Worth) (k : Rowed rows) (phrase : Phrase) (d : TakesText w phrase) where
+module _ (line store : List ℕ) (rows : List (List ℕ)) (words : List ℕ) (n : ℕ) (w : Worth) (k : Rowed rows) (phrase : Result Text Refusal) (d : TakesText w phrase) where
   abbrev Here : Strings
   Here = strings line store rows
 
-  pub string_refused : (e : Refusal) → phrase ≡ NoString e → StoresString line store rows words n w rows words (Ve.Refused e)
-  unfolding as_variable string_new
-  string_refused e h = record { same = rw (← (d.same Here), h); held = k; above = λ i k g. refl }
-
-  module _ (t : Text) (h : phrase ≡ String t) (row found : List ℕ) (r : row ≡ row_for rows t.source) (f : found ≡ take t.count (drop t.at (chosen line store row t.source))) where
-    pub string_stored : (copy : List ℕ) (count : ℕ) → copy ≡ sets zeros 0 (take 16 (cased t.upper found)) → count ≡ length (take 16 found) → (rows' : List (List ℕ)) (words' : List ℕ) → PutsString rows words n (take count copy) rows' words' → StoresString line store rows words n w rows' words' Ve.Passed
+  module _ (t : Text) (h : phrase ≡ Ok t) (row found : List ℕ) (r : row ≡ row_for rows t.source) (f : found ≡ take t.count (drop t.at (chosen line store row t.source))) where
+    pub string_stored : (copy : List ℕ) (count : ℕ) → copy ≡ sets zeros 0 (take 16 (cased t.upper found)) → count ≡ length (take 16 found) → (rows' : List (List ℕ)) (words' : List ℕ) → PutsString rows words n (take count copy) rows' words' → StoresString line store rows words n w rows' words' (Ok tt)
     unfolding as_variable string_new
     string_stored copy count e l rows' words' p = record {
-      same = rw (← (d.same Here), h) (ap settled (sym (p.put ∙ ap (λ (s : List ℕ). set_numbered (texts rows 0 (lengths_in words)) n s) (copy_is found t.upper copy count e l ∙ ap (take 16) (text_is Here t row found r f)))));
+      same = rw (← (d.same Here), h) (ap Ok (sym (p.put ∙ ap (λ (s : List ℕ). set_numbered (texts rows 0 (lengths_in words)) n s) (copy_is found t.upper copy count e l ∙ ap (take 16) (text_is Here t row found r f)))));
       held = p.held;
       above = p.above;
     }

@@ -1,4 +1,3 @@
-pub mod Settles
 pub mod Sets
 pub mod Copying
 pub mod Tests

@@ -1,4 +1,5 @@
 -- Tables: one law for each return of the code.
+use Rattle.std.specs.Prelude.{Result, Ok, Err}
 use mathlib.Core.Path.{◌≡◌, refl, sym, ap, ◌∙◌}
 use mathlib.Core.Bool.{Bool, true, false, ◌||◌, false≢true}
 use mathlib.Core.List.{List, [], ◌∷◌}
@@ -15,9 +16,6 @@ use Rattle.meaning.specs.declared.refusal.Refusal.{Refusal}
 use Rattle.meaning.specs.declared.refusal.Refusal.TheVariants.{OutOfRange}
 use Rattle.commands.specs.declared.table.Table.{Table}
 use Rattle.values.specs.Inner.State.{bank, tables_in}
-use Rattle.commands.specs.declared.settle.Judged.TheVariants as J
-use Rattle.commands.specs.declared.settle.Taken.{Taken}
-use Rattle.commands.specs.declared.settle.Taken.TheVariants.{Value, Refused}
 use Rattle.commands.specs.Looping.{loop, new_table, begun, no_table, innermost, exceeds, counted_to, counting, counted}
 use Rattle.commands.specs.Inner.Open.{table_in, opened, open_of, AtMostOpen, Stays, Pushes, BeginsTable, EndsTable}
 
@@ -201,34 +199,28 @@ some_open words zero z f x i k c j g y l n = absurd (by (ltb 2000000000 c) (sym 
 
 -- ---- $BT and $ET with their value
 
-module _ (t : Taken) (words : List ℕ) (d : ℕ) where
+module _ (t : Result ℤ Refusal) (words : List ℕ) (d : ℕ) where
   module _ (start next : ℕ) where
-    pub begin_refused : (e : Refusal) → t ≡ Refused e → BeginsTable t start next words d words (J.Refused e)
-    begin_refused e h = record { same = rw h; rest = refl; stays = stays_all words }
-
-    module _ (z : ℤ) (h : t ≡ Value z) (b : Bool) (e : b ≡ lt_z z (pos 1)) where
-      pub begin_skips : b ≡ true → BeginsTable t start next words d words (J.Holds false)
+    module _ (z : ℤ) (h : t ≡ Ok z) (b : Bool) (e : b ≡ lt_z z (pos 1)) where
+      pub begin_skips : b ≡ true → BeginsTable t start next words d words (Ok false)
       unfolding begun
       begin_skips f = record { same = rw (h, ← e, f); rest = refl; stays = stays_all words }
 
-      pub begin_opens : b ≡ false → (n : ℕ) → n ≡ nat_abs z → (words' : List ℕ) → Pushes words d (new_table n start next) words' → BeginsTable t start next words d words' (J.Holds true)
+      pub begin_opens : b ≡ false → (n : ℕ) → n ≡ nat_abs z → (words' : List ℕ) → Pushes words d (new_table n start next) words' → BeginsTable t start next words d words' (Ok true)
       unfolding begun
       begin_opens f n j words' p = record { same = rw (h, ← e, f, ← j, p.more); rest = p.rest; stays = p.stays }
 
-  pub end_refused : (e : Refusal) → t ≡ Refused e → EndsTable t words d words (J.Refused e)
-  end_refused e h = record { same = rw h; stays = stays_all words }
-
-  module _ (z : ℤ) (h : t ≡ Value z) (b : Bool) (e : b ≡ lt_z z (pos 1)) where
-    pub end_low : b ≡ true → EndsTable t words d words (J.Refused OutOfRange)
+  module _ (z : ℤ) (h : t ≡ Ok z) (b : Bool) (e : b ≡ lt_z z (pos 1)) where
+    pub end_low : b ≡ true → EndsTable t words d words (Err OutOfRange)
     unfolding counted
     end_low f = record { same = rw (h, ← e, f); stays = stays_all words }
 
     module _ (f : b ≡ false) (x : Table) (i : x ≡ innermost (open_of words d)) (k c : ℕ) (j : k ≡ nat_abs z) (g : c ≡ x.counter + k) (y : Bool) (l : y ≡ exceeds c x.last) where
-      pub end_over : y ≡ true → EndsTable t words d words (J.Holds false)
+      pub end_over : y ≡ true → EndsTable t words d words (Ok false)
       unfolding counted counting
       end_over n = record { same = rw (h, ← e, f, ← i, ← j, ← g, ← l, n, rest_is (tables_in words) d); stays = stays_all words }
 
-      pub end_again : y ≡ false → (r : ℕ) → r ≡ d - 1 → (u : Table) → u ≡ counted_to x c → (words' : List ℕ) → Pushes words r u words' → EndsTable t words d words' (J.Holds true)
+      pub end_again : y ≡ false → (r : ℕ) → r ≡ d - 1 → (u : Table) → u ≡ counted_to x c → (words' : List ℕ) → Pushes words r u words' → EndsTable t words d words' (Ok true)
       unfolding counted counting
       end_again n r m u o words' p =
           let q : r + 1 ≡ d = omega (arith, m, some_open words d z (sym e ∙ f) x i k c j g y l n) in

@@ -1,15 +1,13 @@
 -- $BT and $ET.
-use Rattle.std.specs.Prelude.{Bool, true, false, cond, ◌||◌, List, [], ◌∷◌, ℕ, ◌+◌, ltb, ℤ, pos, nat_abs, get_or, drop}
+use Rattle.std.specs.Prelude.{Bool, true, false, cond, ◌||◌, List, [], ◌∷◌, ℕ, ◌+◌, ltb, ℤ, pos, nat_abs, get_or, drop, Option, Some, None, Err, Ok}
 use Rattle.std.specs.Int.Signed.{lt_z}
 use Rattle.meaning.specs.Tree.{done, bind}
 use Rattle.meaning.specs.Meaning.{Meaning}
 use Rattle.meaning.specs.declared.refusal.Refusal.TheVariants.{OutOfRange}
 use Rattle.arguments.specs.declared.argument.Argument.{Argument}
-use Rattle.lines.specs.declared.command.Optional.{Optional}
-use Rattle.lines.specs.declared.command.Optional.TheVariants.{Given, Absent}
 use Rattle.values.specs.Machine.{Machine}
 use Rattle.commands.specs.declared.table.Table.{Table}
-use Rattle.commands.specs.Settling.{Settled, settled, refused_for, concluded, integer_meaning}
+use Rattle.commands.specs.Settling.{Settled, concluded, integer_meaning}
 
 -- "LOOP is the innermost table's counter, 0 outside"; the open tables stand the innermost first
 unfoldable pub loop : List Table → ℕ
@@ -57,9 +55,9 @@ counting ts c =
 
 -- "$ET adds k"; 13: "or $ET's k is below 1"
 unfoldable pub counted : List Table → ℤ → Settled Looping
-counted ts k = cond (lt_z k (pos 1)) (refused_for OutOfRange) (settled (counting ts ((innermost ts).counter + nat_abs k)))
+counted ts k = cond (lt_z k (pos 1)) (Err OutOfRange) (Ok (counting ts ((innermost ts).counter + nat_abs k)))
 
 -- "$ET [k]"; "(default 1)"
-unfoldable pub end_meaning : Machine → List ℕ → ℕ → List Table → Optional → Meaning Looping
-end_meaning m s line ts Absent = concluded line (counted ts (pos 1))
-end_meaning m s line ts (Given a) = bind (integer_meaning m s line a) (λ k. concluded line (counted ts k))
+unfoldable pub end_meaning : Machine → List ℕ → ℕ → List Table → Option Argument → Meaning Looping
+end_meaning m s line ts None = concluded line (counted ts (pos 1))
+end_meaning m s line ts (Some a) = bind (integer_meaning m s line a) (λ k. concluded line (counted ts k))

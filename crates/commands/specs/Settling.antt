@@ -1,60 +1,61 @@
 -- What follows from the values of a command's arguments: a result, or why the line is refused.
-use Rattle.std.specs.Prelude.{cond, List, ℕ, eqb, ℤ}
+use Rattle.std.specs.Prelude.{List, ℕ, ℤ, Result, Ok, Err}
 use Rattle.meaning.specs.Tree.{done, stop, bind}
 use Rattle.meaning.specs.Meaning.{Meaning}
+use Rattle.meaning.specs.Number.{refusal_of}
 use Rattle.meaning.specs.declared.refusal.Refusal.{Refusal}
-use Rattle.meaning.specs.declared.refusal.Refusal.TheVariants.{MissingArgument, WrongKind, ZeroDivisor, OutOfRange}
+use Rattle.meaning.specs.declared.refusal.Refusal.TheVariants.{MissingArgument, WrongKind}
 use Rattle.numbers.specs.declared.Quantity.{Quantity}
 use Rattle.numbers.specs.declared.Quantity.TheVariants.{Integer, Decimal}
-use Rattle.numbers.specs.Result as N
+use Rattle.numbers.specs.declared.ArithmeticError.{ArithmeticError}
 use Rattle.numbers.specs.Arithmetic.{in_millionths}
 use Rattle.arguments.specs.declared.argument.Argument.{Argument}
 use Rattle.values.specs.Machine.{Machine}
 use Rattle.values.specs.Worth.{Worth, missing, wrong, number, string}
 use Rattle.values.specs.Meanings.{argument_meaning}
 
-pub data Settled (A : Type 0) : Type 0 where
-  settled : A → Settled A
-  refused_for : Refusal → Settled A
+-- a result, or what the line is refused for
+abbrev pub Settled : Type 0 → Type 0
+Settled A = Result A Refusal
 
 abbrev pub and_then : {A B : Type 0} → Settled A → (A → Settled B) → Settled B
-and_then (settled a) f = f a
-and_then (refused_for e) f = refused_for e
+and_then (Ok a) f = f a
+and_then (Err e) f = Err e
 
 -- behind the arguments' 8 and 9: "then 10 to 14"
 abbrev pub concluded : {A : Type 0} → ℕ → Settled A → Meaning A
-concluded line (settled a) = done a
-concluded line (refused_for e) = stop e line
+concluded line (Ok a) = done a
+concluded line (Err e) = stop e line
 
 -- 10: "A command's argument is missing." 11: "A value has the wrong kind."
 unfoldable pub integer_from : Worth → Settled ℤ
-integer_from missing = refused_for MissingArgument
-integer_from wrong = refused_for WrongKind
-integer_from (number (Integer z)) = settled z
-integer_from (number (Decimal z)) = refused_for WrongKind
-integer_from (string s) = refused_for WrongKind
+integer_from missing = Err MissingArgument
+integer_from wrong = Err WrongKind
+integer_from (number (Integer z)) = Ok z
+integer_from (number (Decimal z)) = Err WrongKind
+integer_from (string s) = Err WrongKind
 
 unfoldable pub quantity_from : Worth → Settled Quantity
-quantity_from missing = refused_for MissingArgument
-quantity_from wrong = refused_for WrongKind
-quantity_from (number q) = settled q
-quantity_from (string s) = refused_for WrongKind
+quantity_from missing = Err MissingArgument
+quantity_from wrong = Err WrongKind
+quantity_from (number q) = Ok q
+quantity_from (string s) = Err WrongKind
 
 unfoldable pub string_from : Worth → Settled (List ℕ)
-string_from missing = refused_for MissingArgument
-string_from wrong = refused_for WrongKind
-string_from (number q) = refused_for WrongKind
-string_from (string s) = settled s
+string_from missing = Err MissingArgument
+string_from wrong = Err WrongKind
+string_from (number q) = Err WrongKind
+string_from (string s) = Ok s
 
 -- 12: "The divisor is zero." 13: "A result is out of range"
-unfoldable pub result_of : N.Result → Settled ℤ
-result_of (N.success z) = settled z
-result_of (N.no_result n) = refused_for (cond (eqb n 12) ZeroDivisor OutOfRange)
+unfoldable pub result_of : Result ℤ ArithmeticError → Settled ℤ
+result_of (Ok z) = Ok z
+result_of (Err e) = Err (refusal_of e)
 
 -- a number where a decimal is taken
 unfoldable pub millionths_of : Quantity → Settled ℤ
 millionths_of (Integer n) = result_of (in_millionths n)
-millionths_of (Decimal m) = settled m
+millionths_of (Decimal m) = Ok m
 
 -- "FV takes a number"
 unfoldable pub decimal_from : Worth → Settled ℤ

@@ -1,25 +1,25 @@
 // $SETE, $SETA, $SETS, $SETM, $SETD.
 ghost use Rattle.std.specs.Prelude.{◌≡◌, ◌≤◌};
-ghost use Rattle.numbers.specs.Result.{result_in};
 ghost use Rattle.values.specs.Inner.State.{held};
 ghost use Rattle.commands.specs.Setting.{integer_result, decimal_result, integer_new, decimal_new};
 ghost use Rattle.commands.specs.Inner.Taking.{Takes};
 ghost use Rattle.commands.specs.Inner.Assigning.{Rowed, StoresNumber, Assigns};
 
-use crate::settle::{Assigned, Taken};
 use crate::{settle, string};
 use lines::command::{Operation, Target};
-use numbers::{Number, decimal, integer};
+use meaning::refusal::Refusal;
+use numbers::{ArithmeticError, decimal, integer};
 use values::registers;
 use values::registers::{Numbers, Words};
 use values::worth::Worth;
 
 // "set, add, subtract, multiply, divide"
-fn integer_result(o: Operation, a: i64, b: i64) -> Number
-    ensures { result_in result ≡ integer_result o a b }
+#[tactic(auto, unfolding(crate::specs::Setting::integer_result))]
+fn integer_result(o: Operation, a: i64, b: i64) -> Result<i64, ArithmeticError>
+    ensures { result ≡ integer_result o a b }
 {
     match o {
-        Operation::Assign => Number::Computed(b),
+        Operation::Assign => Ok(b),
         Operation::Add => integer::add(a, b),
         Operation::Subtract => integer::subtract(a, b),
         Operation::Multiply => integer::multiply(a, b),
@@ -27,11 +27,13 @@ fn integer_result(o: Operation, a: i64, b: i64) -> Number
     }
 }
 
-fn decimal_result(o: Operation, a: i64, b: i64) -> Number
-    ensures { result_in result ≡ decimal_result o a b }
+#[tactic(auto, unfolding(crate::specs::Setting::decimal_result))]
+// Not one function with the other: each calls a module of its own.
+fn decimal_result(o: Operation, a: i64, b: i64) -> Result<i64, ArithmeticError>
+    ensures { result ≡ decimal_result o a b }
 {
     match o {
-        Operation::Assign => Number::Computed(b),
+        Operation::Assign => Ok(b),
         Operation::Add => decimal::add(a, b),
         Operation::Subtract => decimal::subtract(a, b),
         Operation::Multiply => decimal::multiply(a, b),
@@ -40,38 +42,35 @@ fn decimal_result(o: Operation, a: i64, b: i64) -> Number
 }
 
 // A result as IVn or FVn, or the refusal.
-fn stored(taken: Taken, from: usize, n: usize, numbers: &mut Numbers) -> Assigned
+#[tactic(auto, unfolding(crate::specs::Setting::as_variable))]
+fn stored(
+    taken: Result<i64, Refusal>,
+    from: usize,
+    n: usize,
+    numbers: &mut Numbers,
+) -> Result<(), Refusal>
     requires { from ≤ 99 }
     ensures { StoresNumber numbers.old from n taken numbers.new result }
 {
-    match taken {
-        Taken::Refused(e) => Assigned::Refused(e),
-        Taken::Value(z) => {
-            registers::put_number(numbers, from, 99, n, z);
-            Assigned::Passed
-        }
-    }
+    registers::put(numbers, from, 99, n, taken?);
+    Ok(())
 }
 
 // What an integer variable becomes.
-fn integer_new(o: Operation, a: i64, worth: Worth) -> Taken
+#[tactic(auto, unfolding(crate::specs::Setting::new_from))]
+fn integer_new(o: Operation, a: i64, worth: Worth) -> Result<i64, Refusal>
     ensures { Takes (integer_new o a) worth result }
 {
-    let taken = settle::integer_of(worth);
-    match taken {
-        Taken::Refused(e) => Taken::Refused(e),
-        Taken::Value(b) => settle::result_of(integer_result(o, a, b)),
-    }
+    let b = settle::integer_of(worth)?;
+    settle::result_of(integer_result(o, a, b))
 }
 
-fn decimal_new(o: Operation, a: i64, worth: Worth) -> Taken
+#[tactic(auto, unfolding(crate::specs::Setting::new_from))]
+fn decimal_new(o: Operation, a: i64, worth: Worth) -> Result<i64, Refusal>
     ensures { Takes (decimal_new o a) worth result }
 {
-    let taken = settle::decimal_of(worth);
-    match taken {
-        Taken::Refused(e) => Taken::Refused(e),
-        Taken::Value(b) => settle::result_of(decimal_result(o, a, b)),
-    }
+    let b = settle::decimal_of(worth)?;
+    settle::result_of(decimal_result(o, a, b))
 }
 
 // $SETE to $SETD: a value that is given to a variable.
@@ -84,7 +83,7 @@ pub fn assigned<'a>(
     o: Operation,
     target: Target,
     worth: Worth,
-) -> Assigned
+) -> Result<(), Refusal>
     requires { Rowed strings.old }
     ensures { Assigns line.now store.now (held numbers.old strings.old words.old) o target worth (held numbers.new strings.new words.new) result }
 {

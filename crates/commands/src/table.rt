@@ -6,7 +6,6 @@ ghost use Rattle.commands.specs.Looping as L;
 ghost use Rattle.commands.specs.Looping.{no_table, counted_to};
 ghost use Rattle.commands.specs.Inner.Open.{table_in, open_of, AtMostOpen, Pushes, BeginsTable, EndsTable};
 
-use crate::settle::{Judged, Taken};
 use meaning::refusal::Refusal;
 use numbers::sign;
 use values::registers::Words;
@@ -112,53 +111,51 @@ fn exceeds(counter: u64, last: u64) -> bool
 }
 
 // $BT: whether the table has a pass, so that it is open now; `start` and `next` are the line after it, by place and number.
-pub fn begin_table(taken: Taken, start: usize, next: u32, words: &mut Words, depth: usize) -> Judged
+#[tactic(auto, unfolding(crate::specs::Looping::begun))]
+pub fn begin_table(
+    taken: Result<i64, Refusal>,
+    start: usize,
+    next: u32,
+    words: &mut Words,
+    depth: usize,
+) -> Result<bool, Refusal>
     requires { AtMostOpen 4 words.old depth }
     ensures { BeginsTable taken start next words.old depth words.new result }
 {
-    match taken {
-        Taken::Refused(e) => {
-            return Judged::Refused(e);
-        }
-        Taken::Value(z) => {
-            if below_one(z) {
-                return Judged::Holds(false);
-            }
-            let last = sign::magnitude(z);
-            let table = Table {
-                counter: 1,
-                last,
-                start,
-                line: next,
-            };
-            pushed(words, depth, table);
-            return Judged::Holds(true);
-        }
+    let z = taken?;
+    if below_one(z) {
+        return Ok(false);
     }
+    let table = Table {
+        counter: 1,
+        last: sign::magnitude(z),
+        start,
+        line: next,
+    };
+    pushed(words, depth, table);
+    Ok(true)
 }
 
 // $ET: whether the table has another pass; else it is closed.
-pub fn end_table(taken: Taken, words: &mut Words, depth: usize) -> Judged
+#[tactic(auto, unfolding(crate::specs::Looping::counted, crate::specs::Looping::counting))]
+pub fn end_table(
+    taken: Result<i64, Refusal>,
+    words: &mut Words,
+    depth: usize,
+) -> Result<bool, Refusal>
     requires { AtMostOpen 5 words.old depth }
     ensures { EndsTable taken words.old depth words.new result }
 {
-    match taken {
-        Taken::Refused(e) => {
-            return Judged::Refused(e);
-        }
-        Taken::Value(k) => {
-            if below_one(k) {
-                return Judged::Refused(Refusal::OutOfRange);
-            }
-            let table = innermost(words, depth);
-            let step = sign::magnitude(k);
-            let counter = table.counter as u64 + step;
-            if exceeds(counter, table.last) {
-                return Judged::Holds(false);
-            }
-            let rest = scene::less(depth, 1);
-            pushed(words, rest, again(table, counter as u32));
-            return Judged::Holds(true);
-        }
+    let k = taken?;
+    if below_one(k) {
+        return Err(Refusal::OutOfRange);
     }
+    let table = innermost(words, depth);
+    let counter = table.counter as u64 + sign::magnitude(k);
+    if exceeds(counter, table.last) {
+        return Ok(false);
+    }
+    let rest = scene::less(depth, 1);
+    pushed(words, rest, again(table, counter as u32));
+    Ok(true)
 }

@@ -4,50 +4,24 @@ ghost use Rattle.values.specs.Inner.Texts.{strings as stringsOf};
 ghost use Rattle.values.specs.Inner.Yielding.{meant};
 ghost use Rattle.commands.specs.Testing as T;
 ghost use Rattle.commands.specs.Inner.Kinds as K;
-ghost use Rattle.commands.specs.Inner.Taking.{judged_of};
 ghost use Rattle.commands.specs.Inner.Judging.{Lacks, JudgesNumbers, JudgesZero};
 
 use crate::settle;
-use crate::settle::{Amount, Judged, Phrase};
 use lines::command::Comparison;
 use meaning::refusal::Refusal;
 use numbers::{Quantity, order};
 use values::string;
 use values::worth::Worth;
 
+#[tactic(auto, unfolding(crate::specs::Testing::is_missing, values::specs::Inner::Yielding::meant))]
 fn lacks(worth: Worth) -> bool
     ensures { Lacks worth result }
 {
-    match worth {
-        Worth::Missing => true,
-        Worth::Wrong => false,
-        Worth::Number(_) => false,
-        Worth::Text(_) => false,
-    }
+    matches!(worth, Worth::Missing)
 }
 
-// What is compared: two numbers, or two strings, whose case may be ignored.
-#[derive(Clone, Copy)]
-pub enum Comparands {
-    Numbers,
-    Strings(bool),
-}
-
-fn comparands_of(c: Comparison) -> Comparands
-    ensures { result ≡ K.comparands_of c }
-{
-    match c {
-        Comparison::SameString => Comparands::Strings(false),
-        Comparison::SameLetters => Comparands::Strings(true),
-        Comparison::Equal => Comparands::Numbers,
-        Comparison::NotEqual => Comparands::Numbers,
-        Comparison::Less => Comparands::Numbers,
-        Comparison::AtMost => Comparands::Numbers,
-        Comparison::Greater => Comparands::Numbers,
-        Comparison::AtLeast => Comparands::Numbers,
-    }
-}
-
+// Whether a test of numbers holds; no test of strings does.
+#[tactic(auto, unfolding(crate::specs::Inner::Kinds::numbers_hold))]
 fn numbers_hold(c: Comparison, p: Quantity, q: Quantity) -> bool
     ensures { result ≡ K.numbers_hold c p q }
 {
@@ -63,31 +37,23 @@ fn numbers_hold(c: Comparison, p: Quantity, q: Quantity) -> bool
     }
 }
 
+#[tactic(auto, unfolding(crate::specs::Testing::zero_test))]
 fn zero_test(zero: bool, q: Quantity) -> bool
     ensures { result ≡ T.zero_test zero q }
 {
-    if zero {
-        return order::is_zero(q);
-    }
-    !order::is_zero(q)
+    order::is_zero(q) == zero
 }
 
-fn numbers_judged(c: Comparison, v: Worth, w: Worth) -> Judged
+#[tactic(auto, unfolding(crate::specs::Testing::of_numbers))]
+fn numbers_judged(c: Comparison, v: Worth, w: Worth) -> Result<bool, Refusal>
     ensures { JudgesNumbers c v w result }
 {
-    let a = settle::quantity_of(v);
-    match a {
-        Amount::NoNumber(e) => Judged::Refused(e),
-        Amount::Number(p) => {
-            let b = settle::quantity_of(w);
-            match b {
-                Amount::NoNumber(e) => Judged::Refused(e),
-                Amount::Number(q) => Judged::Holds(numbers_hold(c, p, q)),
-            }
-        }
-    }
+    let p = settle::quantity_of(v)?;
+    let q = settle::quantity_of(w)?;
+    Ok(numbers_hold(c, p, q))
 }
 
+#[tactic(auto, unfolding(crate::specs::Testing::of_strings))]
 fn strings_judged<'a>(
     line: &'a [u8],
     store: &'a [u8],
@@ -95,25 +61,16 @@ fn strings_judged<'a>(
     ignoring: bool,
     v: Worth,
     w: Worth,
-) -> Judged
-    ensures { judged_of result ≡ T.of_strings ignoring (meant (stringsOf line.now store.now strings.now) v) (meant (stringsOf line.now store.now strings.now) w) }
+) -> Result<bool, Refusal>
+    ensures { result ≡ T.of_strings ignoring (meant (stringsOf line.now store.now strings.now) v) (meant (stringsOf line.now store.now strings.now) w) }
 {
-    let a = settle::text_of(v);
-    match a {
-        Phrase::NoString(e) => Judged::Refused(e),
-        Phrase::String(p) => {
-            let b = settle::text_of(w);
-            match b {
-                Phrase::NoString(e) => Judged::Refused(e),
-                Phrase::String(q) => Judged::Holds(string::same(
-                    line, store, strings, p, q, ignoring,
-                )),
-            }
-        }
-    }
+    let p = settle::text_of(v)?;
+    let q = settle::text_of(w)?;
+    Ok(string::same(line, store, strings, p, q, ignoring))
 }
 
 // $IFEQ to $IFGE, $IFEQSS, $IFEQSI: 10 over both, then 11 over both
+#[tactic(auto, using(crate::proofs::Tests::kind_numbers), unfolding(crate::specs::Testing::compared, crate::specs::Testing::judged))]
 pub fn compare<'a>(
     line: &'a [u8],
     store: &'a [u8],
@@ -121,29 +78,24 @@ pub fn compare<'a>(
     c: Comparison,
     v: Worth,
     w: Worth,
-) -> Judged
-    ensures { judged_of result ≡ T.compared c (meant (stringsOf line.now store.now strings.now) v) (meant (stringsOf line.now store.now strings.now) w) }
+) -> Result<bool, Refusal>
+    ensures { result ≡ T.compared c (meant (stringsOf line.now store.now strings.now) v) (meant (stringsOf line.now store.now strings.now) w) }
 {
-    if lacks(v) {
-        return Judged::Refused(Refusal::MissingArgument);
+    if lacks(v) || lacks(w) {
+        return Err(Refusal::MissingArgument);
     }
-    if lacks(w) {
-        return Judged::Refused(Refusal::MissingArgument);
-    }
-    let kind = comparands_of(c);
-    match kind {
-        Comparands::Numbers => numbers_judged(c, v, w),
-        Comparands::Strings(ignoring) => strings_judged(line, store, strings, ignoring, v, w),
+    match c {
+        Comparison::SameString => strings_judged(line, store, strings, false, v, w),
+        Comparison::SameLetters => strings_judged(line, store, strings, true, v, w),
+        _ => numbers_judged(c, v, w),
     }
 }
 
 // $IFNOT, $IF
-pub fn if_zero(zero: bool, worth: Worth) -> Judged
+#[tactic(auto, unfolding(crate::specs::Testing::zero_judged))]
+pub fn if_zero(zero: bool, worth: Worth) -> Result<bool, Refusal>
     ensures { JudgesZero zero worth result }
 {
-    let a = settle::quantity_of(worth);
-    match a {
-        Amount::NoNumber(e) => Judged::Refused(e),
-        Amount::Number(q) => Judged::Holds(zero_test(zero, q)),
-    }
+    let q = settle::quantity_of(worth)?;
+    Ok(zero_test(zero, q))
 }

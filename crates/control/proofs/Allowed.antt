@@ -1,4 +1,5 @@
 -- Commands ask only questions within their limits, where their arguments lie within theirs.
+use Rattle.std.specs.Prelude.{Option, Some, None, Err, Ok}
 use mathlib.Core.Bool.{Bool}
 use mathlib.Core.List.{List}
 use Prim.Native.Nat.{ℕ}
@@ -12,8 +13,6 @@ use Rattle.arguments.proofs.Parsed.{Between, ArgumentWithin}
 use Rattle.lines.specs.declared.command.Comparison.{Comparison}
 use Rattle.lines.specs.declared.command.Fetch.{Fetch}
 use Rattle.lines.specs.declared.command.Operation.{Operation}
-use Rattle.lines.specs.declared.command.Optional.{Optional}
-use Rattle.lines.specs.declared.command.Optional.TheVariants.{Given, Absent}
 use Rattle.lines.specs.declared.command.Target.{Target}
 use Rattle.lines.proofs.Accepted.{OptionalWithin, FetchWithin}
 use Rattle.values.specs.declared.fetch.Along.TheVariants.{Records, Entries}
@@ -24,7 +23,7 @@ use Rattle.values.specs.Worth.{Worth}
 use Rattle.values.specs.Meanings.{argument_meaning}
 use Rattle.values.proofs.Allowed.{Allowed, AsksAllowed, argument_asks, fetch_asks}
 use Rattle.commands.specs.declared.table.Table.{Table}
-use Rattle.commands.specs.Settling.{Settled, settled, refused_for, concluded, integer_from, integer_meaning}
+use Rattle.commands.specs.Settling.{Settled, concluded, integer_from, integer_meaning}
 use Rattle.commands.specs.Setting.{set_of, set_meaning}
 use Rattle.commands.specs.Testing.{zero_judged, compared, zero_meaning, test_meaning}
 use Rattle.control.specs.Fetching.{with_records, with_entries, records_meaning, entries_meaning}
@@ -32,8 +31,8 @@ use Rattle.commands.specs.Looping.{begun, begin_meaning, counted, end_meaning}
 use Rattle.control.specs.Selecting.{datasource_from, datasource_meaning}
 
 concluded_asks : {A : Type 0} (line : ℕ) (x : Settled A) → AsksAllowed (concluded line x)
-concluded_asks line (settled a) = tt
-concluded_asks line (refused_for e) = tt
+concluded_asks line (Ok a) = tt
+concluded_asks line (Err e) = tt
 
 module _ (m : Machine) (d : Between 1 35 m.datasource) (line : ℕ) where
   module _ (s : List ℕ) where
@@ -63,10 +62,10 @@ module _ (m : Machine) (d : Between 1 35 m.datasource) (line : ℕ) where
     begin_asks ts start next a b =
         asks_then AnswerWithin Allowed (integer_meaning m s line a) (λ n. done (begun ts start next n)) (integer_asks a b) (λ n. tt)
 
-    pub end_asks : (ts : List Table) (k : Optional) → OptionalWithin s k → AsksAllowed (end_meaning m s line ts k)
+    pub end_asks : (ts : List Table) (k : Option Argument) → OptionalWithin s k → AsksAllowed (end_meaning m s line ts k)
     unfolding end_meaning
-    end_asks ts Absent b = concluded_asks line (counted ts (pos 1))
-    end_asks ts (Given a) b =
+    end_asks ts None b = concluded_asks line (counted ts (pos 1))
+    end_asks ts (Some a) b =
         asks_then AnswerWithin Allowed (integer_meaning m s line a) (λ k. concluded line (counted ts k)) (integer_asks a b) (λ k. concluded_asks line (counted ts k))
 
   pub records_asks : (f : Fetch) → FetchWithin f → AsksAllowed (records_meaning m line f)

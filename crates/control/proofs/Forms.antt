@@ -1,4 +1,5 @@
 -- A line is its arguments, left to right, then what follows from their values.
+use Rattle.std.specs.Prelude.{Option, Some, None, Err, Ok}
 use mathlib.Core.Path.{◌≡◌, refl, sym, ap, ◌∙◌}
 use mathlib.Core.Bool.{true, false}
 use mathlib.Core.List.{List}
@@ -7,8 +8,6 @@ use native.Mathlib.Omega.{arith}
 use borrow.Author.Tests.{lt-ltb}
 use lib.IntN.{ℤ, pos}
 use Rattle.arguments.specs.declared.argument.Argument.{Argument}
-use Rattle.lines.specs.declared.command.Optional.{Optional}
-use Rattle.lines.specs.declared.command.Optional.TheVariants.{Given, Absent}
 use Rattle.lines.specs.declared.command.Line.{Line}
 use Rattle.lines.specs.declared.command.Line.TheVariants as form
 use Rattle.meaning.specs.Tree.{done, bind}
@@ -17,7 +16,7 @@ use Rattle.meaning.proofs.Binding.{bind_assoc}
 use Rattle.values.specs.Worth.{Worth, missing}
 use Rattle.values.specs.Meanings.{argument_meaning}
 use Rattle.values.specs.Inner.Working.{worths, inputs_meaning}
-use Rattle.commands.specs.Settling.{Settled, settled, refused_for, and_then, concluded, integer_from, integer_meaning}
+use Rattle.commands.specs.Settling.{Settled, and_then, concluded, integer_from, integer_meaning}
 use Rattle.commands.specs.Inner.Taking.{integer_or}
 use Rattle.commands.specs.Setting.{set_of, set_meaning}
 use Rattle.commands.specs.Testing.{zero_judged, compared, zero_meaning, test_meaning}
@@ -29,8 +28,8 @@ use Rattle.control.specs.Inner.Forms.{optional_input, inputs_of, settling, form_
 
 -- what is concluded from a value, and then from that
 concluded_then : {A B : Type 0} (l : ℕ) (x : Settled A) (f : A → Settled B) → bind (concluded l x) (λ z. concluded l (f z)) ≡ concluded l (and_then x f)
-concluded_then l (settled a) f = refl
-concluded_then l (refused_for e) f = refl
+concluded_then l (Ok a) f = refl
+concluded_then l (Err e) f = refl
 
 module _ (t : List ℕ) (start l : ℕ) (body : List ℕ) (s : State) where
   abbrev A : Argument → Meaning Worth
@@ -45,20 +44,19 @@ module _ (t : List ℕ) (start l : ℕ) (body : List ℕ) (s : State) where
   unfolding integer_meaning
   integer_then x f = bind_assoc (A x) (λ w. concluded l (integer_from w)) (λ z. concluded l (f z)) ∙ ap (bind (A x)) (λ i w. concluded_then l (integer_from w) f i)
 
-  end_inputs : (k : Optional) → bind (end_meaning (seen s) body l s.tables k) (λ x. done (table_counted s x)) ≡ bind (inputs_meaning (seen s) body l (optional_input k)) (λ v. settling l (end_from s.tables (integer_or (pos 1) k v.first)) (table_counted s))
+  end_inputs : (k : Option Argument) → bind (end_meaning (seen s) body l s.tables k) (λ x. done (table_counted s x)) ≡ bind (inputs_meaning (seen s) body l (optional_input k)) (λ v. settling l (end_from s.tables (integer_or (pos 1) k v.first)) (table_counted s))
   unfolding end_meaning integer_or optional_input inputs_meaning
-  end_inputs Absent = refl
-  end_inputs (Given x) = ap (λ m. bind m (λ y. done (table_counted s y))) (integer_then x (counted s.tables)) ∙ one x (λ w. end_from s.tables (integer_from w)) (table_counted s)
+  end_inputs None = refl
+  end_inputs (Some x) = ap (λ m. bind m (λ y. done (table_counted s y))) (integer_then x (counted s.tables)) ∙ one x (λ w. end_from s.tables (integer_from w)) (table_counted s)
 
-  page_inputs : (k : Optional) → new_page_meaning l body s k ≡ bind (inputs_meaning (seen s) body l (optional_input k)) (λ v. bind (concluded l (integer_or (pos 62) k v.first)) (breaking_for l s))
+  page_inputs : (k : Option Argument) → new_page_meaning l body s k ≡ bind (inputs_meaning (seen s) body l (optional_input k)) (λ v. bind (concluded l (integer_or (pos 62) k v.first)) (breaking_for l s))
   unfolding new_page_meaning breaking_for integer_or optional_input inputs_meaning integer_meaning
-  page_inputs Absent = rw (lt-ltb (61 - s.page.row) 62 (omega arith))
-  page_inputs (Given x) =
+  page_inputs None = rw (lt-ltb (61 - s.page.row) 62 (omega arith))
+  page_inputs (Some x) =
       bind_assoc (A x) (λ w. concluded l (integer_from w)) (breaking_for l s) ∙ sym (bind_assoc (A x) (λ v. done (worths v missing)) (λ v. bind (concluded l (integer_from v.first)) (breaking_for l s)))
 
   pub form_inputs : (line : Line) → form_meaning t start l body s line ≡ bind (inputs_meaning (seen s) body l (inputs_of line)) (form_with t start l body s line)
   unfolding form_meaning form_with inputs_of inputs_meaning set_meaning zero_meaning test_meaning begin_meaning
-  form_inputs form.NoForm = refl
   form_inputs form.Text = refl
   form_inputs (form.Section a e) = refl
   form_inputs (form.Set o x a) = one a (set_of s.variables o x) (with_variables s)
@@ -71,7 +69,7 @@ module _ (t : List ℕ) (start l : ℕ) (body : List ℕ) (s : State) where
   form_inputs form.Else = refl
   form_inputs form.EndIf = refl
   form_inputs (form.BeginTable a) =
-      ap (λ m. bind m (λ y. done (table_begun t s y))) (integer_then a (λ z. settled (begun s.tables s.position.at s.position.line z))) ∙ one a (λ w. begin_from s.tables s.position.at s.position.line (integer_from w)) (table_begun t s)
+      ap (λ m. bind m (λ y. done (table_begun t s y))) (integer_then a (λ z. Ok (begun s.tables s.position.at s.position.line z))) ∙ one a (λ w. begin_from s.tables s.position.at s.position.line (integer_from w)) (table_begun t s)
   form_inputs (form.EndTable k) = end_inputs k
   form_inputs (form.Records f) = refl
   form_inputs (form.Entries f) = refl

@@ -1,4 +1,5 @@
 -- What the trees of commands give, whatever the answers are: they only ask, and what they yield keeps what a run needs.
+use Rattle.std.specs.Prelude.{Option, Some, None, Err, Ok}
 use mathlib.Core.Path.{◌≡◌, refl}
 use mathlib.Core.Bool.{Bool, true, false, cond, ◌||◌, ◌&&◌}
 use mathlib.Core.List.{List, [], ◌∷◌}
@@ -17,8 +18,6 @@ use Rattle.arguments.specs.declared.index.Index.{Index}
 use Rattle.lines.specs.declared.command.Comparison.{Comparison}
 use Rattle.lines.specs.declared.command.Fetch.{Fetch}
 use Rattle.lines.specs.declared.command.Operation.{Operation}
-use Rattle.lines.specs.declared.command.Optional.{Optional}
-use Rattle.lines.specs.declared.command.Optional.TheVariants.{Given, Absent}
 use Rattle.lines.specs.declared.command.Target.{Target}
 use Rattle.lines.specs.declared.command.Target.TheVariants.{IntegerTarget, DecimalTarget, StringTarget}
 use Rattle.values.specs.declared.fetch.Along.TheVariants.{Records, Entries}
@@ -29,7 +28,7 @@ use Rattle.values.specs.Worth.{Worth}
 use Rattle.values.specs.Meanings.{argument_meaning}
 use Rattle.values.proofs.Giving.{Gives, Anything, gives_bind, argument_gives, fetch_gives}
 use Rattle.commands.specs.declared.table.Table.{Table}
-use Rattle.commands.specs.Settling.{Settled, settled, refused_for, and_then, concluded, integer_from, integer_meaning}
+use Rattle.commands.specs.Settling.{Settled, and_then, concluded, integer_from, integer_meaning}
 use Rattle.commands.specs.Setting.{as_variable, set_of, set_meaning}
 use Rattle.commands.specs.Testing.{zero_judged, compared, zero_meaning, test_meaning}
 use Rattle.control.specs.Fetching.{with_records, with_entries, records_meaning, entries_meaning}
@@ -38,21 +37,21 @@ use Rattle.control.specs.Selecting.{datasource_from, datasource_meaning}
 
 -- Φ a where x is settled with a
 abbrev pub Whenever : {A : Type 0} → Settled A → (A → Type 0) → Type 0
-Whenever (settled a) Φ = Φ a
-Whenever (refused_for e) Φ = Unit {0}
+Whenever (Ok a) Φ = Φ a
+Whenever (Err e) Φ = Unit {0}
 
 module _ {A : Type 0} where
   pub gives_concluded : (line : ℕ) (x : Settled A) (Φ : A → Type 0) → Whenever x Φ → Gives (concluded line x) Φ
-  gives_concluded line (settled a) Φ h = h
-  gives_concluded line (refused_for e) Φ h = h
+  gives_concluded line (Ok a) Φ h = h
+  gives_concluded line (Err e) Φ h = h
 
   pub whenever_then : {B : Type 0} (x : Settled A) (f : A → Settled B) (Φ : A → Type 0) (Ψ : B → Type 0) → Whenever x Φ → ((a : A) → Φ a → Whenever (f a) Ψ) → Whenever (and_then x f) Ψ
-  whenever_then (settled a) f Φ Ψ h g = g a h
-  whenever_then (refused_for e) f Φ Ψ h g = tt
+  whenever_then (Ok a) f Φ Ψ h g = g a h
+  whenever_then (Err e) f Φ Ψ h g = tt
 
   whenever_any : (x : Settled A) → Whenever x Anything
-  whenever_any (settled a) = tt
-  whenever_any (refused_for e) = tt
+  whenever_any (Ok a) = tt
+  whenever_any (Err e) = tt
 
 module _ (m : Machine) (s : List ℕ) (line : ℕ) where
   -- an argument, and what follows from its value
@@ -93,8 +92,8 @@ numbered_length l (suc k) x = length-set l k x
 -- a result as the n-th of l
 stored_length : {A : Type 0} (l : List A) (n : ℕ) (x : Settled A) → Whenever (as_variable l n x) (λ l'. length l' ≡ length l)
 unfolding as_variable
-stored_length l n (settled x) = numbered_length l n x
-stored_length l n (refused_for e) = tt
+stored_length l n (Ok x) = numbered_length l n x
+stored_length l n (Err e) = tt
 
 set_shapes : (v : Variables) (o : Operation) (t : Target) (w : Worth) → Whenever (set_of v o t w) (Shaped v)
 unfolding set_of
@@ -155,7 +154,7 @@ counted_is : (ts : List Table) (k : ℤ) → Whenever (counted ts k) (Counting t
 unfolding counted
 counted_is ts k = by (lt_z k (pos 1))
   where
-    by : (b : Bool) → Whenever (cond b (refused_for OutOfRange) (settled (counting ts ((innermost ts).counter + nat_abs k)))) (Counting ts)
+    by : (b : Bool) → Whenever (cond b (Err OutOfRange) (Ok (counting ts ((innermost ts).counter + nat_abs k)))) (Counting ts)
     by true = tt
     by false = counting_is ts ((innermost ts).counter + nat_abs k)
 
@@ -165,10 +164,10 @@ module _ (m : Machine) (s : List ℕ) (line : ℕ) (ts : List Table) where
   begin_gives start next a =
       gives_bind (integer_meaning m s line a) (λ n. done (begun ts start next n)) Anything (Begun ts start next) (integer_gives m s line a) (λ n h. begun_is ts start next n)
 
-  pub end_gives : (o : Optional) → Gives (end_meaning m s line ts o) (Counting ts)
+  pub end_gives : (o : Option Argument) → Gives (end_meaning m s line ts o) (Counting ts)
   unfolding end_meaning
-  end_gives Absent = gives_concluded line (counted ts (pos 1)) (Counting ts) (counted_is ts (pos 1))
-  end_gives (Given a) =
+  end_gives None = gives_concluded line (counted ts (pos 1)) (Counting ts) (counted_is ts (pos 1))
+  end_gives (Some a) =
       gives_bind (integer_meaning m s line a) (λ k. concluded line (counted ts k)) Anything (Counting ts) (integer_gives m s line a) (λ k h. gives_concluded line (counted ts k) (Counting ts) (counted_is ts k))
 
 -- Counters and limits of tables are integers within their range, where $BT takes one.
@@ -214,7 +213,7 @@ unfolding datasource_from
 from_selectable (negsuc n) = tt
 from_selectable (pos n) = by (leb 1 n) refl (leb n 35) refl
   where
-    by : (b : Bool) → leb 1 n ≡ b → (d : Bool) → leb n 35 ≡ d → Whenever (cond (b && d) (settled n) (refused_for BadIndex)) Selectable
+    by : (b : Bool) → leb 1 n ≡ b → (d : Bool) → leb n 35 ≡ d → Whenever (cond (b && d) (Ok n) (Err BadIndex)) Selectable
     by true e true f = record { low = leb-true 1 n e; high = leb-true n 35 f }
     by true e false f = tt
     by false e d f = tt

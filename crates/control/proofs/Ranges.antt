@@ -1,5 +1,6 @@
 -- Commands keep a machine in range, where their arguments lie within their limits and answers within theirs. So a string that
 -- SV takes is not cut, and a variable that is set is one of the machine's.
+use Rattle.std.specs.Prelude.{Option, Result, Ok, Err}
 use mathlib.Core.Path.{◌≡◌, refl, ap, subst, ◌∙◌}
 use mathlib.Core.List.{List, [], ◌∷◌}
 use Prim.Native.Nat.{ℕ, zero, suc, ◌≤◌}
@@ -14,7 +15,7 @@ use Rattle.meaning.proofs.Yielding.{Yields, yields_bind, yields_more}
 use Rattle.numbers.specs.declared.Quantity.{Quantity}
 use Rattle.numbers.specs.declared.Quantity.TheVariants.{Integer, Decimal}
 use Rattle.numbers.specs.Range.{integer_limit, decimal_limit}
-use Rattle.numbers.specs.Result as N
+use Rattle.numbers.specs.declared.ArithmeticError.{ArithmeticError}
 use Rattle.numbers.specs.Arithmetic.{in_millionths}
 use Rattle.numbers.proofs.Laws.{Inside, sum_bound, difference_bound, integer_product_bound, integer_quotient_bound, decimal_product_bound, decimal_quotient_bound, millionths_bound}
 use Rattle.cells.proofs.Limits.{AnswerWithin}
@@ -24,7 +25,6 @@ use Rattle.lines.specs.declared.command.Fetch.{Fetch}
 use Rattle.lines.proofs.Accepted.{TargetWithin, FetchWithin}
 use Rattle.lines.specs.declared.command.Operation.{Operation}
 use Rattle.lines.specs.declared.command.Operation.TheVariants.{Assign, Add, Subtract, Multiply, Divide}
-use Rattle.lines.specs.declared.command.Optional.{Optional}
 use Rattle.lines.specs.declared.command.Target.{Target}
 use Rattle.lines.specs.declared.command.Target.TheVariants.{IntegerTarget, DecimalTarget, StringTarget}
 use Rattle.values.specs.declared.fetch.Along.TheVariants.{Records, Entries}
@@ -36,7 +36,7 @@ use Rattle.values.proofs.Giving.{Gives}
 use Rattle.values.proofs.Ranges as R
 use Rattle.values.proofs.Ranges.{IntegerWithin, DecimalWithin, Short, WorthWithin, MachineWithin, argument_within, fetch_within, All, VariablesWithin}
 use Rattle.commands.specs.declared.table.Table.{Table}
-use Rattle.commands.specs.Settling.{Settled, settled, refused_for, concluded, integer_from, quantity_from, string_from, result_of, millionths_of, decimal_from, integer_meaning}
+use Rattle.commands.specs.Settling.{Settled, concluded, integer_from, quantity_from, string_from, result_of, millionths_of, decimal_from, integer_meaning}
 use Rattle.commands.specs.Setting.{integer_result, decimal_result, as_variable, new_from, integer_new, decimal_new, string_new, set_of, set_meaning}
 use Rattle.control.specs.Fetching.{with_records, with_entries, records_meaning, entries_meaning}
 use Rattle.commands.specs.Looping.{begun, begin_meaning, end_meaning}
@@ -50,12 +50,12 @@ gives_yields (ask q l k) Φ h = λ r p. gives_yields (k r) Φ (h r)
 gives_yields (print v l t) Φ h = absurd h
 
 yields_concluded : {A : Type 0} (line : ℕ) (x : Settled A) (Φ : A → Type 0) → Whenever x Φ → Yields AnswerWithin (concluded line x) Φ
-yields_concluded line (settled a) Φ h = h
-yields_concluded line (refused_for e) Φ h = tt
+yields_concluded line (Ok a) Φ h = h
+yields_concluded line (Err e) Φ h = tt
 
 whenever_more : {A : Type 0} (x : Settled A) (Φ Ψ : A → Type 0) → Whenever x Φ → ((a : A) → Φ a → Ψ a) → Whenever x Ψ
-whenever_more (settled a) Φ Ψ h g = g a h
-whenever_more (refused_for e) Φ Ψ h g = tt
+whenever_more (Ok a) Φ Ψ h g = g a h
+whenever_more (Err e) Φ Ψ h g = tt
 
 -- ---- results
 
@@ -74,10 +74,10 @@ quantity_from_law wrong h = tt
 quantity_from_law (number q) h = h
 quantity_from_law (string s) h = tt
 
-result_within : (limit : ℕ) (o : N.Result) → ((v : ℤ) → o ≡ N.success v → nat_abs v ≤ limit) → Whenever (result_of o) (λ v. nat_abs v ≤ limit)
+result_within : (limit : ℕ) (o : Result ℤ ArithmeticError) → ((v : ℤ) → o ≡ Ok v → nat_abs v ≤ limit) → Whenever (result_of o) (λ v. nat_abs v ≤ limit)
 unfolding result_of
-result_within limit (N.success z) h = h z refl
-result_within limit (N.no_result n) h = tt
+result_within limit (Ok z) h = h z refl
+result_within limit (Err e) h = tt
 
 millionths_of_law : (q : Quantity) → QuantityWithin q → Whenever (millionths_of q) DecimalWithin
 unfolding millionths_of
@@ -88,10 +88,10 @@ decimal_from_law : (w : Worth) → WorthWithin w → Whenever (decimal_from w) D
 unfolding decimal_from
 decimal_from_law w h = whenever_then (quantity_from w) millionths_of QuantityWithin DecimalWithin (quantity_from_law w h) millionths_of_law
 
-assigned : (limit : ℕ) (b v : ℤ) → nat_abs b ≤ limit → N.success b ≡ N.success v → nat_abs v ≤ limit
+assigned : (limit : ℕ) (b v : ℤ) → nat_abs b ≤ limit → ◌≡◌ {A = Result ℤ ArithmeticError} (Ok b) (Ok v) → nat_abs v ≤ limit
 assigned limit b v h e = let q : b ≡ v = cc in subst (λ z. nat_abs z ≤ limit) q h
 
-integer_outcome : (o : Operation) (a b v : ℤ) → IntegerWithin b → integer_result o a b ≡ N.success v → IntegerWithin v
+integer_outcome : (o : Operation) (a b v : ℤ) → IntegerWithin b → integer_result o a b ≡ Ok v → IntegerWithin v
 unfolding integer_result
 integer_outcome Assign a b v h e = assigned integer_limit b v h e
 integer_outcome Add a b v h e = sum_bound integer_limit a b v e
@@ -99,7 +99,7 @@ integer_outcome Subtract a b v h e = difference_bound integer_limit a b v e
 integer_outcome Multiply a b v h e = integer_product_bound a b v e
 integer_outcome Divide a b v h e = integer_quotient_bound a b v e
 
-decimal_outcome : (o : Operation) (a b v : ℤ) → DecimalWithin b → decimal_result o a b ≡ N.success v → DecimalWithin v
+decimal_outcome : (o : Operation) (a b v : ℤ) → DecimalWithin b → decimal_result o a b ≡ Ok v → DecimalWithin v
 unfolding decimal_result
 decimal_outcome Assign a b v h e = assigned decimal_limit b v h e
 decimal_outcome Add a b v h e = sum_bound decimal_limit a b v e
@@ -123,7 +123,7 @@ unfolding string_new string_from
 string_whole missing h = refl
 string_whole wrong h = refl
 string_whole (number q) h = refl
-string_whole (string s) h = ap settled (take_all 16 s h)
+string_whole (string s) h = ap Ok (take_all 16 s h)
 
 string_new_law : (w : Worth) → WorthWithin w → Whenever (string_new w) Short
 unfolding string_from
@@ -177,8 +177,8 @@ numbered_all P c l n x p h = record { each = numbered_each P l n x p h.each; cou
 
 stored_all : {A : Type 0} (P : A → Type 0) (c : ℕ) (l : List A) (n : ℕ) (x : Settled A) → All P c l → Whenever x P → Whenever (as_variable l n x) (All P c)
 unfolding as_variable
-stored_all P c l n (settled x) h p = numbered_all P c l n x p h
-stored_all P c l n (refused_for r) h p = tt
+stored_all P c l n (Ok x) h p = numbered_all P c l n x p h
+stored_all P c l n (Err r) h p = tt
 
 module _ (v : Variables) (h : VariablesWithin v) where
   set_of_law : (o : Operation) (t : Target) (w : Worth) → WorthWithin w → Whenever (set_of v o t w) VariablesWithin
@@ -233,6 +233,6 @@ module _ (m : Machine) (h : MachineWithin m) where
         yields_bind AnswerWithin (fetch_meaning m line Entries f.parameter f.«record» f.entry f.count) (λ l. done (with_entries m.variables (set_numbered m.variables.entries f.number l))) (Each AnswerWithin) VariablesWithin (fetch_within m line Entries f.parameter f.«record» f.entry f.count) (λ l k. record { integers = h.variables.integers; decimals = h.variables.decimals; strings = h.variables.strings; records = h.variables.records; entries = numbered_all (Each AnswerWithin) 10 m.variables.entries f.number l k h.variables.entries })
 
 -- $ET: counters stay within their limits, whatever k is.
-pub end_within : (m : Machine) (s : List ℕ) (line : ℕ) (ts : List Table) (o : Optional) → Each Bounded ts → Yields AnswerWithin (end_meaning m s line ts o) (λ x. Each Bounded x.tables)
+pub end_within : (m : Machine) (s : List ℕ) (line : ℕ) (ts : List Table) (o : Option Argument) → Each Bounded ts → Yields AnswerWithin (end_meaning m s line ts o) (λ x. Each Bounded x.tables)
 end_within m s line ts o h =
     yields_more AnswerWithin (end_meaning m s line ts o) (Counting ts) (λ x. Each Bounded x.tables) (gives_yields (end_meaning m s line ts o) (Counting ts) (end_gives m s line ts o)) (λ x k. counting_bounded ts x k h)

@@ -1,9 +1,8 @@
 -- One line of a run, from the state before it to the state behind it.
-use Rattle.std.specs.Prelude.{Bool, true, false, cond, List, ℕ, ◌+◌, ◌-◌, ℤ, pos, length, drop}
+use Rattle.std.specs.Prelude.{Bool, true, false, cond, List, ℕ, ◌+◌, ◌-◌, ℤ, pos, length, drop, Option, Some, None}
 use Rattle.std.specs.Int.Signed.{lt_z}
 use Rattle.scan.specs.Line.{line_at}
-use Rattle.lines.specs.declared.command.Optional.{Optional}
-use Rattle.lines.specs.declared.command.Optional.TheVariants.{Given, Absent}
+use Rattle.arguments.specs.declared.argument.Argument.{Argument}
 use Rattle.lines.specs.declared.command.Line.{Line}
 use Rattle.lines.specs.declared.command.Line.TheVariants as form
 use Rattle.lines.specs.Readers.Command.{parse_line}
@@ -63,9 +62,9 @@ breaking l s = bind (break_meaning l s.layout.form_feeds s.page) (λ p. done (wi
 unfoldable pub breaking_for : ℕ → State → ℤ → Meaning State
 breaking_for l s n = cond (lt_z (pos (61 - s.page.row)) n) (breaking l s) (done s)
 
-unfoldable pub new_page_meaning : ℕ → List ℕ → State → Optional → Meaning State
-new_page_meaning l body s Absent = breaking l s
-new_page_meaning l body s (Given a) = bind (integer_meaning (seen s) body l a) (breaking_for l s)
+unfoldable pub new_page_meaning : ℕ → List ℕ → State → Option Argument → Meaning State
+new_page_meaning l body s None = breaking l s
+new_page_meaning l body s (Some a) = bind (integer_meaning (seen s) body l a) (breaking_for l s)
 
 -- "`$PHn text`": worked out when it is printed, so the line is kept
 abbrev pub headed : State → ℕ → Heading → State
@@ -99,11 +98,14 @@ form_meaning t start l body s (form.Heading n from) =
 form_meaning t start l body s (form.NoHeading n) = done (headed s n no_heading)
 -- "unread"
 form_meaning t start l body s form.Remark = done s
--- no line of an accepted template: template/proofs/Opening:opens_line
-form_meaning t start l body s form.NoForm = done s
+
+-- no line of an accepted template has no form: template/proofs/Opening:opens_line
+abbrev pub parsed_meaning : List ℕ → ℕ → ℕ → List ℕ → State → Option Line → Meaning State
+parsed_meaning t start l body s (Some f) = form_meaning t start l body s f
+parsed_meaning t start l body s None = done s
 
 -- the line that is due, by what it spells (grammar/proofs/Lines:reads_what_is_spelled); a jump goes behind the line that matches
 -- (demands/proofs/Matching:run_goes_behind_match)
 unfoldable pub line_meaning : List ℕ → State → Meaning State
 line_meaning t s =
-    form_meaning t s.position.at s.position.line (line_at t s.position.at) (past_line s (length (line_at t s.position.at))) (parse_line (line_at t s.position.at))
+    parsed_meaning t s.position.at s.position.line (line_at t s.position.at) (past_line s (length (line_at t s.position.at))) (parse_line (line_at t s.position.at))

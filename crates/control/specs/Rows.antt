@@ -1,5 +1,5 @@
 -- Rows of document 01, each computed from the meaning of a whole command.
-use Rattle.std.specs.Prelude.{◌≡◌, refl, Bool, true, false, List, [], ◌∷◌, ℕ, ℤ, pos, negsuc, length}
+use Rattle.std.specs.Prelude.{◌≡◌, refl, Bool, true, false, List, [], ◌∷◌, ℕ, ℤ, pos, negsuc, length, Option, Some, None, Ok}
 use Rattle.meaning.specs.Answer as A
 use Rattle.meaning.specs.Answer.{Answer}
 use Rattle.meaning.specs.Meaning.{asks_each}
@@ -24,8 +24,6 @@ use Rattle.lines.specs.declared.command.Operation.{Operation}
 use Rattle.lines.specs.declared.command.Operation.TheVariants.{Assign, Multiply, Divide}
 use Rattle.lines.specs.declared.command.Target.{Target}
 use Rattle.lines.specs.declared.command.Target.TheVariants.{IntegerTarget, DecimalTarget, StringTarget}
-use Rattle.lines.specs.declared.command.Optional.{Optional}
-use Rattle.lines.specs.declared.command.Optional.TheVariants.{Given, Absent}
 use Rattle.lines.specs.declared.command.Comparison.{Comparison}
 use Rattle.lines.specs.declared.command.Comparison.TheVariants.{SameString, SameLetters, Equal, Less}
 use Rattle.values.specs.Letters.{upper, alike}
@@ -36,7 +34,7 @@ use Rattle.values.specs.Fetching.{first_along, element_question, element_questio
 use Rattle.values.specs.Worth.{answered, ranged, absolute, filtered_number, filtered_string, filtered, question_kind}
 use Rattle.values.specs.Meanings.{worth_of, operand_meaning, argument_meaning}
 use Rattle.commands.specs.declared.table.Table.{Table}
-use Rattle.commands.specs.Settling.{settled, integer_from, quantity_from, string_from, result_of, millionths_of, decimal_from, integer_meaning}
+use Rattle.commands.specs.Settling.{integer_from, quantity_from, string_from, result_of, millionths_of, decimal_from, integer_meaning}
 use Rattle.commands.specs.Setting.{integer_result, decimal_result, as_variable, new_from, string_new, set_of, set_meaning}
 use Rattle.commands.specs.Testing.{zero_test, zero_judged, of_numbers, of_strings, is_missing, compared, zero_meaning, test_meaning, judged}
 use Rattle.control.specs.Fetching.{records_meaning}
@@ -118,7 +116,7 @@ table_of n c = counted_to (new_table n 10 2) c
 abbrev begins_table : Argument → End Refusal ℕ Looping
 begins_table a = (run source 5 0 (begin_meaning sample (ascii "") 7 [] 10 2 a)).end
 
-abbrev ends_table : Optional → End Refusal ℕ Looping
+abbrev ends_table : Option Argument → End Refusal ℕ Looping
 ends_table k = (run source 5 0 (end_meaning sample (ascii "") 7 (table_of 5 3 ∷ []) k)).end
 
 -- the run of `$REC 1 P9 record 0 count`, with two places on the read list
@@ -160,20 +158,20 @@ Rows =
     × (assigns_string (plain (Parameter 9)) 1 ≡ halted (refused MissingArgument) 7)
     -- document 01: $BT 5, $ET 2: three passes; $BT 0: none
     × (begins_table (integer_argument (pos 5)) ≡ finished (looping (table_of 5 1 ∷ []) false))
-    × (counted (table_of 5 1 ∷ []) (pos 2) ≡ settled (looping (table_of 5 3 ∷ []) true))
-    × (ends_table (Given (integer_argument (pos 2))) ≡ finished (looping (table_of 5 5 ∷ []) true))
-    × (counted (table_of 5 5 ∷ []) (pos 2) ≡ settled (looping [] false))
+    × (counted (table_of 5 1 ∷ []) (pos 2) ≡ Ok (looping (table_of 5 3 ∷ []) true))
+    × (ends_table (Some (integer_argument (pos 2))) ≡ finished (looping (table_of 5 5 ∷ []) true))
+    × (counted (table_of 5 5 ∷ []) (pos 2) ≡ Ok (looping [] false))
     × (begins_table (integer_argument (pos 0)) ≡ finished (looping [] true))
     -- `$BT IV1` with −7: none; `$BT 1` opens; `$BT 1.0` is 11; `$ET` adds 1; `$ET 0` is 13; `$ET P9` with P9 missing is 10
     × (begins_table (plain (IntegerVariable 1)) ≡ finished (looping [] true))
     × (begins_table (integer_argument (pos 1)) ≡ finished (looping (table_of 1 1 ∷ []) false))
     × (begins_table (decimal_argument (pos 1000000)) ≡ halted (refused WrongKind) 7)
-    × (ends_table Absent ≡ finished (looping (table_of 5 4 ∷ []) true))
-    × (ends_table (Given (integer_argument (pos 0))) ≡ halted (refused OutOfRange) 7)
-    × (ends_table (Given (plain (Parameter 9))) ≡ halted (refused MissingArgument) 7)
+    × (ends_table None ≡ finished (looping (table_of 5 4 ∷ []) true))
+    × (ends_table (Some (integer_argument (pos 0))) ≡ halted (refused OutOfRange) 7)
+    × (ends_table (Some (plain (Parameter 9))) ≡ halted (refused MissingArgument) 7)
     -- a counter past 2,000,000,000 ends its table, one of 2,000,000,000 doesn't; LOOP outside is 0
-    × (counted (table_of 2000000000 1999999999 ∷ []) (pos 1) ≡ settled (looping (table_of 2000000000 2000000000 ∷ []) true))
-    × (counted (table_of 2000000000 2000000000 ∷ []) (pos 1) ≡ settled (looping [] false))
+    × (counted (table_of 2000000000 1999999999 ∷ []) (pos 1) ≡ Ok (looping (table_of 2000000000 2000000000 ∷ []) true))
+    × (counted (table_of 2000000000 2000000000 ∷ []) (pos 1) ≡ Ok (looping [] false))
     × (loop [] ≡ 0)
     × (loop (table_of 5 3 ∷ table_of 9 1 ∷ []) ≡ 3)
     -- $REC: record 999 is the last; past it, and a count of 65, are 8 before any question; a third place is missing: 9, two asked

@@ -3,11 +3,10 @@ ghost use Rattle.std.specs.Prelude.{◌≡◌, ◌+◌, ◌≤◌};
 ghost use Rattle.values.specs.Inner.State.{tables_in};
 ghost use Rattle.control.specs.Inner.Arms.{Jumpable};
 ghost use Rattle.control.specs.Inner.Remembering.{jump_mark, jump_word, skip_in, Holdable, Remembers};
-ghost use Rattle.control.specs.Inner.Going.{scene_of, placed_at, datasource_in, depth_in, feeds_in, page_in, jumped_in, again_in};
+ghost use Rattle.control.specs.Inner.Going.{scene_of, placed_at, jumped_in, again_in};
 
 use crate::state::Flow;
 use commands::table;
-use pages::page::Page;
 use template::seek;
 use template::seek::{Skip, Sought};
 use values::registers;
@@ -33,34 +32,6 @@ fn placed(mut flow: Flow, at: usize, line: u32) -> Flow
 {
     flow.at = at;
     flow.line = line;
-    flow
-}
-
-pub fn with_datasource(mut flow: Flow, datasource: u32) -> Flow
-    ensures { result ≡ datasource_in flow datasource }
-{
-    flow.datasource = datasource;
-    flow
-}
-
-pub fn with_depth(mut flow: Flow, depth: usize) -> Flow
-    ensures { result ≡ depth_in flow depth }
-{
-    flow.depth = depth;
-    flow
-}
-
-pub fn with_feeds(mut flow: Flow, feeds: bool) -> Flow
-    ensures { result ≡ feeds_in flow feeds }
-{
-    flow.feeds = feeds;
-    flow
-}
-
-pub fn with_page(mut flow: Flow, page: Page) -> Flow
-    ensures { result ≡ page_in flow page }
-{
-    flow.page = page;
     flow
 }
 

@@ -2,40 +2,28 @@
 ghost use Rattle.std.specs.Prelude.{◌≡◌};
 ghost use Rattle.control.specs.Inner.Forms.{optional_input, inputs_of};
 
-use lines::command::{Line, Optional};
+use arguments::argument::Argument;
+use lines::command::Line;
 use values::working::Inputs;
 
-fn optional_input(optional: Optional) -> Inputs
+#[tactic(auto, unfolding(crate::specs::Inner::Forms::optional_input))]
+fn optional_input(optional: Option<Argument>) -> Inputs
     ensures { result ≡ optional_input optional }
 {
     match optional {
-        Optional::Absent => Inputs::None,
-        Optional::Given(a) => Inputs::One(a),
+        None => Inputs::None,
+        Some(a) => Inputs::One(a),
     }
 }
 
+#[tactic(auto, unfolding(crate::specs::Inner::Forms::inputs_of))]
 pub fn inputs_of(form: Line) -> Inputs
     ensures { result ≡ inputs_of form }
 {
     match form {
-        Line::NoForm => Inputs::None,
-        Line::Text => Inputs::None,
-        Line::Section(_, _) => Inputs::None,
-        Line::Set(_, _, a) => Inputs::One(a),
-        Line::IfNot(a) => Inputs::One(a),
-        Line::If(a) => Inputs::One(a),
+        Line::Set(_, _, a) | Line::IfNot(a) | Line::If(a) | Line::BeginTable(a) => Inputs::One(a),
         Line::Compare(_, a, b) => Inputs::Two(a, b),
-        Line::Else => Inputs::None,
-        Line::EndIf => Inputs::None,
-        Line::BeginTable(a) => Inputs::One(a),
-        Line::EndTable(k) => optional_input(k),
-        Line::Records(_) => Inputs::None,
-        Line::Entries(_) => Inputs::None,
-        Line::Datasource(_) => Inputs::None,
-        Line::NoFormFeed => Inputs::None,
-        Line::NewPage(k) => optional_input(k),
-        Line::Heading(_, _) => Inputs::None,
-        Line::NoHeading(_) => Inputs::None,
-        Line::Remark => Inputs::None,
+        Line::EndTable(k) | Line::NewPage(k) => optional_input(k),
+        _ => Inputs::None,
     }
 }

@@ -1,5 +1,7 @@
 -- "pages (PAGENUM at the end)", at any end: of a run that finished, of one with a line too many, of one refused or cut off before
 -- its last line printed anything, and of one refused or cut off inside a text line, after its break. So for the pages of a call.
+use Rattle.std.specs.Prelude.{Option, Some, None, Ok}
+use Rattle.arguments.specs.declared.argument.Argument.{Argument}
 use mathlib.Core.Path.{◌≡◌, refl, sym, ap, ◌∙◌, subst}
 use mathlib.Core.Bool.{Bool, true, false, cond}
 use mathlib.Core.List.{List, [], ◌∷◌, ◌++◌, append_assoc, append-nil}
@@ -11,14 +13,11 @@ use lib.IntN.{pos}
 use lib.Signed.{lt_z}
 use lib.ListN.{length}
 use Rattle.scan.specs.Line.{line_at}
-use Rattle.lines.specs.declared.command.Optional.{Optional}
-use Rattle.lines.specs.declared.command.Optional.TheVariants.{Given, Absent}
 use Rattle.lines.specs.declared.command.Line.{Line}
 use Rattle.lines.specs.declared.command.Line.TheVariants as form
 use Rattle.lines.specs.Readers.Command.{parse_line}
 use Rattle.texts.specs.Pieces.{pieces_of}
 use Rattle.template.specs.declared.Extent.{Extent}
-use Rattle.template.specs.declared.Checked.TheVariants.{Accepted}
 use Rattle.template.specs.Order.{template_checked}
 use Rattle.meaning.specs.Answer.{Answer}
 use Rattle.meaning.specs.Event.{Event, break, breaks}
@@ -51,7 +50,7 @@ use Rattle.control.specs.Fetching.{records_meaning, entries_meaning}
 use Rattle.control.specs.Selecting.{datasource_meaning}
 use Rattle.control.proofs.Giving.{Shaped, set_gives, records_gives, entries_gives, integer_gives, zero_gives, test_gives, Begun, Counting, begin_gives, end_gives, Selectable, datasource_gives}
 use Rattle.control.specs.State.{State, seen, with_variables, with_datasource, with_page}
-use Rattle.control.specs.Line.{past_line, branched, table_begun, table_counted, breaking, breaking_for, new_page_meaning, form_meaning, line_meaning}
+use Rattle.control.specs.Line.{past_line, branched, table_begun, table_counted, breaking, breaking_for, new_page_meaning, form_meaning, parsed_meaning, line_meaning}
 use Rattle.history.specs.LentStore.{LentStore, in_form}
 use Rattle.report.specs.Report.{run_from, start_of, run_meaning, ran_to, checked_outcome, report_of}
 use Rattle.report.specs.Inner.Stretch.{stretch}
@@ -125,12 +124,12 @@ module _ (source : Question → Answer) (c : Cause Refusal) (l : ℕ) where
           absurd (unfinished q (cut Output) due (sym h ∙ ap end_in (run_print_full source n r (break (feed feeds)) due (done (broken_of p)) (leb-false (length (feed feeds)) r e))))
 
   -- how a line was halted that is due on page p, after these events: before it printed anything, or as a text line, behind its break
-  pub data Halts (f : Line) (p : Page) (vs : List Event) : Type 0 where
+  pub data Halts (f : Option Line) (p : Page) (vs : List Event) : Type 0 where
     nothing : vs ≡ [] → Halts f p vs
-    inside : f ≡ form.Text → (turned_page p).number ≡ p.number + breaks vs → Halts f p vs
+    inside : f ≡ Some form.Text → (turned_page p).number ≡ p.number + breaks vs → Halts f p vs
 
   step_halted : (m : Machine) (t : List ℕ) (due : ℕ) (feeds : Bool) (hs : List Heading) (x : List ℕ) (p : Page) (n r : ℕ)
-      → (run source n r (line_step m t due feeds hs x p)).end ≡ halted c l → Halts form.Text p (run source n r (line_step m t due feeds hs x p)).events
+      → (run source n r (line_step m t due feeds hs x p)).end ≡ halted c l → Halts (Some form.Text) p (run source n r (line_step m t due feeds hs x p)).events
   unfolding run breaks turn_meaning
   step_halted m t due feeds hs x p n r h = rw (step_says m t due x feeds hs p) (go (halted_in source (turn_meaning due feeds p) says n r c l (subst (λ (y : Meaning Page). (run source n r y).end ≡ halted c l) (step_says m t due x feeds hs p) h)))
     where
@@ -151,7 +150,7 @@ module _ (source : Question → Answer) (c : Cause Refusal) (l : ℕ) where
       turn_finished true q e = omega (arith, break_finished due feeds p q n r e)
       turn_finished false q e = omega arith
 
-      go : HaltedIn source (turn_meaning due feeds p) says n r c l → Halts form.Text p (run source n r (bind (turn_meaning due feeds p) says)).events
+      go : HaltedIn source (turn_meaning due feeds p) says n r c l → Halts (Some form.Text) p (run source n r (bind (turn_meaning due feeds p) says)).events
       go (first e v) = nothing (v ∙ turn_halted (ltb 60 p.row) e)
       go (second q f e v) =
           let u = no_breaks (run source n' r' (says_on m (lines_due t due hs x (turned_page p)) (turned_page p))).events (keeps_run lines_only source n' r' (says_on m (lines_due t due hs x (turned_page p)) (turned_page p)) tt Whatever (says_unbroken m (lines_due t due hs x (turned_page p)) (turned_page p))) in
@@ -163,12 +162,12 @@ module _ (source : Question → Answer) (c : Cause Refusal) (l : ℕ) where
 
   module _ (t : List ℕ) (start at : ℕ) (body : List ℕ) (s : State) where
     -- a command that only asks
-    asks_halted : {A : Type 0} (f : Line) (m : Meaning A) (Φ : A → Type 0) → Gives m Φ → (k : A → State) (n r : ℕ) → Halts f s.page (run source n r (bind m (λ a. done (k a)))).events
+    asks_halted : {A : Type 0} (f : Option Line) (m : Meaning A) (Φ : A → Type 0) → Gives m Φ → (k : A → State) (n r : ℕ) → Halts f s.page (run source n r (bind m (λ a. done (k a)))).events
     asks_halted f m Φ g k n r =
         nothing (gives_nothing source n r (bind m (λ a. done (k a))) Anything (gives_bind m (λ a. done (k a)) Φ Anything g (λ a _. tt)))
 
     -- a page that a break or a text line leaves
-    paged_halted : (f : Line) (m : Meaning Page) (n r : ℕ) → (run source n r (bind m (λ p. done (with_page s p)))).end ≡ halted c l
+    paged_halted : (f : Option Line) (m : Meaning Page) (n r : ℕ) → (run source n r (bind m (λ p. done (with_page s p)))).end ≡ halted c l
         → ((run source n r m).end ≡ halted c l → Halts f s.page (run source n r m).events) → Halts f s.page (run source n r (bind m (λ p. done (with_page s p)))).events
     unfolding run
     paged_halted f m n r h k = go (halted_in source m (λ p. done (with_page s p)) n r c l h)
@@ -177,14 +176,14 @@ module _ (source : Question → Answer) (c : Cause Refusal) (l : ℕ) where
         go (first e v) = subst (Halts f s.page) (sym v) (k e)
         go (second p _ e v) = absurd (unfinished (with_page s p) c l e)
 
-    breaking_halted : (f : Line) (n r : ℕ) → (run source n r (breaking at s)).end ≡ halted c l → Halts f s.page (run source n r (breaking at s)).events
+    breaking_halted : (f : Option Line) (n r : ℕ) → (run source n r (breaking at s)).end ≡ halted c l → Halts f s.page (run source n r (breaking at s)).events
     unfolding breaking
     breaking_halted f n r h = paged_halted f (break_meaning at s.layout.form_feeds s.page) n r h (λ e. nothing (break_halted at s.layout.form_feeds s.page n r e))
 
-    np_halted : (f : Line) (o : Optional) (n r : ℕ) → (run source n r (new_page_meaning at body s o)).end ≡ halted c l → Halts f s.page (run source n r (new_page_meaning at body s o)).events
+    np_halted : (f : Option Line) (o : Option Argument) (n r : ℕ) → (run source n r (new_page_meaning at body s o)).end ≡ halted c l → Halts f s.page (run source n r (new_page_meaning at body s o)).events
     unfolding new_page_meaning breaking_for run
-    np_halted f Absent n r h = breaking_halted f n r h
-    np_halted f (Given a) n r h = go (halted_in source (integer_meaning (seen s) body at a) (breaking_for at s) n r c l h)
+    np_halted f None n r h = breaking_halted f n r h
+    np_halted f (Some a) n r h = go (halted_in source (integer_meaning (seen s) body at a) (breaking_for at s) n r c l h)
       where
         quiet : (run source n r (integer_meaning (seen s) body at a)).events ≡ []
         quiet = gives_nothing source n r (integer_meaning (seen s) body at a) Anything (integer_gives (seen s) body at a)
@@ -199,10 +198,9 @@ module _ (source : Question → Answer) (c : Cause Refusal) (l : ℕ) where
             subst (Halts f s.page) (sym (v ∙ ap (λ (vs : List Event). vs ++ (run source (places_behind source n r (integer_meaning (seen s) body at a)) (room_behind source n r (integer_meaning (seen s) body at a)) (breaking_for at s z)).events) quiet))
             (by (lt_z (pos (61 - s.page.row)) z) (places_behind source n r (integer_meaning (seen s) body at a)) (room_behind source n r (integer_meaning (seen s) body at a)) e)
 
-    form_halted : (f : Line) (n r : ℕ) → (run source n r (form_meaning t start at body s f)).end ≡ halted c l → Halts f s.page (run source n r (form_meaning t start at body s f)).events
+    form_halted : (f : Line) (n r : ℕ) → (run source n r (form_meaning t start at body s f)).end ≡ halted c l → Halts (Some f) s.page (run source n r (form_meaning t start at body s f)).events
     unfolding form_meaning run
-    form_halted form.NoForm n r h = nothing refl
-    form_halted form.Text n r h = paged_halted form.Text (line_step (seen s) t at s.layout.form_feeds s.layout.headings body s.page) n r h (step_halted (seen s) t at s.layout.form_feeds s.layout.headings body s.page n r)
+    form_halted form.Text n r h = paged_halted (Some form.Text) (line_step (seen s) t at s.layout.form_feeds s.layout.headings body s.page) n r h (step_halted (seen s) t at s.layout.form_feeds s.layout.headings body s.page n r)
     form_halted (form.Section a b) n r h = nothing refl
     form_halted (form.Set o v a) n r h = asks_halted _ (set_meaning (seen s) body at o v a) (Shaped s.variables) (set_gives (seen s) body at o v a) (with_variables s) n r
     form_halted (form.IfNot a) n r h = asks_halted _ (zero_meaning (seen s) body at true a) Anything (zero_gives (seen s) body at true a) (branched t s) n r
@@ -216,14 +214,19 @@ module _ (source : Question → Answer) (c : Cause Refusal) (l : ℕ) where
     form_halted (form.Entries f) n r h = asks_halted _ (entries_meaning (seen s) at f) (Shaped s.variables) (entries_gives (seen s) at f) (with_variables s) n r
     form_halted (form.Datasource x) n r h = asks_halted _ (datasource_meaning (seen s) at x) Selectable (datasource_gives (seen s) at x) (with_datasource s) n r
     form_halted form.NoFormFeed n r h = nothing refl
-    form_halted (form.NewPage o) n r h = np_halted (form.NewPage o) o n r h
+    form_halted (form.NewPage o) n r h = np_halted (Some (form.NewPage o)) o n r h
     form_halted (form.Heading k from) n r h = nothing refl
     form_halted (form.NoHeading k) n r h = nothing refl
     form_halted form.Remark n r h = nothing refl
 
+    parsed_halted : (x : Option Line) (n r : ℕ) → (run source n r (parsed_meaning t start at body s x)).end ≡ halted c l → Halts x s.page (run source n r (parsed_meaning t start at body s x)).events
+    unfolding run
+    parsed_halted (Some f) n r h = form_halted f n r h
+    parsed_halted None n r h = nothing refl
+
   line_halted : (t : List ℕ) (s : State) (n r : ℕ) → (run source n r (line_meaning t s)).end ≡ halted c l → Halts (parse_line (bytes_due t s)) s.page (run source n r (line_meaning t s)).events
   unfolding line_meaning
-  line_halted t s n r h = form_halted t s.position.at s.position.line (line_at t s.position.at) (past_line s (length (line_at t s.position.at))) (parse_line (line_at t s.position.at)) n r h
+  line_halted t s n r h = parsed_halted t s.position.at s.position.line (line_at t s.position.at) (past_line s (length (line_at t s.position.at))) (parse_line (line_at t s.position.at)) n r h
 
   -- ---- a run
 
@@ -238,7 +241,7 @@ module _ (source : Question → Answer) (c : Cause Refusal) (l : ℕ) where
   pub data Last (k : ℕ) (t : List ℕ) (end : ℕ) (s : State) (n r lines : ℕ) (state : State) (own : List Event) : Type 0 where
     one_too_many : UsedUp k end lines state → own ≡ [] → Last k t end s n r lines state own
     nothing_yet : (run source n r (stretch (suc lines) t end s)).end ≡ halted c l → own ≡ [] → Last k t end s n r lines state own
-    in_text : (run source n r (stretch (suc lines) t end s)).end ≡ halted c l → parse_line (bytes_due t state) ≡ form.Text → (turned_page state.page).number ≡ state.page.number + breaks own → Last k t end s n r lines state own
+    in_text : (run source n r (stretch (suc lines) t end s)).end ≡ halted c l → parse_line (bytes_due t state) ≡ Some form.Text → (turned_page state.page).number ≡ state.page.number + breaks own → Last k t end s n r lines state own
 
   -- so many lines were executed whole, and the next one, or one too many, ended the run
   pub record HaltsAfter (k : ℕ) (t : List ℕ) (end : ℕ) (s : State) (m : Meaning State) (n r : ℕ) : Type 0 where
@@ -335,13 +338,13 @@ pages_at_the_end source t r places room = by (run source places room (run_meanin
 -- ---- a call
 
 -- on a store in form the report of an accepted template is what its run comes to
-accepted_runs_to : (t name : List ℕ) (m : LentStore) (r : Extent) (places room : ℕ) → in_form m ≡ true → template_checked t name ≡ Accepted r
+accepted_runs_to : (t name : List ℕ) (m : LentStore) (r : Extent) (places room : ℕ) → in_form m ≡ true → template_checked t name ≡ Ok r
     → report_of t name m.buffer m.length places room ≡ ran_to (run (answers m.buffer m.length) places room (run_meaning t r))
 unfolding report_of checked_outcome
 accepted_runs_to t name m r places room f e = rw (f, e) refl
 
 -- Where checks 1 to 6 pass, the pages that a call hands back are PAGENUM at the end of its run.
-pub pages_handed_back : (t name : List ℕ) (m : LentStore) (x : ReportCall t name m) (r : Extent) → in_form m ≡ true → template_checked t name ≡ Accepted r
+pub pages_handed_back : (t name : List ℕ) (m : LentStore) (x : ReportCall t name m) (r : Extent) → in_form m ≡ true → template_checked t name ≡ Ok r
     → LastPage (answers m.buffer m.length) t r (length x.reads) (length x.text) x.returned.pages (run (answers m.buffer m.length) (length x.reads) (length x.text) (run_meaning t r)).end
 pages_handed_back t name m x r f e =
     rw (x.contract.result, accepted_runs_to t name m r (length x.reads) (length x.text) f e) (pages_at_the_end (answers m.buffer m.length) t r (length x.reads) (length x.text))

@@ -1,8 +1,8 @@
 -- Demand 2's cell, of the calls: a cell put is found until a later accepted edit replaces or removes it.
+use Rattle.std.specs.Prelude.{Some}
 use mathlib.Core.Path.{◌≡◌, ap, ◌∙◌, subst}
 use mathlib.Core.Bool.{true}
 use mathlib.Core.List.{List, ◌∷◌}
-use mathlib.Core.Option.{some}
 use Prim.Native.Nat.{ℕ}
 use Rattle.meaning.specs.Answer.{Answer, missing, cell}
 use Rattle.meaning.specs.declared.question.Question.{Question}
@@ -39,7 +39,7 @@ module _ (m : LentStore) (x : EditCall) (xs : List EditCall) (h : InTurn m (x �
 
 -- A put that ended with 0, then any calls of put and remove, none of them an accepted edit of its key: ask hands back its cell.
 pub put_is_found : (m : LentStore) (s : List ℕ) (c : Cell) (r : Edited) (b : List ℕ) (xs : List EditCall)
-    → InTurn m (record { change = put s; returned = r; buffer = b } ∷ xs) → whole_cell s ≡ some c → r.end ≡ Finished → OtherKeys c.key xs
+    → InTurn m (record { change = put s; returned = r; buffer = b } ∷ xs) → whole_cell s ≡ Some c → r.end ≡ Finished → OtherKeys c.key xs
     → (y : AskCall (last_handed m (record { change = put s; returned = r; buffer = b } ∷ xs)) (cell_question c.key))
     → AnswersWith (last_handed m (record { change = put s; returned = r; buffer = b } ∷ xs)) (cell_question c.key) (cell c.value) y
 put_is_found m s c r b xs h w e o =
@@ -50,7 +50,7 @@ put_is_found m s c r b xs h w e o =
 
 -- The same of a remove: missing.
 pub removed_is_missing : (m : LentStore) (s : List ℕ) (k : Key) (r : Edited) (b : List ℕ) (xs : List EditCall)
-    → InTurn m (record { change = remove s; returned = r; buffer = b } ∷ xs) → whole_key s ≡ some k → r.end ≡ Finished → OtherKeys k xs
+    → InTurn m (record { change = remove s; returned = r; buffer = b } ∷ xs) → whole_key s ≡ Some k → r.end ≡ Finished → OtherKeys k xs
     → (y : AskCall (last_handed m (record { change = remove s; returned = r; buffer = b } ∷ xs)) (cell_question k))
     → AnswersWith (last_handed m (record { change = remove s; returned = r; buffer = b } ∷ xs)) (cell_question k) missing y
 removed_is_missing m s k r b xs h w e o =

@@ -1,8 +1,8 @@
 -- In every state that a run reaches, a failed test, an executed $ELSE and a skipped table go on behind their match.
+use Rattle.std.specs.Prelude.{Ok, Some}
 use mathlib.Core.Path.{◌≡◌, refl, sym, ap, ◌∙◌, subst}
 use mathlib.Core.Bool.{Bool, true, false, cond}
 use mathlib.Core.List.{List, ◌∷◌}
-use mathlib.Core.Option.{some-injective}
 use Prim.Native.Nat.{ℕ, suc, ◌+◌, ◌<◌}
 use native.Mathlib.Omega.{arith}
 use lib.IntN.{ℤ, pos, nat_abs}
@@ -16,7 +16,6 @@ use Rattle.lines.specs.Readers.Command.{parse_line}
 use Rattle.nesting.specs.declared.Shape.TheVariants.{Test}
 use Rattle.nesting.specs.Nest.{Mark}
 use Rattle.template.specs.declared.Extent.{Extent}
-use Rattle.template.specs.declared.Checked.TheVariants.{Accepted}
 use Rattle.template.specs.declared.seek.Sought.{Sought}
 use Rattle.template.specs.declared.seek.Sought.TheVariants.{Branch, TestEnd, TableEnd}
 use Rattle.template.specs.Order.{template_checked}
@@ -53,7 +52,8 @@ opens_one : {t : List ℕ} {at at' n : ℕ} {M M' : List Mark} → OpenBefore t 
 opens_one at_first at_first = (refl, refl)
 opens_one {t} (at_next {M = B} o h e) (at_next {at = a'} o' h' e') =
     let (p, m) = opens_one o o' in
-    (ap (next_line t) p, some-injective _ _ (sym e ∙ ap (λ (x : ℕ). nest_step B (line_at t x)) p ∙ ap (λ (X : List Mark). nest_step X (line_at t a')) m ∙ e'))
+    let q = sym e ∙ ap (λ (x : ℕ). nest_step B (line_at t x)) p ∙ ap (λ (X : List Mark). nest_step X (line_at t a')) m ∙ e' in
+    (ap (next_line t) p, (cc q))
 
 around_one : {q : Sought} {B M M' : List Mark} → OpenAround q B M → OpenAround q B M' → M ≡ M'
 around_one (of_test M) (of_test M') = refl
@@ -74,7 +74,7 @@ behind_one {t} {q} {from} a b =
 -- ---- a line that is due where what check 4 has open is known
 
 module _ {t : List ℕ} (c : Checks t) (s : State) (h : s.position.at < length t) (n : Nested t s.position.at s.position.line s.tables) where
-  shaped : (f : Line) → parse_line (bytes_due t s) ≡ f → shape_of (bytes_due t s) ≡ shape_in f
+  shaped : (f : Line) → parse_line (bytes_due t s) ≡ Some f → shape_of (bytes_due t s) ≡ shape_in (Some f)
   unfolding shape_of
   shaped f e = ap shape_in e
 
@@ -103,7 +103,7 @@ module _ {t : List ℕ} (c : Checks t) (s : State) (h : s.position.at < length t
       }
 
   -- a test
-  test_goes_on : (f : Line) (m : Meaning Bool) → parse_line (bytes_due t s) ≡ f → shape_in f ≡ Test → by_form t s f ≡ testing t (on_next t s) m → TestGoesOn t s m
+  test_goes_on : (f : Line) (m : Meaning Bool) → parse_line (bytes_due t s) ≡ Some f → shape_in (Some f) ≡ Test → by_form t s f ≡ testing t (on_next t s) m → TestGoesOn t s m
   unfolding branched
   test_goes_on f m e k w =
       record {
@@ -116,7 +116,7 @@ module _ {t : List ℕ} (c : Checks t) (s : State) (h : s.position.at < length t
       by true = refl
       by false = refl
 
-  else_goes_on : parse_line (bytes_due t s) ≡ form.Else → ElseGoesOn t s
+  else_goes_on : parse_line (bytes_due t s) ≡ Some form.Else → ElseGoesOn t s
   unfolding form_meaning shape_in
   else_goes_on e =
       let o = behind_else c n.opens h (shaped form.Else e) in
@@ -126,7 +126,7 @@ module _ {t : List ℕ} (c : Checks t) (s : State) (h : s.position.at < length t
         means = line_means t s form.Else e;
       }
 
-  table_goes_on : (a : Argument) → parse_line (bytes_due t s) ≡ form.BeginTable a → TableGoesOn t s a
+  table_goes_on : (a : Argument) → parse_line (bytes_due t s) ≡ Some (form.BeginTable a) → TableGoesOn t s a
   unfolding form_meaning shape_in begin_meaning table_begun begun
   table_goes_on a e =
       record {
@@ -157,7 +157,7 @@ module _ {t : List ℕ} (c : Checks t) (s : State) (h : s.position.at < length t
       }
 
 -- The line that is due after any number of lines of an accepted template's run, whatever source answers it.
-pub run_goes_behind_match : (t name : List ℕ) (r : Extent) → template_checked t name ≡ Accepted r → (source : Question → Answer) (places room k : ℕ) (s : State) → (run source places room (stretch k t r.until (start_of r))).end ≡ finished s → s.position.at < r.until → GoesOn t s
+pub run_goes_behind_match : (t name : List ℕ) (r : Extent) → template_checked t name ≡ Ok r → (source : Question → Answer) (places room k : ℕ) (s : State) → (run source places room (stretch k t r.until (start_of r))).end ≡ finished s → s.position.at < r.until → GoesOn t s
 run_goes_behind_match t name r e source places room k s f d =
     let i = (reached_sound t name r e source places room k s f).1 in
     let h : s.position.at < length t = omega (arith, (accepted_runs t name r e).inside) in

@@ -1,4 +1,5 @@
 -- Behind the checks a run ends with 0, or with a number from 7 on: "A report ending in 1–6" was refused by them, and ran nothing.
+use Rattle.std.specs.Prelude.{Option, Some, None, Result, Ok, Err}
 use mathlib.Core.Bool.{Bool, true, false, cond, ◌||◌, ◌&&◌}
 use mathlib.Core.List.{List, [], ◌∷◌}
 use Prim.Native.Nat.{ℕ, zero, suc, ◌+◌, ◌-◌, ◌≤◌}
@@ -10,7 +11,8 @@ use lib.ListN.{length, take}
 use Rattle.scan.specs.Line.{line_at}
 use Rattle.numbers.specs.declared.Quantity.{Quantity}
 use Rattle.numbers.specs.declared.Quantity.TheVariants.{Integer, Decimal}
-use Rattle.numbers.specs.Result as N
+use Rattle.numbers.specs.declared.ArithmeticError.{ArithmeticError}
+use Rattle.numbers.specs.declared.ArithmeticError.TheVariants as arithmetic
 use Rattle.numbers.specs.Arithmetic.{in_millionths}
 use Rattle.arguments.specs.declared.argument.Argument.{Argument}
 use Rattle.arguments.specs.declared.index.Index.{Index}
@@ -20,8 +22,6 @@ use Rattle.arguments.specs.declared.operand.Operand.TheVariants.{NumberLiteral, 
 use Rattle.texts.specs.declared.text.Piece.{Piece}
 use Rattle.texts.specs.declared.text.Piece.TheVariants.{Byte, Placed}
 use Rattle.texts.specs.Pieces.{pieces_of}
-use Rattle.lines.specs.declared.command.Optional.{Optional}
-use Rattle.lines.specs.declared.command.Optional.TheVariants.{Given, Absent}
 use Rattle.lines.specs.declared.command.Operation.{Operation}
 use Rattle.lines.specs.declared.command.Target.{Target}
 use Rattle.lines.specs.declared.command.Target.TheVariants.{IntegerTarget, DecimalTarget, StringTarget}
@@ -48,7 +48,7 @@ use Rattle.values.specs.Fetching.{first_along, count_value, asks_elements, eleme
 use Rattle.values.specs.Worth.{Worth, missing, wrong, number, string, answered, question_kind}
 use Rattle.values.specs.Meanings.{worth_of, operand_meaning, argument_meaning}
 use Rattle.commands.specs.declared.table.Table.{Table}
-use Rattle.commands.specs.Settling.{Settled, settled, refused_for, and_then, concluded, integer_from, quantity_from, string_from, result_of, millionths_of, decimal_from, integer_meaning}
+use Rattle.commands.specs.Settling.{Settled, and_then, concluded, integer_from, quantity_from, string_from, result_of, millionths_of, decimal_from, integer_meaning}
 use Rattle.commands.specs.Setting.{integer_result, decimal_result, as_variable, new_from, integer_new, decimal_new, string_new, with_integers, with_decimals, with_strings, set_of, set_meaning}
 use Rattle.commands.specs.Testing.{zero_judged, zero_meaning, of_numbers, of_strings, judged, is_missing, compared, test_meaning}
 use Rattle.commands.specs.Looping.{counting, innermost, counted, begin_meaning, end_meaning}
@@ -59,7 +59,7 @@ use Rattle.pages.specs.declared.page.Page.{Page}
 use Rattle.pages.specs.declared.heading.Heading.{Heading}
 use Rattle.pages.specs.Page.{on, say_meaning, head_meaning, heads_meaning, break_meaning, turn_meaning, top_meaning, highest_defined, line_step}
 use Rattle.control.specs.State.{State, seen}
-use Rattle.control.specs.Line.{past_line, breaking, breaking_for, new_page_meaning, form_meaning, line_meaning}
+use Rattle.control.specs.Line.{past_line, breaking, breaking_for, new_page_meaning, form_meaning, parsed_meaning, line_meaning}
 use Rattle.report.specs.Report.{run_from}
 
 abbrev Late : Refusal → Type 0
@@ -94,17 +94,17 @@ module _ {A : Type 0} where
 -- ---- what follows from values: 10 to 13
 
 abbrev Fair : {A : Type 0} → Settled A → Type 0
-Fair (settled a) = Unit {0}
-Fair (refused_for e) = Late e
+Fair (Ok a) = Unit {0}
+Fair (Err e) = Late e
 
 module _ {A : Type 0} where
   fair_then : {B : Type 0} (x : Settled A) (f : A → Settled B) → Fair x → ((a : A) → Fair (f a)) → Fair (and_then x f)
-  fair_then (settled a) f h g = g a
-  fair_then (refused_for e) f h g = h
+  fair_then (Ok a) f h g = g a
+  fair_then (Err e) f h g = h
 
   late_concluded : (line : ℕ) (x : Settled A) → Fair x → LateEnds (concluded line x)
-  late_concluded line (settled a) h = tt
-  late_concluded line (refused_for e) h = h
+  late_concluded line (Ok a) h = tt
+  late_concluded line (Err e) h = h
 
 integer_fair : (w : Worth) → Fair (integer_from w)
 unfolding integer_from
@@ -128,14 +128,11 @@ string_fair wrong = omega arith
 string_fair (number q) = omega arith
 string_fair (string s) = tt
 
-result_fair : (x : N.Result) → Fair (result_of x)
+result_fair : (x : Result ℤ ArithmeticError) → Fair (result_of x)
 unfolding result_of
-result_fair (N.success z) = tt
-result_fair (N.no_result n) = by (eqb n 12)
-  where
-    by : (b : Bool) → Late (cond b ZeroDivisor OutOfRange)
-    by true = omega arith
-    by false = omega arith
+result_fair (Ok z) = tt
+result_fair (Err arithmetic.ZeroDivisor) = omega arith
+result_fair (Err arithmetic.OutOfRange) = omega arith
 
 millionths_fair : (q : Quantity) → Fair (millionths_of q)
 unfolding millionths_of
@@ -146,7 +143,7 @@ decimal_fair : (w : Worth) → Fair (decimal_from w)
 unfolding decimal_from
 decimal_fair w = fair_then (quantity_from w) millionths_of (quantity_fair w) millionths_fair
 
-new_fair : (from : Worth → Settled ℤ) (operation : ℤ → N.Result) (w : Worth) → Fair (from w) → Fair (new_from from operation w)
+new_fair : (from : Worth → Settled ℤ) (operation : ℤ → Result ℤ ArithmeticError) (w : Worth) → Fair (from w) → Fair (new_from from operation w)
 unfolding new_from
 new_fair from operation w h = fair_then (from w) (λ b. result_of (operation b)) h (λ b. result_fair (operation b))
 
@@ -154,12 +151,12 @@ stored_fair : {A : Type 0} (vs : List A) (n : ℕ) (x : Settled A) → Fair x �
 unfolding as_variable
 stored_fair vs n x h = fair_then x _ h (λ z. tt)
 
-kept_fair : {A : Type 0} (vs : List A) (n : ℕ) (x : Settled A) (f : List A → Variables) → Fair x → Fair (and_then (as_variable vs n x) (λ l. settled (f l)))
-kept_fair vs n x f h = fair_then (as_variable vs n x) (λ l. settled (f l)) (stored_fair vs n x h) (λ l. tt)
+kept_fair : {A : Type 0} (vs : List A) (n : ℕ) (x : Settled A) (f : List A → Variables) → Fair x → Fair (and_then (as_variable vs n x) (λ l. Ok (f l)))
+kept_fair vs n x f h = fair_then (as_variable vs n x) (λ l. Ok (f l)) (stored_fair vs n x h) (λ l. tt)
 
 text_fair : (w : Worth) → Fair (string_new w)
 unfolding string_new
-text_fair w = fair_then (string_from w) (λ s. settled (take 16 s)) (string_fair w) (λ s. tt)
+text_fair w = fair_then (string_from w) (λ s. Ok (take 16 s)) (string_fair w) (λ s. tt)
 
 set_fair : (v : Variables) (o : Operation) (t : Target) (w : Worth) → Fair (set_of v o t w)
 unfolding set_of
@@ -196,7 +193,7 @@ compared_fair : (c : Comparison) (v w : Worth) → Fair (compared c v w)
 unfolding compared
 compared_fair c v w = by (is_missing v || is_missing w)
   where
-    by : (b : Bool) → Fair (cond b (refused_for MissingArgument) (judged c v w))
+    by : (b : Bool) → Fair (cond b (Err MissingArgument) (judged c v w))
     by true = omega arith
     by false = judged_fair c v w
 
@@ -204,7 +201,7 @@ counted_fair : (ts : List Table) (k : ℤ) → Fair (counted ts k)
 unfolding counted
 counted_fair ts k = by (lt_z k (pos 1))
   where
-    by : (b : Bool) → Fair (cond b (refused_for OutOfRange) (settled (counting ts ((innermost ts).counter + nat_abs k))))
+    by : (b : Bool) → Fair (cond b (Err OutOfRange) (Ok (counting ts ((innermost ts).counter + nat_abs k))))
     by true = omega arith
     by false = tt
 
@@ -213,7 +210,7 @@ unfolding datasource_from
 datasource_fair (negsuc n) = omega arith
 datasource_fair (pos n) = by (leb 1 n && leb n 35)
   where
-    by : (b : Bool) → Fair (cond b (settled n) (refused_for BadIndex))
+    by : (b : Bool) → Fair (cond b (Ok n) (Err BadIndex))
     by true = tt
     by false = omega arith
 
@@ -283,10 +280,10 @@ module _ (m : Machine) (line : ℕ) where
   unfolding integer_meaning
   integer_late s a = followed s a integer_from integer_fair
 
-  end_late : (s : List ℕ) (ts : List Table) (k : Optional) → LateEnds (end_meaning m s line ts k)
+  end_late : (s : List ℕ) (ts : List Table) (k : Option Argument) → LateEnds (end_meaning m s line ts k)
   unfolding end_meaning
-  end_late s ts Absent = late_concluded line (counted ts (pos 1)) (counted_fair ts (pos 1))
-  end_late s ts (Given a) = late_bind (integer_meaning m s line a) _ (integer_late s a) (λ k. late_concluded line (counted ts k) (counted_fair ts k))
+  end_late s ts None = late_concluded line (counted ts (pos 1)) (counted_fair ts (pos 1))
+  end_late s ts (Some a) = late_bind (integer_meaning m s line a) _ (integer_late s a) (λ k. late_concluded line (counted ts k) (counted_fair ts k))
 
   -- ---- a text line with what comes before it: 11, and what its fields ask
 
@@ -326,14 +323,13 @@ module _ (t : List ℕ) (start l : ℕ) (body : List ℕ) (s : State) where
   unfolding breaking break_meaning
   breaking_late = tt
 
-  np_late : (n : Optional) → LateEnds (new_page_meaning l body s n)
+  np_late : (n : Option Argument) → LateEnds (new_page_meaning l body s n)
   unfolding new_page_meaning breaking_for
-  np_late Absent = breaking_late
-  np_late (Given a) = late_bind (integer_meaning (seen s) body l a) (breaking_for l s) (integer_late (seen s) l body a) (λ z. late_if (lt_z (pos (61 - s.page.row)) z) (breaking l s) (done s) breaking_late tt)
+  np_late None = breaking_late
+  np_late (Some a) = late_bind (integer_meaning (seen s) body l a) (breaking_for l s) (integer_late (seen s) l body a) (λ z. late_if (lt_z (pos (61 - s.page.row)) z) (breaking l s) (done s) breaking_late tt)
 
   form_late : (f : Line) → LateEnds (form_meaning t start l body s f)
   unfolding form_meaning set_meaning zero_meaning test_meaning begin_meaning records_meaning entries_meaning datasource_meaning
-  form_late form.NoForm = tt
   form_late form.Text = late_bind (line_step (seen s) t l s.layout.form_feeds s.layout.headings body s.page) _ (step_late (seen s) t l s.layout.form_feeds s.layout.headings body s.page) (λ p. tt)
   form_late (form.Section a b) = tt
   form_late (form.Set o v a) = late_bind (set_meaning (seen s) body l o v a) _ (followed (seen s) l body a (set_of s.variables o v) (set_fair s.variables o v)) (λ x. tt)
@@ -356,9 +352,13 @@ module _ (t : List ℕ) (start l : ℕ) (body : List ℕ) (s : State) where
   form_late (form.NoHeading n) = tt
   form_late form.Remark = tt
 
+  parsed_late : (x : Option Line) → LateEnds (parsed_meaning t start l body s x)
+  parsed_late (Some f) = form_late f
+  parsed_late None = tt
+
 line_late : (t : List ℕ) (s : State) → LateEnds (line_meaning t s)
 unfolding line_meaning
-line_late t s = form_late t s.position.at s.position.line (line_at t s.position.at) (past_line s (length (line_at t s.position.at))) (parse_line (line_at t s.position.at))
+line_late t s = parsed_late t s.position.at s.position.line (line_at t s.position.at) (past_line s (length (line_at t s.position.at))) (parse_line (line_at t s.position.at))
 
 run_late : (n : ℕ) (t : List ℕ) (end : ℕ) (s : State) → LateEnds (run_from n t end s)
 unfolding run_from

@@ -1,4 +1,5 @@
 -- Every state that a run reaches is sound, whatever source answers it.
+use Rattle.std.specs.Prelude.{Ok}
 use mathlib.Core.Path.{◌≡◌, refl, subst}
 use mathlib.Core.Bool.{Bool, true, false, cond}
 use mathlib.Core.List.{List}
@@ -8,7 +9,6 @@ use borrow.Author.Tests.{ltb-true}
 use lib.Dec.{ltb}
 use lib.ListN.{length}
 use Rattle.template.specs.declared.Extent.{Extent}
-use Rattle.template.specs.declared.Checked.TheVariants.{Accepted}
 use Rattle.template.specs.Order.{template_checked}
 use Rattle.template.proofs.Accepted.{accepted_runs}
 use Rattle.meaning.specs.Answer.{Answer}
@@ -39,7 +39,7 @@ stretch_on (suc k) t end g s c h i = by (ltb s.position.at end) refl (λ s' c' j
     by false e next = (g, i)
 
 -- After any number of lines of an accepted template's run.
-pub reached_sound : (t name : List ℕ) (r : Extent) → template_checked t name ≡ Accepted r → (source : Question → Answer) (places room k : ℕ) (s : State) → (run source places room (stretch k t r.until (start_of r))).end ≡ finished s → (g : ℕ) × Sound t g s
+pub reached_sound : (t name : List ℕ) (r : Extent) → template_checked t name ≡ Ok r → (source : Question → Answer) (places room k : ℕ) (s : State) → (run source places room (stretch k t r.until (start_of r))).end ≡ finished s → (g : ℕ) × Sound t g s
 reached_sound t name r e source places room k s f =
     let m = stretch k t r.until (start_of r) in
     let (g, i) = subst (λ x. AtEnd (SomeOn t) x (state_after (page_limit 60) 0 (run source places room m).events)) f (keeps_end (page_limit 60) source places room m 0 (SomeOn t) (stretch_on k t r.until 1 (start_of r) 0 (accepted_runs t name r e).inside (start_on t name r e))) in

@@ -1,5 +1,8 @@
 -- "A report ending in 1–6 gives pages, text bytes and questions 0 and touches no buffer.": the checks refused it, since a run ends
 -- with 0 or with 7 or more.
+use Rattle.std.specs.Prelude.{Result, Ok, Err}
+use Rattle.meaning.specs.declared.refusal.Refusal.{Refusal}
+use Rattle.template.specs.declared.Extent.{Extent}
 use mathlib.Core.Path.{◌≡◌, refl, ap, ◌∙◌, subst}
 use mathlib.Core.Bool.{Bool, true, false, cond}
 use mathlib.Core.List.{List, []}
@@ -7,8 +10,6 @@ use Prim.Native.Nat.{ℕ, ◌≤◌}
 use native.Mathlib.Omega.{arith}
 use lib.ListN.{length}
 use lib.Seq.{sets}
-use Rattle.template.specs.declared.Checked.{Checked}
-use Rattle.template.specs.declared.Checked.TheVariants.{Accepted, Refused}
 use Rattle.template.specs.Order.{template_checked}
 use Rattle.cells.specs.Store.{cells_held, holds_cells}
 use Rattle.meaning.specs.Event.{Event, joined}
@@ -35,9 +36,9 @@ pub early_is_nothing : (t name b : List ℕ) (n places room : ℕ) → Early (re
 unfolding report_of checked_outcome
 early_is_nothing t name b n places room = by (holds_cells (cells_held b n))
   where
-    checked : (k : Checked) → Early (checked_outcome t (answers b n) places room k)
-    checked (Accepted r) least most = absurd (omega (arith, most, late (answers b n) places room 50000 t r.until (start_of r) least))
-    checked (Refused e l) least most = record { pages = refl; events = refl; questions = refl }
+    checked : (k : Result Extent (Refusal × ℕ)) → Early (checked_outcome t (answers b n) places room k)
+    checked (Ok r) least most = absurd (omega (arith, most, late (answers b n) places room 50000 t r.until (start_of r) least))
+    checked (Err (e, l)) least most = record { pages = refl; events = refl; questions = refl }
 
     by : (f : Bool) → Early (cond f (checked_outcome t (answers b n) places room (template_checked t name)) (refused_report BadStore 0))
     by true least most = checked (template_checked t name) least most

@@ -1,14 +1,13 @@
 -- In every state that a run reaches, each field of the text line and of its headings has the bytes that document 01 defines: the
 -- asterisks of `or_stars` are not met.
+use Rattle.std.specs.Prelude.{Ok, Option, Some, None}
 use mathlib.Core.Path.{◌≡◌, refl, ap, ◌∙◌}
 use mathlib.Core.Bool.{Bool, true, false, cond, ◌||◌, true≢false}
 use mathlib.Core.List.{List, [], ◌∷◌, ◌++◌}
-use mathlib.Core.Option.{Option, none, some}
 use Prim.Native.Nat.{ℕ, ◌≤◌}
 use Rattle.lines.specs.declared.command.Line.TheVariants as form
 use Rattle.lines.specs.Readers.Command.{parse_line}
 use Rattle.template.specs.declared.Extent.{Extent}
-use Rattle.template.specs.declared.Checked.TheVariants.{Accepted}
 use Rattle.template.specs.Order.{template_checked}
 use Rattle.meaning.specs.Answer.{Answer}
 use Rattle.meaning.specs.Tree.{done, bind, finished, run}
@@ -28,7 +27,7 @@ use Rattle.values.specs.Worth.{Worth}
 use Rattle.values.specs.Meanings.{argument_meaning}
 use Rattle.values.proofs.Ranges.{WorthWithin, MachineWithin, argument_within, answers_within}
 use Rattle.pages.specs.declared.page.Page.{Page}
-use Rattle.pages.specs.Shown.{places_in, shown_value, field_bytes}
+use Rattle.pages.specs.Shown.{shown_value, field_bytes}
 use Rattle.pages.specs.Text.{field_values, rendered, is_wrong, any_wrong}
 use Rattle.pages.specs.Page.{advanced_of, line_step}
 use Rattle.pages.specs.Inner.Listing.{turned_page, Due}
@@ -46,9 +45,9 @@ use Rattle.demands.proofs.Due.{line_means}
 
 -- what is printed is defined, if no kind is wrong
 abbrev Defined : List Piece → List Worth → Type 0
-Defined ps ws = any_wrong ws ≡ false → defined ps ws ≡ some (rendered ps ws)
+Defined ps ws = any_wrong ws ≡ false → defined ps ws ≡ Some (rendered ps ws)
 
-both_some : {x y : Option (List ℕ)} (a b : List ℕ) → x ≡ some a → y ≡ some b → both x y ≡ some (a ++ b)
+both_some : {x y : Option (List ℕ)} (a b : List ℕ) → x ≡ Some a → y ≡ Some b → both x y ≡ Some (a ++ b)
 unfolding both
 both_some a b e k = rw (e, k)
 
@@ -57,7 +56,7 @@ module _ (l : List ℕ) (f : Field) (ps : List Piece) where
   unfolding defined bytes_in
   field_defined w ws h k d = by (is_wrong w) refl
     where
-      by : (b : Bool) → is_wrong w ≡ b → (b || any_wrong ws) ≡ false → both (cond b none (field_of f.width (places_in f.places) (shown_value w))) (defined ps ws) ≡ some (field_bytes f.width f.places w ++ rendered ps ws)
+      by : (b : Bool) → is_wrong w ≡ b → (b || any_wrong ws) ≡ false → both (cond b None (field_of f.width f.places (shown_value w))) (defined ps ws) ≡ Some (field_bytes f.width f.places w ++ rendered ps ws)
       by true e z = absurd (true≢false z)
       by false e z = both_some (field_bytes f.width f.places w) (rendered ps ws) (field_shown l f w h k) (d z)
 
@@ -78,12 +77,12 @@ lines_shown : (source : Question → Answer) → ((q : Question) → AnswerWithi
 lines_shown source every m [] p h = tt
 lines_shown source every m (d ∷ ds) p h = (line_shown source every _ d h.0.machine, lines_shown source every m ds (advanced_of p) h.1)
 
-text_means : (t : List ℕ) (s : State) → parse_line (bytes_due t s) ≡ form.Text → line_meaning t s ≡ bind (line_step (seen s) t s.position.line s.layout.form_feeds s.layout.headings (bytes_due t s) s.page) (λ p. done (with_page (on_next t s) p))
+text_means : (t : List ℕ) (s : State) → parse_line (bytes_due t s) ≡ Some form.Text → line_meaning t s ≡ bind (line_step (seen s) t s.position.line s.layout.form_feeds s.layout.headings (bytes_due t s) s.page) (λ p. done (with_page (on_next t s) p))
 unfolding form_meaning
 text_means t s e = line_means t s form.Text e
 
 -- A text line that is due after any number of lines of an accepted template's run, on any store.
-pub run_fields_shown : (t name : List ℕ) (r : Extent) → template_checked t name ≡ Accepted r → (b : List ℕ) (n places room k : ℕ) → k ≤ 50000 → (s : State) → (run (answers b n) places room (stretch k t r.until (start_of r))).end ≡ finished s → parse_line (bytes_due t s) ≡ form.Text → TextShown (answers b n) t s
+pub run_fields_shown : (t name : List ℕ) (r : Extent) → template_checked t name ≡ Ok r → (b : List ℕ) (n places room k : ℕ) → k ≤ 50000 → (s : State) → (run (answers b n) places room (stretch k t r.until (start_of r))).end ≡ finished s → parse_line (bytes_due t s) ≡ Some form.Text → TextShown (answers b n) t s
 run_fields_shown t name r e b n places room k h s f i =
     let w = store_in_range t name r e b n places room k h s f in
     record {

@@ -1,5 +1,5 @@
 -- PAGENUM when a run ended.
-use Rattle.std.specs.Prelude.{◌≡◌, List, ◌++◌, ℕ, suc, ◌+◌, ◌<◌}
+use Rattle.std.specs.Prelude.{◌≡◌, List, ◌++◌, ℕ, suc, ◌+◌, ◌<◌, Some}
 use Rattle.lines.specs.declared.command.Line.TheVariants.{Text}
 use Rattle.lines.specs.Readers.Command.{parse_line}
 use Rattle.template.specs.declared.Extent.{Extent}
@@ -30,6 +30,6 @@ pub data LastPage (source : Question → Answer) (t : List ℕ) (r : Extent) (pl
   -- it was refused or cut off in the text line behind k lines, behind the line's break if one was due: PAGENUM of the page on which its
   -- headings and the line itself are worked out
   in_text_line : (c : Cause Refusal) (l k : ℕ) (s : State) → e ≡ halted c l → (run source places room (stretch k t r.until (start_of r))).end ≡ finished s
-      → (run source places room (stretch (suc k) t r.until (start_of r))).end ≡ halted c l → parse_line (bytes_due t s) ≡ Text
+      → (run source places room (stretch (suc k) t r.until (start_of r))).end ≡ halted c l → parse_line (bytes_due t s) ≡ Some Text
       → (own : List Event) → (run source places room (run_meaning t r)).events ≡ (run source places room (stretch k t r.until (start_of r))).events ++ own
       → (turned_page s.page).number ≡ s.page.number + breaks own → pages ≡ (turned_page s.page).number → LastPage source t r places room pages e

@@ -1,5 +1,5 @@
 -- Where a failed test, an executed $ELSE and a skipped table go on: behind the line that `structure` says is their match.
-use Rattle.std.specs.Prelude.{◌≡◌, Bool, true, false, cond, List, ◌∷◌, ℕ, suc, ◌+◌, min, pos, length, drop}
+use Rattle.std.specs.Prelude.{◌≡◌, Bool, true, false, cond, List, ◌∷◌, ℕ, suc, ◌+◌, min, pos, length, drop, Some}
 use Rattle.std.specs.Int.Signed.{lt_z}
 use Rattle.scan.specs.Line.{next_line}
 use Rattle.arguments.specs.declared.argument.Argument.{Argument}
@@ -67,8 +67,8 @@ pub record TableGoesOn (t : List ℕ) (s : State) (a : Argument) : Type 0 where
 
 -- each of these lines
 pub record GoesOn (t : List ℕ) (s : State) : Type 0 where
-  pub at_if_not : (a : Argument) → parse_line (bytes_due t s) ≡ IfNot a → TestGoesOn t s (zero_meaning (seen s) (bytes_due t s) s.position.line true a)
-  pub at_if : (a : Argument) → parse_line (bytes_due t s) ≡ If a → TestGoesOn t s (zero_meaning (seen s) (bytes_due t s) s.position.line false a)
-  pub at_compare : (c : Comparison) (a b : Argument) → parse_line (bytes_due t s) ≡ Compare c a b → TestGoesOn t s (test_meaning (seen s) (bytes_due t s) s.position.line c a b)
-  pub at_an_else : parse_line (bytes_due t s) ≡ Else → ElseGoesOn t s
-  pub at_begin_table : (a : Argument) → parse_line (bytes_due t s) ≡ BeginTable a → TableGoesOn t s a
+  pub at_if_not : (a : Argument) → parse_line (bytes_due t s) ≡ Some (IfNot a) → TestGoesOn t s (zero_meaning (seen s) (bytes_due t s) s.position.line true a)
+  pub at_if : (a : Argument) → parse_line (bytes_due t s) ≡ Some (If a) → TestGoesOn t s (zero_meaning (seen s) (bytes_due t s) s.position.line false a)
+  pub at_compare : (c : Comparison) (a b : Argument) → parse_line (bytes_due t s) ≡ Some (Compare c a b) → TestGoesOn t s (test_meaning (seen s) (bytes_due t s) s.position.line c a b)
+  pub at_an_else : parse_line (bytes_due t s) ≡ Some Else → ElseGoesOn t s
+  pub at_begin_table : (a : Argument) → parse_line (bytes_due t s) ≡ Some (BeginTable a) → TableGoesOn t s a

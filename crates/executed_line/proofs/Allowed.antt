@@ -1,5 +1,6 @@
 -- A line of a run asks only questions within their limits.
-use mathlib.Core.Path.{refl}
+use Rattle.std.specs.Prelude.{Option, Some, None}
+use mathlib.Core.Path.{◌≡◌, refl}
 use mathlib.Core.Bool.{Bool, true, false, cond}
 use mathlib.Core.List.{List}
 use Prim.Native.Nat.{ℕ, ◌-◌}
@@ -7,8 +8,7 @@ use lib.IntN.{pos}
 use lib.Signed.{lt_z}
 use lib.ListN.{length}
 use Rattle.scan.specs.Line.{line_at}
-use Rattle.lines.specs.declared.command.Optional.{Optional}
-use Rattle.lines.specs.declared.command.Optional.TheVariants.{Given, Absent}
+use Rattle.arguments.specs.declared.argument.Argument.{Argument}
 use Rattle.lines.specs.declared.command.Line.{Line}
 use Rattle.lines.specs.declared.command.Line.TheVariants as form
 use Rattle.lines.specs.Readers.Command.{parse_line}
@@ -30,7 +30,7 @@ use Rattle.control.proofs.Allowed.{set_asks, integer_asks, zero_asks, test_asks,
 use Rattle.pages.specs.Page.{break_meaning, line_step}
 use Rattle.pages.proofs.Allowed.{step_asks}
 use Rattle.control.specs.State.{State, seen, with_variables, with_datasource, with_page}
-use Rattle.control.specs.Line.{past_line, setting, branched, testing, table_begun, table_counted, breaking, breaking_for, new_page_meaning, form_meaning, line_meaning}
+use Rattle.control.specs.Line.{past_line, setting, branched, testing, table_begun, table_counted, breaking, breaking_for, new_page_meaning, form_meaning, parsed_meaning, line_meaning}
 
 module _ (t : List ℕ) (start l : ℕ) (body : List ℕ) (s : State) (d : Between 1 35 s.datasource) where
   sets : (x : Meaning Variables) → AsksAllowed x → AsksAllowed (setting s x)
@@ -39,10 +39,10 @@ module _ (t : List ℕ) (start l : ℕ) (body : List ℕ) (s : State) (d : Betwe
   tests : (x : Meaning Bool) → AsksAllowed x → AsksAllowed (testing t s x)
   tests x h = asks_then AnswerWithin Allowed x (λ holds. done (branched t s holds)) h (λ b. tt)
 
-  pages : (n : Optional) → OptionalWithin body n → AsksAllowed (new_page_meaning l body s n)
+  pages : (n : Option Argument) → OptionalWithin body n → AsksAllowed (new_page_meaning l body s n)
   unfolding new_page_meaning breaking_for breaking break_meaning
-  pages Absent h = tt
-  pages (Given a) h = asks_then AnswerWithin Allowed (integer_meaning (seen s) body l a) (breaking_for l s) (integer_asks (seen s) d l body a h) (λ z. by (lt_z (pos (61 - s.page.row)) z))
+  pages None h = tt
+  pages (Some a) h = asks_then AnswerWithin Allowed (integer_meaning (seen s) body l a) (breaking_for l s) (integer_asks (seen s) d l body a h) (λ z. by (lt_z (pos (61 - s.page.row)) z))
     where
       by : (b : Bool) → AsksAllowed (cond b (breaking l s) (done s))
       by true = tt
@@ -50,7 +50,6 @@ module _ (t : List ℕ) (start l : ℕ) (body : List ℕ) (s : State) (d : Betwe
 
   form_asks : (f : Line) → Bounded body f → AsksAllowed (form_meaning t start l body s f)
   unfolding form_meaning
-  form_asks form.NoForm b = tt
   form_asks form.Text b = asks_then AnswerWithin Allowed (line_step (seen s) t l s.layout.form_feeds s.layout.headings body s.page) (λ p. done (with_page s p)) (step_asks (seen s) d t l s.layout.form_feeds s.layout.headings body s.page) (λ p. tt)
   form_asks (form.Section a e) b = tt
   form_asks (form.Set o v a) b = sets (set_meaning (seen s) body l o v a) (set_asks (seen s) d l body o v a b.1)
@@ -70,7 +69,11 @@ module _ (t : List ℕ) (start l : ℕ) (body : List ℕ) (s : State) (d : Betwe
   form_asks (form.NoHeading n) b = tt
   form_asks form.Remark b = tt
 
+  parsed_asks : (x : Option Line) → ((f : Line) → x ≡ Some f → Bounded body f) → AsksAllowed (parsed_meaning t start l body s x)
+  parsed_asks (Some f) b = form_asks f (b f refl)
+  parsed_asks None b = tt
+
 -- One line.
 pub line_asks : (t : List ℕ) (s : State) → Between 1 35 s.datasource → AsksAllowed (line_meaning t s)
 unfolding line_meaning
-line_asks t s d = let body = line_at t s.position.at in form_asks t s.position.at s.position.line body (past_line s (length body)) d (parse_line body) (parsed_bounded body (parse_line body) refl)
+line_asks t s d = let body = line_at t s.position.at in parsed_asks t s.position.at s.position.line body (past_line s (length body)) d (parse_line body) (parsed_bounded body)

@@ -1,4 +1,5 @@
 -- PAGENUM is one more than the breaks printed so far: every line of a run keeps that, whatever the store answers.
+use Rattle.std.specs.Prelude.{Option, Some, None}
 use mathlib.Core.Path.{◌≡◌, refl, sym, ap, ◌∙◌}
 use mathlib.Core.Bool.{Bool, true, false, cond}
 use mathlib.Core.List.{List}
@@ -7,8 +8,7 @@ use lib.IntN.{pos}
 use lib.Signed.{lt_z}
 use lib.ListN.{length}
 use Rattle.scan.specs.Line.{line_at}
-use Rattle.lines.specs.declared.command.Optional.{Optional}
-use Rattle.lines.specs.declared.command.Optional.TheVariants.{Given, Absent}
+use Rattle.arguments.specs.declared.argument.Argument.{Argument}
 use Rattle.lines.specs.declared.command.Line.{Line}
 use Rattle.lines.specs.declared.command.Line.TheVariants as form
 use Rattle.lines.specs.Readers.Command.{parse_line}
@@ -28,7 +28,7 @@ use Rattle.pages.specs.declared.page.Page.{Page}
 use Rattle.pages.specs.Page.{break_meaning, line_step}
 use Rattle.pages.proofs.Counting.{counting, OnPage, break_counts, step_counts}
 use Rattle.control.specs.State.{State, seen, with_position, with_variables, with_datasource, with_tables, with_page}
-use Rattle.control.specs.Line.{past_line, jumped, branched, table_begun, table_counted, breaking, breaking_for, new_page_meaning, form_meaning, line_meaning}
+use Rattle.control.specs.Line.{past_line, jumped, branched, table_begun, table_counted, breaking, breaking_for, new_page_meaning, form_meaning, parsed_meaning, line_meaning}
 use Rattle.template.specs.declared.seek.Sought.TheVariants.{TableEnd}
 
 -- the page of a state
@@ -64,10 +64,10 @@ module _ (t : List ℕ) (start l : ℕ) (body : List ℕ) (s : State) (c : ℕ) 
   unfolding breaking
   breaks_count = paged (break_meaning l s.layout.form_feeds s.page) (break_counts l s.layout.form_feeds s.page c h)
 
-  np_counts : (n : Optional) → Keeps counting (new_page_meaning l body s n) c Counted
+  np_counts : (n : Option Argument) → Keeps counting (new_page_meaning l body s n) c Counted
   unfolding new_page_meaning breaking_for
-  np_counts Absent = breaks_count
-  np_counts (Given a) =
+  np_counts None = breaks_count
+  np_counts (Some a) =
       keeps_bind counting (integer_meaning (seen s) body l a) (breaking_for l s) c (λ z c'. Anything z × (c' ≡ c)) Counted (gives_keeps counting (integer_meaning (seen s) body l a) c Anything (integer_gives (seen s) body l a)) (λ z c' q. rw q.1 (by (lt_z (pos (61 - s.page.row)) z)))
     where
       by : (b : Bool) → Keeps counting (cond b (breaking l s) (done s)) c Counted
@@ -76,7 +76,6 @@ module _ (t : List ℕ) (start l : ℕ) (body : List ℕ) (s : State) (c : ℕ) 
 
   form_counts : (f : Line) → Keeps counting (form_meaning t start l body s f) c Counted
   unfolding form_meaning
-  form_counts form.NoForm = h
   form_counts form.Text = paged (line_step (seen s) t l s.layout.form_feeds s.layout.headings body s.page) (step_counts (seen s) t l s.layout.form_feeds s.layout.headings body s.page c h)
   form_counts (form.Section a b) = h
   form_counts (form.Set o v a) = asks_count (set_meaning (seen s) body l o v a) (Shaped s.variables) (set_gives (seen s) body l o v a) (with_variables s) (λ _. refl)
@@ -96,7 +95,11 @@ module _ (t : List ℕ) (start l : ℕ) (body : List ℕ) (s : State) (c : ℕ) 
   form_counts (form.NoHeading n) = h
   form_counts form.Remark = h
 
+  parsed_counts : (x : Option Line) → Keeps counting (parsed_meaning t start l body s x) c Counted
+  parsed_counts (Some f) = form_counts f
+  parsed_counts None = h
+
 -- One line.
 pub line_counts : (t : List ℕ) (s : State) (c : ℕ) → Counted s c → Keeps counting (line_meaning t s) c Counted
 unfolding line_meaning
-line_counts t s c h = form_counts t s.position.at s.position.line (line_at t s.position.at) (past_line s (length (line_at t s.position.at))) c h (parse_line (line_at t s.position.at))
+line_counts t s c h = parsed_counts t s.position.at s.position.line (line_at t s.position.at) (past_line s (length (line_at t s.position.at))) c h (parse_line (line_at t s.position.at))

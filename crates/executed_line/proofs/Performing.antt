@@ -1,4 +1,6 @@
 -- A line by its form and values: what each call of `execute` requires, and that it does what the definition says.
+use Rattle.meaning.specs.declared.refusal.Refusal.{Refusal}
+use Rattle.std.specs.Prelude.{Option, Result, Ok, Err}
 use mathlib.Core.Path.{◌≡◌, refl, sym, ap, ◌∙◌, subst}
 use mathlib.Core.Bool.{Bool, true, false}
 use mathlib.Core.List.{List, [], ◌∷◌, map}
@@ -14,7 +16,6 @@ use Rattle.lines.specs.declared.command.Comparison.{Comparison}
 use Rattle.lines.specs.declared.command.Operation.{Operation}
 use Rattle.lines.specs.declared.command.Target.{Target}
 use Rattle.lines.specs.declared.command.Fetch.{Fetch}
-use Rattle.lines.specs.declared.command.Optional.{Optional}
 use Rattle.lines.specs.declared.command.Line.{Line}
 use Rattle.lines.specs.declared.command.Line.TheVariants as form
 use Rattle.lines.specs.Inner.Sound as parsed
@@ -26,32 +27,24 @@ use Rattle.meaning.specs.declared.question.Question.{Question}
 use Rattle.meaning.proofs.Binding.{bind_assoc}
 use Rattle.meaning.specs.Each.{Each}
 use Rattle.meaning.specs.Tree.{done, bind}
-use Rattle.meaning.specs.Inner.Place.{at, Does}
-use Rattle.meaning.specs.Number.{end_of}
-use Rattle.meaning.specs.declared.end.Ended.TheVariants.{Finished}
 use Rattle.meaning.proofs.Doing.{does_done, does_stop}
 use Rattle.values.specs.Inner.Texts.{Strings, strings}
 use Rattle.values.specs.declared.scene.Scene.{Scene}
 use Rattle.values.specs.declared.fetch.Along.{Along}
 use Rattle.values.specs.declared.fetch.Along.TheVariants.{Records, Entries}
-use Rattle.values.specs.declared.fetch.Fetched.{Fetched}
 use Rattle.values.specs.Machine.{Variables, set_numbered}
 use Rattle.values.specs.Fetching.{fetch_meaning}
 use Rattle.values.specs.Inner.Hearing.{place_of}
 use Rattle.values.specs.Indexes.{index_number}
 use Rattle.values.specs.Inner.Word.{questions}
 use Rattle.values.specs.Inner.Fetch.{Fetchable, FetchValue}
-use Rattle.values.specs.Inner.State.{texts, fetched, bank, integers_in, decimals_in, lengths_in, records_in, entries_in, headings_in, tables_in, Held, held, variables_of}
+use Rattle.values.specs.Inner.State.{texts, fetched, bank, integers_in, decimals_in, lengths_in, records_in, entries_in, headings_in, tables_in, Held, held, variables_of, machine}
 use Rattle.values.specs.declared.worth.Worth as W
 use Rattle.values.specs.Worth.{Worth}
 use Rattle.values.specs.Inner.Yielding.{meant}
 use Rattle.values.specs.Inner.Working.{Worths, worths}
-use Rattle.commands.specs.declared.settle.Judged.{Judged}
-use Rattle.commands.specs.declared.settle.Assigned.{Assigned}
-use Rattle.commands.specs.declared.settle.Taken.{Taken}
-use Rattle.commands.specs.declared.settle.Taken.TheVariants as K
 use Rattle.commands.specs.Settling.{Settled, concluded, integer_from}
-use Rattle.commands.specs.Inner.Taking.{taken_of, judged_of, verdict_of, integer_or, Takes}
+use Rattle.commands.specs.Inner.Taking.{integer_or, Takes}
 use Rattle.commands.specs.Setting.{set_of}
 use Rattle.commands.specs.Inner.Assigning.{Rowed, Assigns}
 use Rattle.commands.specs.Testing.{compared}
@@ -62,28 +55,35 @@ use Rattle.control.specs.Fetching.{with_records, with_entries, records_meaning, 
 use Rattle.values.proofs.Clearing.{zeros_bank, zeros_behind, texts_cleared, fetched_cleared}
 use Rattle.pages.specs.Inner.Pass.{lent}
 use Rattle.pages.specs.declared.heading.Heading.{Heading}
-use Rattle.pages.specs.declared.step.Paged.{Paged}
 use Rattle.pages.specs.Heading.{no_heading}
 use Rattle.pages.specs.Inner.Packed.{heading_in, headings_of, Small}
 use Rattle.pages.specs.Page.{head_line, head_from, highest_defined, break_meaning, line_step}
 use Rattle.pages.specs.declared.page.Page.{Page}
 use Rattle.pages.specs.Inner.Listing.{heads_due}
-use Rattle.pages.specs.Inner.Paging.{AllFit, fields_in, page_of, TurnReady, StepReady, Steps}
+use Rattle.pages.specs.Inner.Paging.{AllFit, fields_in, TurnReady, StepReady, Steps}
 use Rattle.pages.proofs.Stepping.{blank_fits, blank_fields}
 use Rattle.pages.proofs.Highest.{highest_most}
 use Rattle.control.specs.declared.state.Flow.{Flow}
-use Rattle.control.specs.declared.state.Lined.{Lined}
 use Rattle.control.specs.State.{State, seen, with_variables, with_datasource, with_tables, with_page, cleared}
 use Rattle.control.specs.Line.{jumped, branched, table_begun, table_counted, breaking, breaking_for, headed, form_meaning}
 use Rattle.control.specs.Inner.Sound.{Fit}
-use Rattle.control.specs.Inner.Going.{ended_in, datasource_in, depth_in, feeds_in, page_in, jumped_in, again_in}
-use Rattle.control.specs.Inner.Executing.{source_of, state_at, machine_in, Executes, FormReady}
-use Rattle.control.specs.Inner.Arms.{Jumpable, Settles, kept_in, branched_in, begun_in, over_in, datasource_at, Refills, Clears, Heads, BreaksLine, PagesLine}
+use Rattle.control.specs.Inner.Executing.{source_of, state_at, machine_in, Executes, FormReady, SameRows}
 use Rattle.control.specs.Inner.Forms.{form_with}
 use Rattle.control.specs.Inner.Remembering.{Remembered}
-use Rattle.control.proofs.Commanding.{then_executes, went_executes, settles_executes, mapped_same}
+use Rattle.control.proofs.Commanding.{then_executes, went_executes, settles_executes, mapped_same, over_executes}
 use Rattle.control.proofs.Following.{datasource_is}
 use Rattle.control.proofs.Remembering.{remembered_same}
+use Rattle.meaning.specs.Meaning.{Meaning}
+use Rattle.meaning.specs.declared.end.Stop.{Stop}
+use Rattle.meaning.specs.Number.{ended_in}
+use Rattle.meaning.specs.Inner.Place.{Does}
+use Rattle.values.specs.declared.log.Log.{Log}
+use Rattle.values.specs.Inner.Logged.{filled_to}
+use Rattle.values.specs.Inner.Fetch.{Fetches}
+use Rattle.std.specs.Prelude.{Result, Ok, Err}
+use Rattle.control.specs.Inner.Going.{datasource_in, depth_in, feeds_in, page_in, jumped_in, again_in}
+use Rattle.control.specs.Inner.Arms.{on_line, Jumpable, Settles, branched_in, begun_in, over_in, datasource_at, Refills, Clears, Heads, PagesLine}
+use Rattle.pages.specs.Inner.Paging.{Breaks}
 
 all_fit : (t : List ℕ) (due : ℕ) (hs : List Heading) (n : ℕ) → Each (Fit t) hs → AllFit (heads_due t due (take n hs))
 all_fit t due hs zero e = (blank_fits, tt)
@@ -117,7 +117,7 @@ bank_long l l' i k e = omega (arith, e, length-take k (drop i l), length-drop i 
 
 -- ---- the calls of `execute`
 
-module _ {body b index t : List ℕ} {h : Held} {scene : Scene} {start : ℕ} {f : Flow} {line : Line} {T : List ℕ} {u a : ℕ} (k : FormReady body b index t h scene start f line T u a) where
+module _ {body b index t : List ℕ} {h : Held} {scene : Scene} {start : ℕ} {f : Flow} {line : Line} {T : List ℕ} {u : ℕ} {log : Log} (k : FormReady body b index t h scene start f line T u log) where
   abbrev s : State
   s = state_at b h f
 
@@ -145,13 +145,13 @@ module _ {body b index t : List ℕ} {h : Held} {scene : Scene} {start : ℕ} {f
   pub set_ready : Rowed h.rows
   set_ready = record { rows_held = k.rows }
 
-  fetchable : (n : ℕ) → n ≤ 65535 → Fetchable scene.datasource n a
+  fetchable : (n : ℕ) → n ≤ 65535 → Fetchable scene.datasource n log.asked
   fetchable n e = record { datasource = omega (arith, source_same, k.datasource); parameter = e; place = omega (arith, k.places) }
 
-  pub records_ready : (x : Fetch) → line ≡ form.Records x → Fetchable scene.datasource x.parameter a
+  pub records_ready : (x : Fetch) → line ≡ form.Records x → Fetchable scene.datasource x.parameter log.asked
   records_ready x e = fetchable x.parameter (sound (form.Records x) e)
 
-  pub entries_ready : (x : Fetch) → line ≡ form.Entries x → Fetchable scene.datasource x.parameter a
+  pub entries_ready : (x : Fetch) → line ≡ form.Entries x → Fetchable scene.datasource x.parameter log.asked
   entries_ready x e = fetchable x.parameter (sound (form.Entries x) e)
 
   pub heading_small : (n from : ℕ) → line ≡ form.Heading n from → Small (record { start = start; length = length body; from = from; number = scene.number })
@@ -179,8 +179,8 @@ module _ {body b index t : List ℕ} {h : Held} {scene : Scene} {start : ℕ} {f
   abbrev due : Heading
   due = record { start = start; length = length body; from = 0; number = scene.number }
 
-  pub step_ready : (p : ℕ) → line ≡ form.Text → StepReady (lent b index h.numbers h.rows h.words) scene t hs due T (record { printed = u; asked = a; places = p })
-  step_ready p e = record {
+  pub step_ready : line ≡ form.Text → StepReady (lent b index h.numbers h.rows h.words) scene f.page t hs due T u log
+  step_ready e = record {
     heads = all_fit t scene.number hs (highest_defined hs 9) k.heads;
     fits = rw k.within (sound form.Text e);
     logged = rw k.within (omega (arith, k.places, few_fields t scene.number hs (highest_defined hs 9) k.heads, highest_most hs 9, fields_few body 0 k.short));
@@ -189,8 +189,8 @@ module _ {body b index t : List ℕ} {h : Held} {scene : Scene} {start : ℕ} {f
     short_store = k.stored;
     datasource = omega (arith, source_same, k.datasource);
     room = k.room;
-    row = omega (arith, ap (λ (x : Scene). x.row) k.scened, k.row);
-    number = omega (arith, ap (λ (x : Scene). x.page) k.scened, k.page);
+    row = k.row;
+    number = omega (arith, k.page);
   }
 
   -- ---- what they do
@@ -231,8 +231,8 @@ module _ {body b index t : List ℕ} {h : Held} {scene : Scene} {start : ℕ} {f
   ended_page ws true = refl
   ended_page ws false = refl
 
-  heads_same : (ws : List ℕ) (n : ℕ) (x : Heading) (r : Lined) → Heads h.words n x f u a ws r → state_at b (held h.numbers h.rows ws) f ≡ headed s n x
-  heads_same ws n x r d =
+  heads_same : (ws : List ℕ) (n : ℕ) (x : Heading) → Heads h.words n x ws → state_at b (held h.numbers h.rows ws) f ≡ headed s n x
+  heads_same ws n x d =
       let y : tables_in ws ≡ tables_in h.words = d.above 128 20 (omega arith) in
       let l : lengths_in ws ≡ lengths_in h.words = d.others 0 99 (omega arith) in
       let m : records_in ws ≡ records_in h.words = d.others 99 10 (omega arith) in
@@ -243,58 +243,76 @@ module _ {body b index t : List ℕ} {h : Held} {scene : Scene} {start : ℕ} {f
   variables_same : (h' : Held) → headings_in h'.words ≡ headings_in h.words → tables_in h'.words ≡ tables_in h.words → state_at b h' f ≡ with_variables s (variables_of (source_of b) h')
   variables_same h' e y = λ z. record { position = record { at = f.at; line = f.line }; variables = variables_of (source_of b) h'; datasource = f.datasource; tables = opened (y z) f.depth; layout = record { headings = headings_of (e z); form_feeds = f.feeds }; page = f.page }
 
-  module _ (log : List ℕ) (p : ℕ) (v : Worths) where
-    abbrev With : List ℕ → List ℕ → Held → Lined → Type 0
-    With T' log' h' r = Executes 330 (form_with t start scene.number body s line v) b h f T u log a p h' T' log' r
+  module _ (v : Worths) where
+    abbrev With : Held → Flow → List ℕ → ℕ → Log → Result (Unit {0}) Stop → Type 0
+    With h' f' T' u' log' r = Executes 330 (form_with t start scene.number body s line v) b h f T u log h' f' T' u' log' r
 
-    pub went_line : (r : Lined) (l : Line) → line ≡ l → form_with t start scene.number body s l v ≡ done s → r ≡ ended_in Finished f u a → With T log h r
-    went_line r l e q i = rw (e, q) (went_executes b h h f f T u log a p r s i refl refl (refl, refl))
+    pub went_line : (l : Line) → line ≡ l → form_with t start scene.number body s l v ≡ done s → With h f T u log (Ok tt)
+    went_line l e q = rw (e, q) (went_executes b h h f f T u log s refl refl (refl, refl))
 
-    pub else_line : (r : Lined) → line ≡ form.Else → r ≡ ended_in Finished (jumped_in t f TestEnd) u a → With T log h r
+    pub else_line : (f' : Flow) → line ≡ form.Else → f' ≡ jumped_in t f TestEnd → With h f' T u log (Ok tt)
     unfolding form_with form_meaning
-    else_line r e i = rw e (went_executes b h h f (jumped_in t f TestEnd) T u log a p r (jumped t s TestEnd) i refl refl (refl, refl))
+    else_line f' e i = rw (e, i) (went_executes b h h f (jumped_in t f TestEnd) T u log (jumped t s TestEnd) refl refl (refl, refl))
 
-    pub no_form_feed_line : (r : Lined) (g : Flow) → line ≡ form.NoFormFeed → g ≡ feeds_in f false → r ≡ ended_in Finished g u a → With T log h r
+    pub no_form_feed_line : line ≡ form.NoFormFeed → With h (feeds_in f false) T u log (Ok tt)
     unfolding form_with form_meaning
-    no_form_feed_line r g e q i = rw e (went_executes b h h f (feeds_in f false) T u log a p r (state_at b h (feeds_in f false)) (i ∙ ap (λ (x : Flow). ended_in Finished x u a) q) refl refl (refl, refl))
+    no_form_feed_line e = rw e (went_executes b h h f (feeds_in f false) T u log (state_at b h (feeds_in f false)) refl refl (refl, refl))
 
     selects_is : (y : Index) → datasource_meaning (machine_in b h scene) scene.number y ≡ concluded scene.number (datasource_from (index_number (integers_in h.numbers) scene.turn y))
     unfolding datasource_meaning
     selects_is y = refl
 
-    pub datasource_line : (r : Lined) (n : ℕ) (z : ℤ) (y : Index) → line ≡ form.Datasource y → z ≡ scene.turn → n ≡ place_of (index_number (integers_in h.numbers) z y) → Settles scene.number f u a (datasource_in f) (datasource_at n) r → With T log h r
+    pub datasource_line : (f' : Flow) (r : Result (Unit {0}) Stop) (n : ℕ) (z : ℤ) (y : Index) → line ≡ form.Datasource y → z ≡ scene.turn → n ≡ place_of (index_number (integers_in h.numbers) z y) → Settles scene.number f (datasource_in f) (datasource_at n) f' r → With h f' T u log r
     unfolding form_with form_meaning
-    datasource_line r n z y e q g w =
+    datasource_line f' r n z y e q g w =
         let i = index_number (integers_in h.numbers) scene.turn y in
         rw (e, ← seen_same, selects_is y) (settles_executes (datasource_at n) (datasource_from i) (λ x. x) (with_datasource s) (datasource_is i ∙ ap datasource_at (sym (g ∙ ap (λ (x : ℤ). place_of (index_number (integers_in h.numbers) x y)) q)) ∙ mapped_same (datasource_at n)) w (refl, refl) (λ _. refl) (λ _. refl))
 
-    pub text_line : (T' log' : List ℕ) (r : Lined) (x : Paged) → line ≡ form.Text → Steps (lent b index h.numbers h.rows h.words) scene t hs f.feeds due T log (record { printed = u; asked = a; places = p }) T' log' x → r ≡ ended_in x.end (page_in f x.page) x.counts.printed x.counts.asked → With T' log' h r
+    pub text_line : (p' : Page) (T' : List ℕ) (u' : ℕ) (log' : Log) (r : Result (Unit {0}) Stop) → line ≡ form.Text → Steps (lent b index h.numbers h.rows h.words) scene f.page t hs f.feeds due T u log p' T' u' log' r → With h (page_in f p') T' u' log' r
     unfolding form_with form_meaning
-    text_line T' log' r x e d i = rw (e, ← seen_same, i) (then_executes (line_step (machine_in b h scene) t scene.number f.feeds hs body f.page) x.page (with_page s) x.end did (omega (arith, rw k.within at d.few, few_fields t scene.number hs (highest_defined hs 9) k.heads, highest_most hs 9, fields_few body 0 k.short)) (refl, refl) (λ _. refl))
+    text_line p' T' u' log' r e d = rw (e, ← seen_same) (by r (rw k.within at (d.does (length b) k.kept.cells k.kept.ready)))
       where
-        Stepped : Page → ℕ → Type 0
-        Stepped y q = Does (source_of b) (line_step (machine_in b h scene) t scene.number f.feeds hs body y) (at T u (questions log) a p y.number) (at T' x.counts.printed (questions log') x.counts.asked q x.page.number) (end_of x.page x.end)
+        m : Meaning Page
+        m = line_step (machine_in b h scene) t scene.number f.feeds hs body f.page
 
-        was : Stepped f.page x.counts.places
-        was = subst (λ (y : Page). Stepped y x.counts.places) (ap page_of k.scened) (rw k.within at (d.does (length b) k.kept.cells k.kept.ready))
+        few : log'.asked ≤ log.asked + 330
+        few = omega (arith, rw k.within at d.few, few_fields t scene.number hs (highest_defined hs 9) k.heads, highest_most hs 9, fields_few body 0 k.short)
 
-        did : Stepped f.page p
-        did = rw was.did.places at was
+        by : (q : Result (Unit {0}) Stop) → Does (source_of b) m (filled_to T u log f.page.number) (filled_to T' u' log' p'.number) (ended_in (λ _. p') q) → Executes 330 (bind m (λ y. done (with_page s y))) b h f T u log h (page_in f p') T' u' log' q
+        by (Ok x) did = then_executes m (with_page s) few (refl, refl) p' did refl
+        by (Err x) did = over_executes m (with_page s) few (refl, refl) x did
 
-    pub heading_line : (ws : List ℕ) (r : Lined) (n from : ℕ) → line ≡ form.Heading n from → Heads h.words n (record { start = start; length = length body; from = from; number = scene.number }) f u a ws r → With T log (held h.numbers h.rows ws) r
+    pub heading_line : (ws : List ℕ) (n from : ℕ) → line ≡ form.Heading n from → Heads h.words n (record { start = start; length = length body; from = from; number = scene.number }) ws → With (held h.numbers h.rows ws) f T u log (Ok tt)
     unfolding form_with form_meaning
-    heading_line ws r n from e x = rw e (went_executes b h (held h.numbers h.rows ws) f f T u log a p r (headed s n (record { start = start; length = length body; from = from; number = scene.number })) x.went refl (heads_same ws n _ r x) (refl, ap length (x.above 128 20 (omega arith))))
+    heading_line ws n from e x = rw e (went_executes b h (held h.numbers h.rows ws) f f T u log (headed s n (record { start = start; length = length body; from = from; number = scene.number })) refl (heads_same ws n _ x) (refl, ap length (x.above 128 20 (omega arith))))
 
-    pub no_heading_line : (ws : List ℕ) (r : Lined) (n : ℕ) → line ≡ form.NoHeading n → Heads h.words n no_heading f u a ws r → With T log (held h.numbers h.rows ws) r
+    pub no_heading_line : (ws : List ℕ) (n : ℕ) → line ≡ form.NoHeading n → Heads h.words n no_heading ws → With (held h.numbers h.rows ws) f T u log (Ok tt)
     unfolding form_with form_meaning
-    no_heading_line ws r n e x = rw e (went_executes b h (held h.numbers h.rows ws) f f T u log a p r (headed s n no_heading) x.went refl (heads_same ws n _ r x) (refl, ap length (x.above 128 20 (omega arith))))
+    no_heading_line ws n e x = rw e (went_executes b h (held h.numbers h.rows ws) f f T u log (headed s n no_heading) refl (heads_same ws n _ x) (refl, ap length (x.above 128 20 (omega arith))))
 
     -- what was fetched, then the variables with it
-    fetched_line : (along : Along) (from : ℕ) (put : List Answer → Variables) (ws log' : List ℕ) (r : Lined) (x : Fetched) (y : Fetch) → FetchValue h.numbers scene along y log a p log' x → Refills from y.number x h.words f u ws r → from + 10 ≤ 119 → (Puts h.words from 10 y.number x.fetched ws → variables_of (source_of b) (held h.numbers h.rows ws) ≡ put (fetched (source_of b) along x.fetched)) → Executes 330 (bind (bind (fetch_meaning (machine_in b h scene) scene.number along y.parameter y.«record» y.entry y.count) (λ l. done (put l))) (λ v. done (with_variables s v))) b h f T u log a p (held h.numbers h.rows ws) T log' r
-    fetched_line along from put ws log' r x y d i o e =
-        let m = fetch_meaning (machine_in b h scene) scene.number along y.parameter y.«record» y.entry y.count in
-        let g = d.fetches h.rows h.words in
-        rw (i.went, bind_assoc m (λ l. done (put l)) (λ z. done (with_variables s z))) (then_executes m (fetched (source_of b) along x.fetched) (λ l. with_variables s (put l)) x.end (g.does (source_of b) T u f.page.number) (omega (arith, g.few)) (refl, ap length (i.above 128 20 (omega arith))) (λ q. let j = i.puts q in variables_same (held h.numbers h.rows ws) (j.above 119 9 (omega arith)) (i.above 128 20 (omega arith)) ∙ ap (with_variables s) (e j)))
+    fetched_line : (along : Along) (from : ℕ) (put : List Answer → Variables) (ws : List ℕ) (log' : Log) (r : Result (Unit {0}) Stop) (x : Result ℕ Stop) (y : Fetch) → FetchValue h.numbers scene along y log log' x → Refills from y.number x h.words ws r → from + 10 ≤ 119 → ((w : ℕ) → Puts h.words from 10 y.number w ws → variables_of (source_of b) (held h.numbers h.rows ws) ≡ put (fetched (source_of b) along w)) → Executes 330 (bind (bind (fetch_meaning (machine_in b h scene) scene.number along y.parameter y.«record» y.entry y.count) (λ l. done (put l))) (λ v. done (with_variables s v))) b h f T u log (held h.numbers h.rows ws) f T u log' r
+    fetched_line along from put ws log' r x y d i o e = rw (bind_assoc m (λ l. done (put l)) (λ z. done (with_variables s z))) (by x refl (g.does (source_of b) T u f.page.number))
+      where
+        m : Meaning (List Answer)
+        m = fetch_meaning (machine_in b h scene) scene.number along y.parameter y.«record» y.entry y.count
+
+        g : Fetches (λ source. fetch_meaning (machine source (held h.numbers h.rows h.words) scene) scene.number along y.parameter y.«record» y.entry y.count) along log log' x
+        g = d.fetches h.rows h.words
+
+        few : log'.asked ≤ log.asked + 330
+        few = omega (arith, g.few)
+
+        rows : SameRows h (held h.numbers h.rows ws)
+        rows = (refl, ap length (i.above 128 20 (omega arith)))
+
+        by : (q : Result ℕ Stop) → x ≡ q → Does (source_of b) m (filled_to T u log f.page.number) (filled_to T u log' f.page.number) (ended_in (fetched (source_of b) along) x) → Executes 330 (bind m (λ l. done (with_variables s (put l)))) b h f T u log (held h.numbers h.rows ws) f T u log' r
+        by (Ok w) q did =
+            let j = i.puts w q in
+            rw j.0 (then_executes m (λ l. with_variables s (put l)) few rows (fetched (source_of b) along w) (rw q at did) (variables_same (held h.numbers h.rows ws) (j.1.above 119 9 (omega arith)) (i.above 128 20 (omega arith)) ∙ ap (with_variables s) (e w j.1)))
+        by (Err w) q did =
+            let j = i.kept w q in
+            rw j.0 (over_executes m (λ l. with_variables s (put l)) few rows w (rw q at did))
 
     abbrev put_records : Fetch → List Answer → Variables
     put_records y l = with_records (variables_of (source_of b) h) (set_numbered (map (fetched (source_of b) Records) (records_in h.words)) y.number l)
@@ -303,11 +321,11 @@ module _ {body b index t : List ℕ} {h : Held} {scene : Scene} {start : ℕ} {f
     unfolding records_meaning
     records_is y = refl
 
-    pub records_line : (ws log' : List ℕ) (r : Lined) (x : Fetched) (y : Fetch) → line ≡ form.Records y → FetchValue h.numbers scene Records y log a p log' x → Refills 99 y.number x h.words f u ws r → With T log' (held h.numbers h.rows ws) r
+    pub records_line : (ws : List ℕ) (log' : Log) (r : Result (Unit {0}) Stop) (x : Result ℕ Stop) (y : Fetch) → line ≡ form.Records y → FetchValue h.numbers scene Records y log log' x → Refills 99 y.number x h.words ws r → With (held h.numbers h.rows ws) f T u log' r
     unfolding form_with form_meaning
     records_line ws log' r x y e d i =
-        rw (e, ← seen_same, records_is y) (fetched_line Records 99 (put_records y) ws log' r x y d i (omega arith) (λ q.
-        rw (q.below 0 99 (omega arith), q.above 109 10 (omega arith)) (ap (with_records (variables_of (source_of b) h)) (ap (map (fetched (source_of b) Records)) q.own ∙ fetched_kept (source_of b) Records (records_in h.words) y.number x.fetched))))
+        rw (e, ← seen_same, records_is y) (fetched_line Records 99 (put_records y) ws log' r x y d i (omega arith) (λ w q.
+        rw (q.below 0 99 (omega arith), q.above 109 10 (omega arith)) (ap (with_records (variables_of (source_of b) h)) (ap (map (fetched (source_of b) Records)) q.own ∙ fetched_kept (source_of b) Records (records_in h.words) y.number w))))
 
     abbrev put_entries : Fetch → List Answer → Variables
     put_entries y l = with_entries (variables_of (source_of b) h) (set_numbered (map (fetched (source_of b) Entries) (entries_in h.words)) y.number l)
@@ -316,16 +334,16 @@ module _ {body b index t : List ℕ} {h : Held} {scene : Scene} {start : ℕ} {f
     unfolding entries_meaning
     entries_is y = refl
 
-    pub entries_line : (ws log' : List ℕ) (r : Lined) (x : Fetched) (y : Fetch) → line ≡ form.Entries y → FetchValue h.numbers scene Entries y log a p log' x → Refills 109 y.number x h.words f u ws r → With T log' (held h.numbers h.rows ws) r
+    pub entries_line : (ws : List ℕ) (log' : Log) (r : Result (Unit {0}) Stop) (x : Result ℕ Stop) (y : Fetch) → line ≡ form.Entries y → FetchValue h.numbers scene Entries y log log' x → Refills 109 y.number x h.words ws r → With (held h.numbers h.rows ws) f T u log' r
     unfolding form_with form_meaning
     entries_line ws log' r x y e d i =
-        rw (e, ← seen_same, entries_is y) (fetched_line Entries 109 (put_entries y) ws log' r x y d i (omega arith) (λ q.
-        rw (q.below 0 99 (omega arith), q.below 99 10 (omega arith)) (ap (with_entries (variables_of (source_of b) h)) (ap (map (fetched (source_of b) Entries)) q.own ∙ fetched_kept (source_of b) Entries (entries_in h.words) y.number x.fetched))))
+        rw (e, ← seen_same, entries_is y) (fetched_line Entries 109 (put_entries y) ws log' r x y d i (omega arith) (λ w q.
+        rw (q.below 0 99 (omega arith), q.below 99 10 (omega arith)) (ap (with_entries (variables_of (source_of b) h)) (ap (map (fetched (source_of b) Entries)) q.own ∙ fetched_kept (source_of b) Entries (entries_in h.words) y.number w))))
 
-    pub section_line : (numbers' : List ℤ) (words' : List ℕ) (r : Lined) (x y : ℕ) → line ≡ form.Section x y → Clears h.numbers h.words f u a numbers' words' r → With T log (held numbers' h.rows words') r
+    pub section_line : (numbers' : List ℤ) (words' : List ℕ) (f' : Flow) (x y : ℕ) → line ≡ form.Section x y → Clears h.numbers h.words f numbers' words' f' → With (held numbers' h.rows words') f' T u log (Ok tt)
     unfolding form_with form_meaning
-    section_line numbers' words' r x y e c =
-        rw e (went_executes b h (held numbers' h.rows words') f (feeds_in f true) T u log a p r (cleared s) c.went refl same (refl, ap length (ap (bank 128 20) c.words_zero ∙ zeros_behind 0 h.words 128 128 20 (omega arith))))
+    section_line numbers' words' f' x y e c =
+        rw (e, c.went) (went_executes b h (held numbers' h.rows words') f (feeds_in f true) T u log (cleared s) refl same (refl, ap length (ap (bank 128 20) c.words_zero ∙ zeros_behind 0 h.words 128 128 20 (omega arith))))
       where
         numbers_zero : (i n : ℕ) → i + n ≤ 198 → bank i n numbers' ≡ replicate n (pos 0)
         numbers_zero i n l = ap (bank i n) c.numbers_zero ∙ zeros_bank (pos 0) (drop 198 h.numbers) i n 198 l
@@ -346,57 +364,66 @@ module _ {body b index t : List ℕ} {h : Held} {scene : Scene} {start : ℕ} {f
 
   -- ---- with the values of the arguments
 
-  module _ (log : List ℕ) (p : ℕ) (w : W.Worth) (q : Worth) where
-    abbrev Valued : List ℕ → Held → Lined → Type 0
-    Valued T' h' r = Executes 330 (form_with t start scene.number body s line (worths (meant S w) q)) b h f T u log a p h' T' log r
+  module _ (w : W.Worth) (q : Worth) where
+    abbrev Valued : Held → Flow → Result (Unit {0}) Stop → Type 0
+    Valued h' f' r = Executes 330 (form_with t start scene.number body s line (worths (meant S w) q)) b h f T u log h' f' T u log r
 
-    pub set_line : (h' : Held) (r : Lined) (z : Assigned) (o : Operation) (x : Target) (y : Argument) → line ≡ form.Set o x y → Assigns body b h o x w h' z → Settles scene.number f u a (kept_in f) (verdict_of z) r → Valued T h' r
+    pub set_line : (h' : Held) (r : Result (Unit {0}) Stop) (z : Settled (Unit {0})) (o : Operation) (x : Target) (y : Argument) → line ≡ form.Set o x y → Assigns body b h o x w h' z → r ≡ on_line scene.number z → Valued h' f r
     unfolding form_with
     set_line h' r z o x y e d i =
-        rw e (settles_executes (verdict_of z) (set_of (variables_of (source_of b) h) o x (meant S w)) (λ _. variables_of (source_of b) h') (with_variables s) (d.same (source_of b)) i (d.held.rows_held ∙ sym k.rows, ap length (d.above 128 20 (omega arith))) (λ _. refl) (λ _. variables_same h' (d.above 119 9 (omega arith)) (d.above 128 20 (omega arith))))
+        rw e (settles_executes {to = λ _. f} z (set_of (variables_of (source_of b) h) o x (meant S w)) (λ _. variables_of (source_of b) h') (with_variables s) (d.same (source_of b)) (by z i) (d.held.rows_held ∙ sym k.rows, ap length (d.above 128 20 (omega arith))) (λ _. refl) (λ _. variables_same h' (d.above 119 9 (omega arith)) (d.above 128 20 (omega arith))))
+      where
+        by : (v : Settled (Unit {0})) → r ≡ on_line scene.number v → Settles scene.number f (λ _. f) v f r
+        by (Ok x) i = record { end = i; flow = refl }
+        by (Err x) i = record { end = i; flow = refl }
 
     -- a test that came to j
-    test_does : (r : Lined) (j : Judged) (z : Settled Bool) → judged_of j ≡ z → Settles scene.number f u a (branched_in t f) (judged_of j) r → Executes 330 (bind (concluded scene.number z) (λ y. done (branched t s y))) b h f T u log a p h T log r
-    test_does r j z d i = settles_executes (judged_of j) z (λ y. y) (branched t s) (sym d ∙ mapped_same (judged_of j)) i (refl, refl) branch_page branch_same
+    test_does : (f' : Flow) (r : Result (Unit {0}) Stop) (j : Result Bool Refusal) (z : Settled Bool) → j ≡ z → Settles scene.number f (branched_in t f) j f' r → Executes 330 (bind (concluded scene.number z) (λ y. done (branched t s y))) b h f T u log h f' T u log r
+    test_does f' r j z d i = settles_executes j z (λ y. y) (branched t s) (sym d ∙ mapped_same j) i (refl, refl) branch_page branch_same
 
-    pub if_zero_line : (r : Lined) (j : Judged) (y : Argument) → line ≡ form.IfNot y → JudgesZero true w j → Settles scene.number f u a (branched_in t f) (judged_of j) r → Valued T h r
+    pub if_zero_line : (f' : Flow) (r : Result (Unit {0}) Stop) (j : Result Bool Refusal) (y : Argument) → line ≡ form.IfNot y → JudgesZero true w j → Settles scene.number f (branched_in t f) j f' r → Valued h f' r
     unfolding form_with
-    if_zero_line r j y e d i = rw e (test_does r j _ (d.same S) i)
+    if_zero_line f' r j y e d i = rw e (test_does f' r j _ (d.same S) i)
 
-    pub if_non_zero_line : (r : Lined) (j : Judged) (y : Argument) → line ≡ form.If y → JudgesZero false w j → Settles scene.number f u a (branched_in t f) (judged_of j) r → Valued T h r
+    pub if_non_zero_line : (f' : Flow) (r : Result (Unit {0}) Stop) (j : Result Bool Refusal) (y : Argument) → line ≡ form.If y → JudgesZero false w j → Settles scene.number f (branched_in t f) j f' r → Valued h f' r
     unfolding form_with
-    if_non_zero_line r j y e d i = rw e (test_does r j _ (d.same S) i)
+    if_non_zero_line f' r j y e d i = rw e (test_does f' r j _ (d.same S) i)
 
-    pub compare_line : (r : Lined) (j : Judged) (c : Comparison) (x y : Argument) → line ≡ form.Compare c x y → judged_of j ≡ compared c (meant S w) q → Settles scene.number f u a (branched_in t f) (judged_of j) r → Valued T h r
+    pub compare_line : (f' : Flow) (r : Result (Unit {0}) Stop) (j : Result Bool Refusal) (c : Comparison) (x y : Argument) → line ≡ form.Compare c x y → j ≡ compared c (meant S w) q → Settles scene.number f (branched_in t f) j f' r → Valued h f' r
     unfolding form_with
-    compare_line r j c x y e d i = rw e (test_does r j _ d i)
+    compare_line f' r j c x y e d i = rw e (test_does f' r j _ d i)
 
-    pub begin_line : (ws : List ℕ) (r : Lined) (n : Taken) (j : Judged) (y : Argument) → line ≡ form.BeginTable y → Takes integer_from w n → BeginsTable n f.at f.line h.words f.depth ws j → Settles scene.number f u a (begun_in t f) (judged_of j) r → Valued T (held h.numbers h.rows ws) r
+    pub begin_line : (ws : List ℕ) (f' : Flow) (r : Result (Unit {0}) Stop) (n : Result ℤ Refusal) (j : Result Bool Refusal) (y : Argument) → line ≡ form.BeginTable y → Takes integer_from w n → BeginsTable n f.at f.line h.words f.depth ws j → Settles scene.number f (begun_in t f) j f' r → Valued (held h.numbers h.rows ws) f' r
     unfolding form_with
-    begin_line ws r n j y e d g i =
-        rw e (settles_executes (judged_of j) (begin_from (open_of h.words f.depth) f.at f.line (integer_from (meant S w))) (beginning ws f.depth) (table_begun t s) (ap (begin_from (open_of h.words f.depth) f.at f.line) (sym (d.same S)) ∙ g.same) i (refl, bank_long h.words ws 128 20 g.stays.same) begun_page (begun_same ws g.stays g.rest))
+    begin_line ws f' r n j y e d g i =
+        rw e (settles_executes j (begin_from (open_of h.words f.depth) f.at f.line (integer_from (meant S w))) (beginning ws f.depth) (table_begun t s) (ap (begin_from (open_of h.words f.depth) f.at f.line) (sym (d.same S)) ∙ g.same) i (refl, bank_long h.words ws 128 20 g.stays.same) begun_page (begun_same ws g.stays g.rest))
 
-    pub end_line : (ws : List ℕ) (r : Lined) (n : Taken) (j : Judged) (y : Optional) → line ≡ form.EndTable y → Takes (integer_or (pos 1) y) w n → EndsTable n h.words f.depth ws j → Settles scene.number f u a (over_in (tables_in ws) f) (judged_of j) r → Valued T (held h.numbers h.rows ws) r
+    pub end_line : (ws : List ℕ) (f' : Flow) (r : Result (Unit {0}) Stop) (n : Result ℤ Refusal) (j : Result Bool Refusal) (y : Option Argument) → line ≡ form.EndTable y → Takes (integer_or (pos 1) y) w n → EndsTable n h.words f.depth ws j → Settles scene.number f (over_in (tables_in ws) f) j f' r → Valued (held h.numbers h.rows ws) f' r
     unfolding form_with
-    end_line ws r n j y e d g i =
-        rw e (settles_executes (judged_of j) (end_from (open_of h.words f.depth) (integer_or (pos 1) y (meant S w))) (passing ws f.depth) (table_counted s) (ap (end_from (open_of h.words f.depth)) (sym (d.same S)) ∙ g.same) i (refl, bank_long h.words ws 128 20 g.stays.same) (ended_page (tables_in ws)) (ended_same ws g.stays))
+    end_line ws f' r n j y e d g i =
+        rw e (settles_executes j (end_from (open_of h.words f.depth) (integer_or (pos 1) y (meant S w))) (passing ws f.depth) (table_counted s) (ap (end_from (open_of h.words f.depth)) (sym (d.same S)) ∙ g.same) i (refl, bank_long h.words ws 128 20 g.stays.same) (ended_page (tables_in ws)) (ended_same ws g.stays))
 
-    breaks_does : (T' : List ℕ) (r : Lined) → BreaksLine scene.number f T u a T' r → Executes 330 (breaking scene.number s) b h f T u log a p h T' log r
-    unfolding breaking
-    breaks_does T' r d = then_executes (break_meaning scene.number f.feeds f.page) r.flow.page (with_page s) r.end (rw d.asked (d.does (source_of b) (questions log) a p)) (omega (arith, d.asked)) (refl, refl) (λ _. ap (state_at b h) d.flow)
+    module _ (f' : Flow) (T' : List ℕ) (u' : ℕ) (r : Result (Unit {0}) Stop) where
+      breaks_does : Breaks scene.number f.feeds f.page T u f'.page T' u' r → f' ≡ page_in f f'.page → Executes 330 (breaking scene.number s) b h f T u log h f' T' u' log r
+      unfolding breaking
+      breaks_does d e = by r (d.does (source_of b) (questions log.words) log.asked log.places)
+        where
+          by : (q : Result (Unit {0}) Stop) → Does (source_of b) (break_meaning scene.number f.feeds f.page) (filled_to T u log f.page.number) (filled_to T' u' log f'.page.number) (ended_in (λ _. f'.page) q) → Executes 330 (bind (break_meaning scene.number f.feeds f.page) (λ y. done (with_page s y))) b h f T u log h f' T' u' log q
+          by (Ok x) did = then_executes (break_meaning scene.number f.feeds f.page) (with_page s) (omega arith) (refl, refl) f'.page did (ap (state_at b h) e)
+          by (Err x) did = over_executes (break_meaning scene.number f.feeds f.page) (with_page s) (omega arith) (refl, refl) x did
 
-    pub new_page_line : (T' : List ℕ) (r : Lined) (n : Taken) (y : Optional) → line ≡ form.NewPage y → Takes (integer_or (pos 62) y) w n → PagesLine n scene.number f T u a T' r → Valued T' h r
-    unfolding form_with breaking_for
-    new_page_line T' r n y e d g = rw (e, ← (d.same S)) (by n refl)
-      where
-        by : (z : Taken) → n ≡ z → Executes 330 (bind (concluded scene.number (taken_of n)) (breaking_for scene.number s)) b h f T u log a p h T' log r
-        by (K.Refused x) z =
-            let y = g.refused x z in
-            rw (z, y.0, y.1) (record { does = does_stop (source_of b) (at T u (questions log) a p f.page.number) x scene.number; few = omega arith; rows = (refl, refl) })
-        by (K.Value m) z = rw z (choose (lt_z (pos (61 - f.page.row)) m) refl)
-          where
-            choose : (c : Bool) → lt_z (pos (61 - f.page.row)) m ≡ c → Executes 330 (breaking_for scene.number s m) b h f T u log a p h T' log r
-            choose true c = rw c (breaks_does T' r (g.breaks m z c))
-            choose false c =
-                let y = g.stays m z c in
-                rw (c, y.0, y.1) (record { does = does_done (source_of b) (at T u (questions log) a p f.page.number) s; few = omega arith; rows = (refl, refl) })
+      pub new_page_line : (n : Result ℤ Refusal) (y : Option Argument) → line ≡ form.NewPage y → Takes (integer_or (pos 62) y) w n → PagesLine n scene.number f T u f' T' u' r → Executes 330 (form_with t start scene.number body s line (worths (meant S w) q)) b h f T u log h f' T' u' log r
+      unfolding form_with breaking_for
+      new_page_line n y e d g = rw (e, ← (d.same S)) (by n refl)
+        where
+          by : (z : Result ℤ Refusal) → n ≡ z → Executes 330 (bind (concluded scene.number n) (breaking_for scene.number s)) b h f T u log h f' T' u' log r
+          by (Err x) z =
+              let y = g.refused x z in
+              rw (z, y.0, y.1.flow, y.1.text, y.1.printed) (record { does = does_stop (source_of b) (filled_to T u log f.page.number) x scene.number; few = omega arith; rows = (refl, refl) })
+          by (Ok m) z = rw z (choose (lt_z (pos (61 - f.page.row)) m) refl)
+            where
+              choose : (c : Bool) → lt_z (pos (61 - f.page.row)) m ≡ c → Executes 330 (breaking_for scene.number s m) b h f T u log h f' T' u' log r
+              choose true c = let y = g.breaks m z c in rw c (breaks_does y.0 y.1)
+              choose false c =
+                  let y = g.stays m z c in
+                  rw (c, y.0, y.1.flow, y.1.text, y.1.printed) (record { does = does_done (source_of b) (filled_to T u log f.page.number) s; few = omega arith; rows = (refl, refl) })

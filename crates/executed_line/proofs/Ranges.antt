@@ -1,5 +1,6 @@
 -- A run's numbers stay in range: what each line keeps, where the answers lie within their limits.
-use mathlib.Core.Path.{refl}
+use Rattle.std.specs.Prelude.{Option, Some, None}
+use mathlib.Core.Path.{◌≡◌, refl}
 use mathlib.Core.Bool.{Bool, true, false, cond}
 use mathlib.Core.List.{List, []}
 use Prim.Native.Nat.{ℕ, ◌-◌, ◌≤◌}
@@ -8,8 +9,7 @@ use lib.IntN.{pos}
 use lib.Signed.{lt_z}
 use lib.ListN.{length}
 use Rattle.scan.specs.Line.{line_at}
-use Rattle.lines.specs.declared.command.Optional.{Optional}
-use Rattle.lines.specs.declared.command.Optional.TheVariants.{Given, Absent}
+use Rattle.arguments.specs.declared.argument.Argument.{Argument}
 use Rattle.lines.specs.declared.command.Line.{Line}
 use Rattle.lines.specs.declared.command.Line.TheVariants as form
 use Rattle.lines.specs.Readers.Command.{parse_line}
@@ -37,7 +37,7 @@ use Rattle.control.proofs.Ranges.{Held, held, gives_yields, set_within, begin_wi
 use Rattle.pages.specs.declared.page.Page.{Page}
 use Rattle.pages.specs.Page.{break_meaning, line_step}
 use Rattle.control.specs.State.{State, seen, with_position, with_variables, with_datasource, with_tables, with_page, no_variables, cleared}
-use Rattle.control.specs.Line.{past_line, jumped, setting, branched, testing, table_begun, table_counted, breaking, breaking_for, new_page_meaning, form_meaning, line_meaning}
+use Rattle.control.specs.Line.{past_line, jumped, setting, branched, testing, table_begun, table_counted, breaking, breaking_for, new_page_meaning, form_meaning, parsed_meaning, line_meaning}
 use Rattle.control.specs.Inner.Sound.{Sound}
 use Rattle.executed_line.proofs.Sounds.{each_same, full_none}
 
@@ -124,10 +124,10 @@ module _ (t : List ℕ) (start l : ℕ) (body : List ℕ) (s : State) (h : Machi
   unfolding breaking
   breaks = paged (break_meaning l s.layout.form_feeds s.page)
 
-  pages : (n : Optional) → Yields AnswerWithin (new_page_meaning l body s n) InRange
+  pages : (n : Option Argument) → Yields AnswerWithin (new_page_meaning l body s n) InRange
   unfolding new_page_meaning breaking_for
-  pages Absent = breaks
-  pages (Given a) = yields_bind AnswerWithin (integer_meaning (seen s) body l a) (breaking_for l s) (λ _. Unit {0}) InRange (yields_any AnswerWithin (integer_meaning (seen s) body l a)) (λ z e. by (lt_z (pos (61 - s.page.row)) z))
+  pages None = breaks
+  pages (Some a) = yields_bind AnswerWithin (integer_meaning (seen s) body l a) (breaking_for l s) (λ _. Unit {0}) InRange (yields_any AnswerWithin (integer_meaning (seen s) body l a)) (λ z e. by (lt_z (pos (61 - s.page.row)) z))
     where
       by : (b : Bool) → Yields AnswerWithin (cond b (breaking l s) (done s)) InRange
       by true = breaks
@@ -135,7 +135,6 @@ module _ (t : List ℕ) (start l : ℕ) (body : List ℕ) (s : State) (h : Machi
 
   form_in_range : (f : Line) → Bounded body f → Yields AnswerWithin (form_meaning t start l body s f) InRange
   unfolding form_meaning
-  form_in_range form.NoForm b = r
   form_in_range form.Text b = paged (line_step (seen s) t l s.layout.form_feeds s.layout.headings body s.page)
   form_in_range (form.Section a e) b = range_cleared s r.tables r.datasource
   form_in_range (form.Set o v a) b = sets (set_meaning (seen s) body l o v a) (set_within (seen s) h l body o v a b.1)
@@ -155,9 +154,13 @@ module _ (t : List ℕ) (start l : ℕ) (body : List ℕ) (s : State) (h : Machi
   form_in_range (form.NoHeading n) b = record { variables = r.variables; tables = r.tables; datasource = r.datasource }
   form_in_range form.Remark b = r
 
+  parsed_in_range : (x : Option Line) → ((f : Line) → x ≡ Some f → Bounded body f) → Yields AnswerWithin (parsed_meaning t start l body s x) InRange
+  parsed_in_range (Some f) b = form_in_range f (b f refl)
+  parsed_in_range None b = r
+
 -- One line.
 pub line_in_range : (t : List ℕ) (g : ℕ) (s : State) → g ≤ integer_limit → Sound t g s → InRange s → Yields AnswerWithin (line_meaning t s) InRange
 unfolding line_meaning
 line_in_range t g s h i r =
     let body = line_at t s.position.at in
-    form_in_range t s.position.at s.position.line body (past_line s (length body)) (seen_within t g s h i r) (range_at r _ _) (parse_line body) (parsed_bounded body (parse_line body) refl)
+    parsed_in_range t s.position.at s.position.line body (past_line s (length body)) (seen_within t g s h i r) (range_at r _ _) (parse_line body) (parsed_bounded body)

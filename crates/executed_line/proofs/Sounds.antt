@@ -1,5 +1,6 @@
 -- What holds between the lines of a run, whatever the store answers: shown once of the definition, used for the 60 lines of a
 -- page and for what the code needs alike.
+use Rattle.std.specs.Prelude.{Option, Some, None}
 use mathlib.Core.Path.{◌≡◌, refl, sym, ap, ◌∙◌}
 use mathlib.Core.Bool.{Bool, true, false, cond}
 use mathlib.Core.List.{List, [], ◌∷◌}
@@ -14,8 +15,7 @@ use Rattle.scan.specs.Line.{line_at}
 use Rattle.scan.proofs.RunLaws.{take_span}
 use Rattle.nesting.specs.declared.Shape.{Shape}
 use Rattle.nesting.specs.declared.Shape.TheVariants.{Section, Remark, Test, Else, EndTest, Table, EndTable, Plain}
-use Rattle.lines.specs.declared.command.Optional.{Optional}
-use Rattle.lines.specs.declared.command.Optional.TheVariants.{Given, Absent}
+use Rattle.arguments.specs.declared.argument.Argument.{Argument}
 use Rattle.lines.specs.declared.command.Line.{Line}
 use Rattle.lines.specs.declared.command.Line.TheVariants as form
 use Rattle.lines.specs.Readers.Command.{parse_line}
@@ -48,7 +48,7 @@ use Rattle.pages.proofs.Stepping.{blank_fits}
 use Rattle.lines.proofs.Accepted.{heading_accepted}
 use Rattle.pages.proofs.Sixty as P
 use Rattle.control.specs.State.{State, seen, with_position, with_variables, with_datasource, with_tables, with_layout, with_page, no_variables, cleared}
-use Rattle.control.specs.Line.{past_line, jumped, setting, branched, testing, table_begun, table_counted, breaking, breaking_for, new_page_meaning, headed, form_meaning, line_meaning}
+use Rattle.control.specs.Line.{past_line, jumped, setting, branched, testing, table_begun, table_counted, breaking, breaking_for, new_page_meaning, headed, form_meaning, parsed_meaning, line_meaning}
 use Rattle.control.specs.Inner.Sound.{Nested, Fit, Sound, Full}
 use Rattle.executed_line.proofs.Places.{nested_plain, nested_remark, nested_section, nested_end_test, nested_test, nested_failed, nested_else, nested_begun, nested_skipped, nested_ended, nested_again}
 
@@ -63,7 +63,7 @@ pub blank_heading : (t : List ℕ) → Fit t no_heading
 unfolding head_line head_from
 blank_heading t = record { fits = blank_fits; short = omega arith }
 
-line_heading : (t : List ℕ) (at n line : ℕ) (from : ℕ) → 1 ≤ line → parse_line (line_at t at) ≡ form.Heading n from → length (line_at t at) ≤ 132 → Fit t (record { start = at; length = length (line_at t at); from = from; number = line })
+line_heading : (t : List ℕ) (at n line : ℕ) (from : ℕ) → 1 ≤ line → parse_line (line_at t at) ≡ Some (form.Heading n from) → length (line_at t at) ≤ 132 → Fit t (record { start = at; length = length (line_at t at); from = from; number = line })
 unfolding head_line head_from
 line_heading t at n line from h e k =
     let d : line ≡ 0 → ⊥ = λ z. omega arith in
@@ -137,7 +137,7 @@ module _ {t : List ℕ} {g : ℕ} {s : State} {c : ℕ} (i : On t g s c) (h : s.
   behind : Nested t s₁.position.at s₁.position.line s.tables → On t (g + 1) s₁ c
   behind k = record { sound = sound_at wider s₁.position.at s₁.position.line (λ _. k); next = i.next }
 
-  shaped : (x : Shape) (f : Line) → parse_line body ≡ f → shape_in f ≡ x → shape_of body ≡ x
+  shaped : (x : Shape) (f : Line) → parse_line body ≡ Some f → shape_in (Some f) ≡ x → shape_of body ≡ x
   unfolding shape_of
   shaped x f e k = ap shape_in e ∙ k
 
@@ -175,18 +175,17 @@ module _ {t : List ℕ} {g : ℕ} {s : State} {c : ℕ} (i : On t g s c) (h : s.
   unfolding breaking
   breaks_keep o = paged (break_meaning s.position.line s.layout.form_feeds s.page) (P.break_keeps s.position.line g s.layout.form_feeds s.page c i.sound.number) o
 
-  pages_keep : (n : Optional) → On t (g + 1) s₁ c → Keeps (page_limit 60) (new_page_meaning s.position.line body s₁ n) c (On t (g + 1))
+  pages_keep : (n : Option Argument) → On t (g + 1) s₁ c → Keeps (page_limit 60) (new_page_meaning s.position.line body s₁ n) c (On t (g + 1))
   unfolding new_page_meaning breaking_for
-  pages_keep Absent o = breaks_keep o
-  pages_keep (Given a) o = keeps_bind (page_limit 60) (integer_meaning (seen s₁) body s.position.line a) (breaking_for s.position.line s₁) c (λ z c'. Anything z × (c' ≡ c)) (On t (g + 1)) (gives_keeps (page_limit 60) (integer_meaning (seen s₁) body s.position.line a) c Anything (integer_gives (seen s₁) body s.position.line a)) (λ z c' q. rw q.1 (by (lt_z (pos (61 - s.page.row)) z)))
+  pages_keep None o = breaks_keep o
+  pages_keep (Some a) o = keeps_bind (page_limit 60) (integer_meaning (seen s₁) body s.position.line a) (breaking_for s.position.line s₁) c (λ z c'. Anything z × (c' ≡ c)) (On t (g + 1)) (gives_keeps (page_limit 60) (integer_meaning (seen s₁) body s.position.line a) c Anything (integer_gives (seen s₁) body s.position.line a)) (λ z c' q. rw q.1 (by (lt_z (pos (61 - s.page.row)) z)))
     where
       by : (b : Bool) → Keeps (page_limit 60) (cond b (breaking s.position.line s₁) (done s₁)) c (On t (g + 1))
       by true = breaks_keep o
       by false = o
 
-  form_keeps : (f : Line) → parse_line body ≡ f → Keeps (page_limit 60) (form_meaning t s.position.at s.position.line body s₁ f) c (On t (g + 1))
+  form_keeps : (f : Line) → parse_line body ≡ Some f → Keeps (page_limit 60) (form_meaning t s.position.at s.position.line body s₁ f) c (On t (g + 1))
   unfolding form_meaning shape_in
-  form_keeps form.NoForm e = absurd ((opens_line checks here.opens h).parsed e)
   form_keeps form.Text e = paged (line_step (seen s₁) t s.position.line s.layout.form_feeds s.layout.headings body s.page) (P.step_keeps (seen s₁) t s.position.line s.layout.form_feeds s.layout.headings body g s.page c (record { next = i.next; most = omega (arith, i.next, i.sound.last_row); number = i.sound.number })) (plain (shaped Plain form.Text e refl))
   form_keeps (form.Section a b) e = let o = behind (nested_section checks here h (shaped Section (form.Section a b) e refl)) in record { sound = sound_cleared o.sound; next = i.next }
   form_keeps (form.Set o v a) e = sets_keep (set_meaning (seen s₁) body s.position.line o v a) (set_gives (seen s₁) body s.position.line o v a) (plain (shaped Plain (form.Set o v a) e refl))
@@ -209,4 +208,8 @@ module _ {t : List ℕ} {g : ℕ} {s : State} {c : ℕ} (i : On t g s c) (h : s.
   -- One line.
   pub line_keeps : Keeps (page_limit 60) (line_meaning t s) c (On t (g + 1))
   unfolding line_meaning
-  line_keeps = form_keeps (parse_line body) refl
+  line_keeps = go (parse_line body) refl
+    where
+      go : (x : Option Line) → parse_line body ≡ x → Keeps (page_limit 60) (parsed_meaning t s.position.at s.position.line body s₁ x) c (On t (g + 1))
+      go (Some f) e = form_keeps f e
+      go None e = absurd ((opens_line checks here.opens h).parsed e)

@@ -6,11 +6,11 @@ ghost use Rattle.control.specs.Inner.Remembering.{Remembered};
 
 use crate::execute;
 use crate::execute::Prepared;
-use control::state::{Flow, Lined};
-use control::{arms, flow, inputs};
+use control::state::Flow;
+use control::{flow, inputs};
 use lines::command;
-use meaning::count::Counts;
-use meaning::end::Ended;
+use meaning::end::Stop;
+use values::log::Log;
 use values::registers::{Numbers, Words};
 use values::working;
 
@@ -23,38 +23,23 @@ pub fn line<'a>(
     strings: &mut [[u8; 16]; 99],
     words: &mut Words,
     text: &mut [u8],
-    log: &mut [u64; 512],
-    counts: Counts,
-    flow: Flow,
-) -> Lined
-    requires { LineReady store.now index.now template.now (held numbers.old strings.old words.old) flow text.old counts.printed counts.asked }
-    ensures { (Executes 332 (line_meaning template.now (state_at store.now (held numbers.old strings.old words.old) flow)) store.now (held numbers.old strings.old words.old) flow text.old counts.printed log.old counts.asked counts.places (held numbers.new strings.new words.new) text.new log.new result) × (Remembered template.now words.new) }
+    printed: &mut usize,
+    log: &mut Log,
+    flow: &mut Flow,
+) -> Result<(), Stop>
+    requires { LineReady store.now index.now template.now (held numbers.old strings.old words.old) flow.old text.old printed.old log.old }
+    ensures { (Executes 332 (line_meaning template.now (state_at store.now (held numbers.old strings.old words.old) flow.old)) store.now (held numbers.old strings.old words.old) flow.old text.old printed.old log.old (held numbers.new strings.new words.new) flow.new text.new printed.new log.new result) × (Remembered template.now words.new) }
 {
     let at = flow.at;
     let body = scan::bytes::line_of(&template[at..]);
-    let form = command::form_of(body);
-    let scene = flow::scene_of(words, flow, flow.line);
-    let next = flow::past(flow, body.len());
+    // An accepted template's line has a form.
+    let form = command::form_of(body).unwrap();
+    let scene = flow::scene_of(words, *flow, flow.line);
+    *flow = flow::past(*flow, body.len());
     let arguments = inputs::inputs_of(form);
-    let v = working::work_out(
-        body,
-        store,
-        index,
-        numbers,
-        strings,
-        words,
-        scene,
-        arguments,
-        log,
-        counts.asked,
-        counts.places,
-    );
-    let end = v.end;
-    let first = v.first;
-    let second = v.second;
-    let Ended::Finished = end else {
-        return arms::onward(end, next, counts.printed, v.asked);
-    };
+    let (first, second) = working::work_out(
+        body, store, index, numbers, strings, words, scene, arguments, log,
+    )?;
     let prepared = Prepared {
         form,
         first,
@@ -62,12 +47,7 @@ pub fn line<'a>(
         scene,
         start: at,
     };
-    let heard = Counts {
-        printed: counts.printed,
-        asked: v.asked,
-        places: counts.places,
-    };
     execute::execute(
-        template, body, store, index, numbers, strings, words, text, log, heard, next, prepared,
+        template, body, store, index, numbers, strings, words, text, printed, log, flow, prepared,
     )
 }

@@ -72,12 +72,14 @@ last_first d at j m =
     let l : length (digits j (m / 10)) ≡ j = length_digits j (m / 10) in
     rw (sets_append (digits j (m / 10)) d at ((48 + m % 10) ∷ []), l) (sym (sets_behind (digits j (m / 10)) d (at + j) at (48 + m % 10) (omega arith)))
 
-pub digit_put : (d b : List ℕ) (at k n j m : ℕ) → sets d at (digits j m) ≡ sets b at (digits k n) → 0 < j → sets (set d (at + (j - 1)) (48 + m % 10)) at (digits (j - 1) (m / 10)) ≡ sets b at (digits k n)
+pub digit_put : (d b : List ℕ) (at k n j m : ℕ) → sets d at (digits (k - j) m) ≡ sets b at (digits k n) → j < k → sets (set d (at + k - 1 - j) (48 + m % 10)) at (digits (k - (j + 1)) (m / 10)) ≡ sets b at (digits k n)
 digit_put d b at k n j m inv h =
-    let e : j ≡ suc (j - 1) = omega arith in
-    sym (last_first d at (j - 1) m) ∙ ap (λ (i : ℕ). sets d at (digits i m)) (sym e) ∙ inv
+    let e : k - j ≡ suc (k - (j + 1)) = omega arith in
+    let i : at + k - 1 - j ≡ at + (k - (j + 1)) = omega arith in
+    rw i (sym (last_first d at (k - (j + 1)) m) ∙ ap (λ (i : ℕ). sets d at (digits i m)) (sym e) ∙ inv)
 
-pub digits_put : (d b : List ℕ) (at k n j m : ℕ) → sets d at (digits j m) ≡ sets b at (digits k n) → j ≤ 0 → d ≡ sets b at (digits k n)
+pub digits_put : (d b : List ℕ) (at k n j m : ℕ) → sets d at (digits (k - j) m) ≡ sets b at (digits k n) → k ≤ j → d ≡ sets b at (digits k n)
 unfolding digits
-digits_put d b at k n zero m inv h = inv
-digits_put d b at k n (suc j) m inv h = absurd (omega arith)
+digits_put d b at k n j m inv h =
+    let z : k - j ≡ 0 = omega arith in
+    rw z at inv

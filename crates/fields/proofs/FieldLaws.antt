@@ -2,24 +2,17 @@
 use mathlib.Core.Path.{◌≡◌, refl, sym, ap, ◌∙◌}
 use mathlib.Core.Bool.{Bool, true, false, not, cond, ◌&&◌}
 use mathlib.Core.List.{List, [], ◌∷◌, ◌++◌, append-nil}
-use mathlib.Core.Option.{Option, none, some}
 use Prim.Native.Nat.{ℕ, zero, suc, ◌+◌, ◌-◌, ◌/◌, ◌^◌, ◌≤◌, ◌<◌}
 use native.Mathlib.Numerals.{add-one}
 use native.Mathlib.Omega.{arith}
-use borrow.Author.Tests.{le-leb, lt-leb, leb-true, eq-eqb, ne_eqb}
+use borrow.Author.Tests.{le-leb, lt-leb, leb-true}
 use lib.Dec.{leb, eqb}
 use lib.ListN.{length, take, set, replicate, length-append, length-replicate, length-take}
 use lib.Seq.{sets, length-sets, take_all, length-take-le}
-use Rattle.meaning.specs.Answer.{Value, number, string}
-use Rattle.buffers.specs.Buffer.{has_room, stored}
+use Rattle.buffers.specs.Buffer.{stored}
 use Rattle.buffers.proofs.Laws.{sets_append, stored_in}
-use Rattle.numbers.specs.declared.Quantity.{Quantity}
-use Rattle.numbers.specs.declared.Rounded.TheVariants.{Units, OutOfRange}
-use Rattle.numbers.specs.Places.{rounded_to}
-use Rattle.fields.specs.declared.Places.{Places}
 use Rattle.fields.specs.Digits.{digits, digit_count}
-use Rattle.fields.specs.Field.{space, asterisk, hyphen, point, question_mark, places_of, negative, minus, fraction, unsigned, right_in, left_in, width_allowed, rounded_field, shown, field_of}
-use Rattle.fields.specs.Inner.Putting.{field_fits, buffer_with, Put}
+use Rattle.fields.specs.Field.{space, asterisk, hyphen, point, minus, fraction, unsigned, right_in, left_in}
 use Rattle.fields.proofs.DigitLaws.{length_digits}
 
 -- ---- the sign and the fraction
@@ -27,15 +20,6 @@ use Rattle.fields.proofs.DigitLaws.{length_digits}
 pub minus_none : (below : Bool) (u : ℕ) → below ≡ false → minus below u ≡ []
 unfolding minus
 minus_none below u e = rw e
-
-pub minus_zero : (below : Bool) (u : ℕ) → u ≡ 0 → minus below u ≡ []
-unfolding minus
-minus_zero true u e = rw (eq-eqb u 0 e)
-minus_zero false u e = refl
-
-pub minus_one : (below : Bool) (u : ℕ) → below ≡ true → (u ≡ 0 → ⊥) → minus below u ≡ hyphen ∷ []
-unfolding minus
-minus_one below u e n = rw (e, ne_eqb u 0 n)
 
 -- the sign is that many minus signs
 pub minus_fill : (below : Bool) (u : ℕ) → minus below u ≡ replicate (length (minus below u)) hyphen
@@ -146,49 +130,3 @@ length_right w t = go (leb (length t) w) refl
 pub length_left : (w : ℕ) (s : List ℕ) → length (left_in w s) ≡ w
 unfolding left_in
 length_left w s = length-append (take w s) (replicate (w - length s) space) ∙ omega (arith, length-take w s, length-replicate (w - length s) space)
-
--- ---- the answers
-
--- "w 1–32"
-pub narrow : (w : ℕ) → w < 1 → width_allowed w ≡ false
-unfolding width_allowed
-narrow w h = rw (lt-leb 1 w h)
-
-pub at_least_one : (w : ℕ) → 1 ≤ w → width_allowed w ≡ leb w 32
-unfolding width_allowed
-at_least_one w h = rw (le-leb 1 w h)
-
-pub put_none : (b : List ℕ) (n : ℕ) (f : Option (List ℕ)) → f ≡ none → Put b n f b false
-unfolding field_fits buffer_with
-put_none b n f e = record { told = rw e; buffer = rw e }
-
-module _ (b : List ℕ) (n w : ℕ) (f : Option (List ℕ)) (s : List ℕ) (e : f ≡ some s) (l : length s ≡ w) where
-  pub put_short : has_room b n w ≡ false → Put b n f b false
-  unfolding field_fits buffer_with stored
-  put_short r = record { told = rw (e, l, r); buffer = rw (e, l, r) }
-
-  pub put_there : (b' : List ℕ) → has_room b n w ≡ true → b' ≡ sets b n s → Put b n f b' true
-  unfolding field_fits buffer_with stored
-  put_there b' r h = record { told = rw (e, l, r); buffer = rw (e, l, r) h }
-
-pub field_none : (w : ℕ) (p : Places) (v : Option Value) → width_allowed w ≡ false → field_of w p v ≡ none
-unfolding field_of
-field_none w p v e = rw e
-
-module _ (w d : ℕ) (p : Places) (q : Quantity) (e : width_allowed w ≡ true) (h : d ≡ places_of p q) where
-  pub number_out : rounded_to q d ≡ OutOfRange → field_of w p (some (number q)) ≡ none
-  unfolding field_of shown rounded_field
-  number_out r = rw (e, ← h, r)
-
-  pub number_in : (u : ℕ) (below : Bool) → rounded_to q d ≡ Units u → below ≡ negative q → field_of w p (some (number q)) ≡ some (right_in w (minus below u ++ unsigned d u))
-  unfolding field_of shown rounded_field
-  number_in u below r b = rw (e, ← h, r, b)
-
-pub string_in_law : (w : ℕ) (p : Places) (s : List ℕ) → width_allowed w ≡ true → field_of w p (some (string s)) ≡ some (left_in w s)
-unfolding field_of shown
-string_in_law w p s e = rw e
-
--- a missing value is the string `???`
-pub missing_string : (w : ℕ) (p : Places) → field_of w p none ≡ field_of w p (some (string (question_mark ∷ question_mark ∷ question_mark ∷ [])))
-unfolding field_of shown
-missing_string w p = refl

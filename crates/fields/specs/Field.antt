@@ -1,15 +1,10 @@
 -- What a field of width w shows, as document 01 says it under "Fields".
-use Rattle.std.specs.Prelude.{Bool, not, cond, ◌&&◌, List, [], ◌∷◌, ◌++◌, ℕ, zero, suc, ◌-◌, ◌/◌, ◌^◌, leb, eqb, pos, length, take, replicate}
-use Rattle.std.proofs.Math.Option.{Option, none, some}
+use Rattle.std.specs.Prelude.{Bool, not, cond, ◌&&◌, List, [], ◌∷◌, ◌++◌, ℕ, zero, suc, ◌-◌, ◌/◌, ◌^◌, leb, eqb, pos, length, take, replicate, Some, None, Option}
 use Rattle.std.specs.Int.Signed.{lt_z}
 use Rattle.meaning.specs.Answer.{Value, number, string}
 use Rattle.numbers.specs.declared.Quantity.{Quantity}
 use Rattle.numbers.specs.declared.Quantity.TheVariants.{Integer, Decimal}
-use Rattle.numbers.specs.declared.Rounded.{Rounded}
-use Rattle.numbers.specs.declared.Rounded.TheVariants.{Units, OutOfRange}
 use Rattle.numbers.specs.Places.{rounded_to}
-use Rattle.fields.specs.declared.Places.{Places}
-use Rattle.fields.specs.declared.Places.TheVariants.{Unsaid, Said}
 use Rattle.fields.specs.Digits.{digits, digit_count}
 
 abbrev pub space : ℕ
@@ -28,10 +23,10 @@ abbrev pub question_mark : ℕ
 question_mark = 63
 
 -- "without .d, 0 places for an integer, 6 for a decimal"
-unfoldable pub places_of : Places → Quantity → ℕ
-places_of (Said d) q = d
-places_of Unsaid (Integer n) = 0
-places_of Unsaid (Decimal m) = 6
+unfoldable pub places_of : Option ℕ → Quantity → ℕ
+places_of (Some d) q = d
+places_of None (Integer n) = 0
+places_of None (Decimal m) = 6
 
 unfoldable pub negative : Quantity → Bool
 negative (Integer n) = lt_z n (pos 0)
@@ -63,16 +58,16 @@ unfoldable pub width_allowed : ℕ → Bool
 width_allowed w = leb 1 w && leb w 32
 
 -- a number that was rounded to d places; none where the number or d is out of its range
-unfoldable pub rounded_field : ℕ → ℕ → Bool → Rounded → Option (List ℕ)
-rounded_field w d below (Units u) = some (right_in w (minus below u ++ unsigned d u))
-rounded_field w d below OutOfRange = none
+unfoldable pub rounded_field : ℕ → ℕ → Bool → Option ℕ → Option (List ℕ)
+rounded_field w d below (Some u) = Some (right_in w (minus below u ++ unsigned d u))
+rounded_field w d below None = None
 
 -- A value, or none where it is missing. "Missing prints as `???`, like a string"; "d doesn't touch" strings
-unfoldable pub shown : ℕ → Places → Option Value → Option (List ℕ)
-shown w p (some (number q)) = rounded_field w (places_of p q) (negative q) (rounded_to q (places_of p q))
-shown w p (some (string s)) = some (left_in w s)
-shown w p none = some (left_in w (question_mark ∷ question_mark ∷ question_mark ∷ []))
+unfoldable pub shown : ℕ → Option ℕ → Option Value → Option (List ℕ)
+shown w p (Some (number q)) = rounded_field w (places_of p q) (negative q) (rounded_to q (places_of p q))
+shown w p (Some (string s)) = Some (left_in w s)
+shown w p None = Some (left_in w (question_mark ∷ question_mark ∷ question_mark ∷ []))
 
 -- the w bytes of the field, or none where w, d or a number is out of its limits
-unfoldable pub field_of : ℕ → Places → Option Value → Option (List ℕ)
-field_of w p v = cond (width_allowed w) (shown w p v) none
+unfoldable pub field_of : ℕ → Option ℕ → Option Value → Option (List ℕ)
+field_of w p v = cond (width_allowed w) (shown w p v) None

@@ -1,12 +1,10 @@
 -- Fields at their limits: antt computes each. The rows of document 01 that are marked * stand in report/specs/Rows, as
 -- whole templates.
-use Rattle.std.specs.Prelude.{◌≡◌, refl, List, [], ◌∷◌, map, ℕ, pos, negsuc}
-use Rattle.std.proofs.Math.Option.{Option, none, some}
+use Rattle.std.specs.Prelude.{◌≡◌, refl, List, [], ◌∷◌, map, ℕ, pos, negsuc, Some, None, Option}
 use Rattle.meaning.specs.Answer.{integer, decimal, string}
 use Rattle.numbers.specs.Range.{within}
 use Rattle.numbers.specs.Rounding.{rounded}
 use Rattle.numbers.specs.Places.{rounded_to}
-use Rattle.fields.specs.declared.Places.TheVariants.{Unsaid, Said}
 use Rattle.fields.specs.Digits.{digits, count_within, digit_count}
 use Rattle.fields.specs.Field.{space, asterisk, hyphen, point, question_mark, places_of, negative, minus, fraction, unsigned, right_in, left_in, width_allowed, rounded_field, shown, field_of}
 
@@ -22,19 +20,19 @@ c gives e = record { computed = c; expected = e }
 unfoldable pub rows : List Row
 rows =
     -- two thirds in 6.2
-    field_of 6 (Said 2) (some (decimal (pos 666667))) gives some (space ∷ space ∷ 48 ∷ point ∷ 54 ∷ 55 ∷ [])
+    field_of 6 (Some 2) (Some (decimal (pos 666667))) gives Some (space ∷ space ∷ 48 ∷ point ∷ 54 ∷ 55 ∷ [])
     -- −0.5 is −1, and the minus counts
-    ∷ field_of 2 (Said 0) (some (decimal (negsuc 499999))) gives some (hyphen ∷ 49 ∷ [])
-    ∷ field_of 1 (Said 0) (some (decimal (negsuc 499999))) gives some (asterisk ∷ [])
+    ∷ field_of 2 (Some 0) (Some (decimal (negsuc 499999))) gives Some (hyphen ∷ 49 ∷ [])
+    ∷ field_of 1 (Some 0) (Some (decimal (negsuc 499999))) gives Some (asterisk ∷ [])
     -- an integer in 6.2, and a decimal without places
-    ∷ field_of 6 (Said 2) (some (integer (negsuc 6))) gives some (space ∷ hyphen ∷ 55 ∷ point ∷ 48 ∷ 48 ∷ [])
-    ∷ field_of 8 Unsaid (some (decimal (pos 1))) gives some (48 ∷ point ∷ 48 ∷ 48 ∷ 48 ∷ 48 ∷ 48 ∷ 49 ∷ [])
+    ∷ field_of 6 (Some 2) (Some (integer (negsuc 6))) gives Some (space ∷ hyphen ∷ 55 ∷ point ∷ 48 ∷ 48 ∷ [])
+    ∷ field_of 8 None (Some (decimal (pos 1))) gives Some (48 ∷ point ∷ 48 ∷ 48 ∷ 48 ∷ 48 ∷ 48 ∷ 49 ∷ [])
     -- strings are cut or filled, whatever d, and so is `???`
-    ∷ field_of 2 (Said 3) (some (string (67 ∷ 115 ∷ 45 ∷ []))) gives some (67 ∷ 115 ∷ [])
-    ∷ field_of 4 Unsaid none gives some (question_mark ∷ question_mark ∷ question_mark ∷ space ∷ [])
+    ∷ field_of 2 (Some 3) (Some (string (67 ∷ 115 ∷ 45 ∷ []))) gives Some (67 ∷ 115 ∷ [])
+    ∷ field_of 4 None None gives Some (question_mark ∷ question_mark ∷ question_mark ∷ space ∷ [])
     -- a width and places out of their limits
-    ∷ field_of 33 Unsaid none gives none
-    ∷ field_of 9 (Said 7) (some (integer (pos 1))) gives none
+    ∷ field_of 33 None None gives None
+    ∷ field_of 9 (Some 7) (Some (integer (pos 1))) gives None
     ∷ []
 
 pub rows_hold : map (λ (r : Row). r.computed) rows ≡ map (λ (r : Row). r.expected) rows

@@ -9,6 +9,7 @@ pub fn digit_count(n: u64) -> usize
 {
     let mut m = n;
     let mut count = 1;
+    // A number is divided, no index counted.
     while 10 <= m {
         m /= 10;
         count += 1;
@@ -22,10 +23,8 @@ pub fn put_digits(buffer: &mut [u8], at: usize, count: usize, n: u64)
     ensures { buffer.new ≡ sets buffer.old at (digits count n) }
 {
     let mut m = n;
-    let mut j = count;
-    while 0 < j {
-        j -= 1;
-        buffer[at + j] = (48 + m % 10) as u8;
+    for written in 0..count {
+        buffer[at + count - 1 - written] = b'0' + (m % 10) as u8;
         m /= 10;
     }
 }

@@ -7,30 +7,24 @@ ghost use Rattle.fields.specs.Field.{hyphen, minus, fraction, unsigned, right_in
 use crate::digits;
 
 // How many bytes the sign takes: "zero has no minus".
+#[tactic(auto, unfolding(crate::specs::Field::minus))]
 fn sign_length(below: bool, u: u64) -> usize
     ensures { result ≡ length (minus below u) }
 {
-    if !below {
-        return 0;
-    }
-    if u == 0 {
-        return 0;
-    }
-    1
+    if below && u != 0 { 1 } else { 0 }
 }
 
 // How many bytes point and fraction take: "0 places no point".
+#[tactic(auto, using(crate::proofs::FieldLaws::fraction_none, crate::proofs::FieldLaws::length_fraction))]
 fn fraction_length(d: usize) -> usize
     requires { d ≤ 6 }
     ensures { result ≡ length (fraction d 0) }
 {
-    if d == 0 {
-        return 0;
-    }
-    d + 1
+    if d == 0 { 0 } else { d + 1 }
 }
 
 // The point and the fraction of u units of the last of d places.
+#[tactic(auto, using(crate::proofs::FieldLaws::fraction_none, crate::proofs::FieldLaws::length_fraction, crate::proofs::FieldLaws::fraction_put))]
 fn put_fraction(buffer: &mut [u8], at: usize, d: usize, u: u64)
     requires { (at + length (fraction d u) ≤ length buffer.old) × (d ≤ 6) }
     ensures { buffer.new ≡ sets buffer.old at (fraction d u) }
@@ -43,6 +37,7 @@ fn put_fraction(buffer: &mut [u8], at: usize, d: usize, u: u64)
 }
 
 // Sign, whole part and fraction of u units of the last of d places. `sign` and `count` are their lengths.
+#[tactic(auto, using(crate::proofs::FieldLaws::text_put))]
 fn put_text(buffer: &mut [u8], at: usize, sign: usize, count: usize, whole: u64, d: usize, u: u64)
     requires { (at + sign + count + length (fraction d u) ≤ length buffer.old) × (d ≤ 6) }
     ensures { buffer.new ≡ sets buffer.old at (replicate sign hyphen ++ (digits count whole ++ fraction d u)) }
@@ -53,6 +48,7 @@ fn put_text(buffer: &mut [u8], at: usize, sign: usize, count: usize, whole: u64,
 }
 
 // "numbers are right-aligned"; "A number too long becomes w asterisks".
+#[tactic(auto, using(numbers::proofs::Laws::scale_power, crate::proofs::FieldLaws::starred, crate::proofs::FieldLaws::spaced, crate::proofs::FieldLaws::sign_short, crate::proofs::FieldLaws::fraction_short, crate::proofs::FieldLaws::fraction_same))]
 pub fn put_units(buffer: &mut [u8], at: usize, width: usize, d: usize, below: bool, u: u64)
     requires { (at + width ≤ length buffer.old) × (d ≤ 6) }
     ensures { buffer.new ≡ sets buffer.old at (right_in width (minus below u ++ unsigned d u)) }
@@ -71,6 +67,7 @@ pub fn put_units(buffer: &mut [u8], at: usize, width: usize, d: usize, below: bo
 }
 
 // "Strings are left-aligned, filled with spaces or cut to w".
+#[tactic(auto, using(crate::proofs::FieldLaws::filled, crate::proofs::FieldLaws::cut_off))]
 pub fn put_string(buffer: &mut [u8], at: usize, width: usize, bytes: &[u8])
     requires { at + width ≤ length buffer.old }
     ensures { buffer.new ≡ sets buffer.old at (left_in width bytes.now) }

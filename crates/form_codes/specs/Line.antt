@@ -1,5 +1,6 @@
 -- Lines as rows.
-use Rattle.std.specs.Prelude.{List, ℕ}
+use Rattle.std.specs.Prelude.{List, ℕ, Option, Some, None}
+use Rattle.arguments.specs.declared.argument.Argument.{Argument}
 use Rattle.arguments.specs.declared.index.Index.{Index}
 use Rattle.lines.specs.declared.command.Operation.{Operation}
 use Rattle.lines.specs.declared.command.Operation.TheVariants.{Assign, Add, Subtract, Multiply, Divide}
@@ -7,11 +8,9 @@ use Rattle.lines.specs.declared.command.Comparison.{Comparison}
 use Rattle.lines.specs.declared.command.Comparison.TheVariants.{SameString, SameLetters, Equal, NotEqual, Less, AtMost, Greater, AtLeast}
 use Rattle.lines.specs.declared.command.Target.{Target}
 use Rattle.lines.specs.declared.command.Target.TheVariants.{IntegerTarget, DecimalTarget, StringTarget}
-use Rattle.lines.specs.declared.command.Optional.{Optional}
-use Rattle.lines.specs.declared.command.Optional.TheVariants.{Given, Absent}
 use Rattle.lines.specs.declared.command.Fetch.{Fetch}
 use Rattle.lines.specs.declared.command.Line.{Line}
-use Rattle.lines.specs.declared.command.Line.TheVariants.{NoForm, Text, Section, Set, IfNot, If, Compare, Else, EndIf, BeginTable, EndTable, Records, Entries, Datasource, NoFormFeed, NewPage, Heading, NoHeading, Remark}
+use Rattle.lines.specs.declared.command.Line.TheVariants.{Text, Section, Set, IfNot, If, Compare, Else, EndIf, BeginTable, EndTable, Records, Entries, Datasource, NoFormFeed, NewPage, Heading, NoHeading, Remark}
 use Rattle.lines.specs.Readers.Command.{parse_line}
 use Rattle.form_codes.specs.declared.row.Pair.{Pair}
 use Rattle.form_codes.specs.declared.row.Seven.{Seven}
@@ -43,9 +42,9 @@ target_codes (IntegerTarget n) = (4, n, 0, 0, 0, 0, 0)
 target_codes (DecimalTarget n) = (5, n, 0, 0, 0, 0, 0)
 target_codes (StringTarget n) = (6, n, 0, 0, 0, 0, 0)
 
-abbrev pub optional_codes : Optional → Seven
-optional_codes (Given a) = argument_codes a
-optional_codes Absent = nothing
+abbrev pub optional_codes : Option Argument → Seven
+optional_codes (Some a) = argument_codes a
+optional_codes None = nothing
 
 -- the parameter and three indexes
 abbrev pub fetch_codes : ℕ → Pair → Pair → Pair → Seven
@@ -63,7 +62,6 @@ datasource_row i = row_with 13 0 (index_seven (index_codes i))
 
 -- a name and a text by their places in the line
 unfoldable pub line_row : Line → CodeRow
-line_row NoForm = bare_row 0 0
 line_row Text = bare_row 1 0
 line_row (Section a e) = row_with 2 0 (a, e, 0, 0, 0, 0, 0)
 line_row (Set o t a) = (3, operation_code o, target_codes t, argument_codes a)
@@ -83,6 +81,11 @@ line_row (Heading n at) = row_with 16 n (at, 0, 0, 0, 0, 0, 0)
 line_row (NoHeading n) = bare_row 17 n
 line_row Remark = bare_row 18 0
 
+-- a line without a form has 0
+abbrev pub parsed_row : Option Line → CodeRow
+parsed_row (Some f) = line_row f
+parsed_row None = bare_row 0 0
+
 -- the numbers of a line's bytes
 abbrev pub line_numbers : List ℕ → List ℕ
-line_numbers l = row_numbers (line_row (parse_line l))
+line_numbers l = row_numbers (parsed_row (parse_line l))

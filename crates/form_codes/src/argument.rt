@@ -6,7 +6,7 @@ use crate::row::{Pair, Seven};
 use arguments::argument::{Argument, Filter};
 use arguments::index::Index;
 use arguments::operand::Operand;
-use numbers::{Quantity, sign};
+use numbers::Quantity;
 
 pub fn index_codes(index: Index) -> Pair
     ensures { result ≡ index_codes index }
@@ -35,16 +35,13 @@ fn filter_code(filter: Filter) -> u64
 fn below_zero(z: i64) -> u64
     ensures { result ≡ below_zero z }
 {
-    if sign::negative(z) {
-        return 1;
-    }
-    0
+    u64::from(z < 0)
 }
 
 fn signed_codes(kind: u64, filter: u64, z: i64) -> Seven
     ensures { result ≡ signed_codes kind filter z }
 {
-    Seven(kind, below_zero(z), sign::magnitude(z), 0, 0, 0, filter)
+    Seven(kind, below_zero(z), z.unsigned_abs(), 0, 0, 0, filter)
 }
 
 fn literal_codes(q: Quantity, filter: u64) -> Seven
@@ -63,6 +60,7 @@ fn cell_codes(kind: u64, n: usize, r: Pair, e: Pair, filter: u64) -> Seven
     Seven(kind, n as u64, r.0, r.1, e.0, e.1, filter)
 }
 
+#[tactic(auto, unfolding(crate::specs::Argument::operand_codes))]
 fn operand_codes(operand: Operand, filter: u64) -> Seven
     ensures { result ≡ operand_codes operand filter }
 {

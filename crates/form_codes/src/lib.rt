@@ -3,6 +3,7 @@
 // line::write_line     a line's command with its arguments
 // piece::write_piece   a byte of a text, or a field
 //
+// Numbers stand for kinds in the rows, since these cross the boundary to C.
 // Each writes its row at the front of a lent buffer and answers whether there was room.
 #![tactic(auto)]
 

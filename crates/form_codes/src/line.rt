@@ -1,13 +1,14 @@
 // A line's command with its arguments.
 ghost use Rattle.std.specs.Prelude.{◌≡◌};
 ghost use Rattle.buffers.specs.Buffer.{Stored};
-ghost use Rattle.form_codes.specs.Line.{operation_code, comparison_code, target_codes, optional_codes, fetch_row, datasource_row, line_row, line_numbers};
+ghost use Rattle.form_codes.specs.Line.{operation_code, comparison_code, target_codes, optional_codes, fetch_row, datasource_row, line_row, parsed_row, line_numbers};
 
 use crate::row::{CodeRow, Seven};
 use crate::{argument, row};
+use arguments::argument::Argument;
 use arguments::index::Index;
 use lines::command;
-use lines::command::{Comparison, Fetch, Line, Operation, Optional, Target};
+use lines::command::{Comparison, Fetch, Line, Operation, Target};
 
 fn operation_code(operation: Operation) -> u64
     ensures { result ≡ operation_code operation }
@@ -47,12 +48,12 @@ fn target_codes(target: Target) -> Seven
     }
 }
 
-fn optional_codes(optional: Optional) -> Seven
+fn optional_codes(optional: Option<Argument>) -> Seven
     ensures { result ≡ optional_codes optional }
 {
     match optional {
-        Optional::Given(a) => argument::argument_codes(a),
-        Optional::Absent => Seven(0, 0, 0, 0, 0, 0, 0),
+        Some(a) => argument::argument_codes(a),
+        None => Seven(0, 0, 0, 0, 0, 0, 0),
     }
 }
 
@@ -79,11 +80,11 @@ fn datasource_row(index: Index) -> CodeRow
     row::row_with(13, 0, Seven(i.0, i.1, 0, 0, 0, 0, 0))
 }
 
+#[tactic(auto, unfolding(crate::specs::Line::line_row))]
 fn line_row(line: Line) -> CodeRow
     ensures { result ≡ line_row line }
 {
     match line {
-        Line::NoForm => row::bare_row(0, 0),
         Line::Text => row::bare_row(1, 0),
         Line::Section(a, e) => row::row_with(2, 0, Seven(a as u64, e as u64, 0, 0, 0, 0, 0)),
         Line::Set(o, t, a) => {
@@ -117,9 +118,19 @@ fn line_row(line: Line) -> CodeRow
     }
 }
 
+// A line without a form has 0.
+fn parsed_row(parsed: Option<Line>) -> CodeRow
+    ensures { result ≡ parsed_row parsed }
+{
+    match parsed {
+        Some(form) => line_row(form),
+        None => row::bare_row(0, 0),
+    }
+}
+
 pub fn write_line(line: &[u8], numbers: &mut [u64]) -> bool
     ensures { Stored numbers.old 0 (line_numbers line.now) numbers.new result }
 {
     let parsed = command::parse_line(line);
-    row::put_row(numbers, line_row(parsed))
+    row::put_row(numbers, parsed_row(parsed))
 }

@@ -6,14 +6,14 @@ ghost use Rattle.form_codes.specs.Piece.{places_codes, field_row, piece_row, rea
 use crate::row::{CodeRow, Pair, Seven};
 use crate::{argument, row};
 use texts::text;
-use texts::text::{Field, Piece, PieceRead, Places};
+use texts::text::{Field, Piece};
 
-fn places_codes(places: Places) -> Pair
+fn places_codes(places: Option<usize>) -> Pair
     ensures { result ≡ places_codes places }
 {
     match places {
-        Places::Unsaid => Pair(0, 0),
-        Places::Said(d) => Pair(1, d as u64),
+        None => Pair(0, 0),
+        Some(d) => Pair(1, d as u64),
     }
 }
 
@@ -41,12 +41,12 @@ fn piece_row(piece: Piece, next: usize) -> CodeRow
     }
 }
 
-fn read_row(read: PieceRead) -> CodeRow
+fn read_row(read: Option<(Piece, usize)>) -> CodeRow
     ensures { result ≡ read_row read }
 {
     match read {
-        PieceRead::NoPiece => row::bare_row(0, 0),
-        PieceRead::PieceTo(piece, next) => piece_row(piece, next),
+        None => row::bare_row(0, 0),
+        Some((piece, next)) => piece_row(piece, next),
     }
 }
 

@@ -1,6 +1,5 @@
 // Rows of numbers, and how they are handed back.
-ghost use Rattle.std.specs.Prelude.{◌≡◌, ◌≤◌, length};
-ghost use Rattle.std.proofs.lemmas.List.Edits.{sets};
+ghost use Rattle.std.specs.Prelude.{◌≡◌};
 ghost use Rattle.buffers.specs.Buffer.{Stored};
 ghost use Rattle.form_codes.specs.Row.{row_numbers, bare_row, row_with};
 
@@ -41,17 +40,6 @@ pub fn row_with(form: u64, number: u64, first: Seven) -> CodeRow
     CodeRow(form, number, first, Seven(0, 0, 0, 0, 0, 0, 0))
 }
 
-fn copy_in(numbers: &mut [u64], row: &[u64])
-    requires { length row.now ≤ length numbers.old }
-    ensures { numbers.new ≡ sets numbers.old 0 row.now }
-{
-    let mut j = 0;
-    while j < row.len() {
-        numbers[j] = row[j];
-        j += 1;
-    }
-}
-
 // Whether there was room for the row.
 pub fn put_row(numbers: &mut [u64], row: CodeRow) -> bool
     ensures { Stored numbers.old 0 (row_numbers row) numbers.new result }
@@ -64,6 +52,6 @@ pub fn put_row(numbers: &mut [u64], row: CodeRow) -> bool
     let listed = [
         row.0, row.1, f.0, f.1, f.2, f.3, f.4, f.5, f.6, s.0, s.1, s.2, s.3, s.4, s.5, s.6,
     ];
-    copy_in(numbers, &listed);
+    numbers[..16].copy_from_slice(&listed);
     true
 }

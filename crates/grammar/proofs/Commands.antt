@@ -1,4 +1,5 @@
 -- Lines: what is spelled is read.
+use Rattle.std.specs.Prelude.{Option, Some, None}
 use mathlib.Core.Path.{◌≡◌, refl, sym, ap, ◌∙◌, subst}
 use mathlib.Core.Bool.{true, false}
 use mathlib.Core.List.{List, [], ◌∷◌, ◌++◌, append-nil}
@@ -8,19 +9,14 @@ use borrow.Author.Tests.{ne_eqb, eq-eqb, le-leb, lt-leb, le-ltb}
 use lib.Dec.{leb, ltb}
 use lib.ListN.{length, take, drop, length-drop}
 use Rattle.scan.specs.declared.run.Class.TheVariants.{Digit, InName}
-use Rattle.scan.specs.declared.digits.Numeral.{Numeral}
-use Rattle.scan.specs.declared.digits.Numeral.TheVariants.{NoNumeral}
 use Rattle.scan.specs.Run.{belongs, span}
 use Rattle.scan.specs.Line.{byte_at, byte_is}
 use Rattle.scan.specs.Readers.Digits.{number_at}
 use Rattle.scan.specs.Words.{begins, stands_at, first_of}
 use Rattle.arguments.specs.declared.index.Index.{Index}
-use Rattle.arguments.specs.declared.index.IndexRead.TheVariants.{IndexTo}
 use Rattle.arguments.specs.declared.operand.Operand.{Operand}
 use Rattle.arguments.specs.declared.operand.Operand.TheVariants.{IntegerVariable, DecimalVariable, StringVariable}
-use Rattle.arguments.specs.declared.operand.OperandRead.TheVariants.{OperandTo}
 use Rattle.arguments.specs.declared.argument.Argument.{Argument}
-use Rattle.arguments.specs.declared.argument.ArgumentRead.TheVariants.{ArgumentTo}
 use Rattle.arguments.specs.Readers.Index.{index_at}
 use Rattle.arguments.specs.Readers.Operand.{operand_at}
 use Rattle.arguments.specs.Readers.Argument.{argument_at}
@@ -32,12 +28,9 @@ use Rattle.lines.specs.declared.command.Operation.TheVariants.{Assign, Add, Subt
 use Rattle.lines.specs.declared.command.Target.{Target}
 use Rattle.lines.specs.declared.command.Comparison.{Comparison}
 use Rattle.lines.specs.declared.command.Comparison.TheVariants.{SameString, SameLetters, Equal, NotEqual, Less, AtMost, Greater, AtLeast}
-use Rattle.lines.specs.declared.command.Optional.{Optional}
 use Rattle.lines.specs.declared.command.Fetch.{Fetch}
 use Rattle.lines.specs.declared.command.Line.{Line}
 use Rattle.lines.specs.declared.command.Line.TheVariants.{Section, Set, IfNot, If, Compare, Else, EndIf, BeginTable, EndTable, Records, Entries, Datasource, NoFormFeed, NewPage, Heading, NoHeading}
-use Rattle.lines.specs.declared.set.TargetRead.TheVariants.{TargetIs}
-use Rattle.lines.specs.declared.fetch.FetchRead.TheVariants.{FetchTo}
 use Rattle.lines.specs.Readers.Behind.{behind_space}
 use Rattle.lines.specs.Readers.Set.{string_target, target_of, set_at, datasource_at}
 use Rattle.lines.specs.Readers.Compare.{compare_at}
@@ -70,10 +63,10 @@ module _ (l : List ℕ) (at : ℕ) where
   not_end : (b : ℕ) (r : List ℕ) → drop at l ≡ b ∷ r → leb (length l) at ≡ false
   not_end b r e = lt-leb (length l) at (omega (arith, ap length e, length-drop at l))
 
-  behind_argument : (a : Argument) (s r : List ℕ) → drop at l ≡ space ∷ (s ++ r) → ArgumentSpelled (at + 1) a s → Closes r → argument_at l (behind_space l at) ≡ ArgumentTo a (at + 1 + length s)
+  behind_argument : (a : Argument) (s r : List ℕ) → drop at l ≡ space ∷ (s ++ r) → ArgumentSpelled (at + 1) a s → Closes r → argument_at l (behind_space l at) ≡ Some (a, at + 1 + length s)
   behind_argument a s r e k t = rw (space_read (s ++ r) e) (argument_read l (at + 1) a s r k (past l at space (s ++ r) e) t)
 
-  behind_index : (i : Index) (s r : List ℕ) → drop at l ≡ space ∷ (s ++ r) → IndexSpelled i s → Stops Digit r → index_at l (behind_space l at) ≡ IndexTo i (at + 1 + length s)
+  behind_index : (i : Index) (s r : List ℕ) → drop at l ≡ space ∷ (s ++ r) → IndexSpelled i s → Stops Digit r → index_at l (behind_space l at) ≡ Some (i, at + 1 + length s)
   behind_index i s r e k t = rw (space_read (s ++ r) e) (index_read l (at + 1) i s r k (past l at space (s ++ r) e) t)
 
   after : (s r : List ℕ) → drop at l ≡ space ∷ (s ++ r) → drop (at + 1 + length s) l ≡ r
@@ -84,17 +77,17 @@ last s = ap (λ (x : List ℕ). space ∷ x) (sym (append-nil s))
 
 -- ---- the commands
 
-single_read : (form : Argument → Line) (l : List ℕ) (at : ℕ) (a : Argument) (s : List ℕ) → drop at l ≡ space ∷ s → ArgumentSpelled (at + 1) a s → single_at form l at ≡ form a
+single_read : (form : Argument → Line) (l : List ℕ) (at : ℕ) (a : Argument) (s : List ℕ) → drop at l ≡ space ∷ s → ArgumentSpelled (at + 1) a s → single_at form l at ≡ Some (form a)
 unfolding single_at
 single_read form l at a s e k =
     let f = e ∙ last s in
     rw (behind_argument l at a s [] f k tt, at_end l (at + 1 + length s) (after l at s [] f))
 
-bare_read : (form : Line) (l : List ℕ) (at : ℕ) → drop at l ≡ [] → bare_at form l at ≡ form
+bare_read : (form : Line) (l : List ℕ) (at : ℕ) → drop at l ≡ [] → bare_at form l at ≡ Some form
 unfolding bare_at
 bare_read form l at e = rw (at_end l at e)
 
-optional_read : (form : Optional → Line) (l : List ℕ) (at : ℕ) (k : Optional) (s : List ℕ) → drop at l ≡ s → OptionalSpelled at k s → optional_at form l at ≡ form k
+optional_read : (form : Option Argument → Line) (l : List ℕ) (at : ℕ) (k : Option Argument) (s : List ℕ) → drop at l ≡ s → OptionalSpelled at k s → optional_at form l at ≡ Some (form k)
 unfolding optional_at
 optional_read form l at k s e absent = rw (le-leb (length l) at (omega (arith, ap length e, length-drop at l)))
 optional_read form l at k x e (present a s u) =
@@ -106,7 +99,7 @@ closed : (r : List ℕ) → Closes (space ∷ r)
 unfolding belongs
 closed r = (refl, λ q. omega arith, λ q. omega arith)
 
-compare_read : (c : Comparison) (l : List ℕ) (at : ℕ) (a : Argument) (x : List ℕ) (b : Argument) (y : List ℕ) → drop at l ≡ space ∷ (x ++ (space ∷ y)) → ArgumentSpelled (at + 1) a x → ArgumentSpelled (at + 1 + length x + 1) b y → compare_at c l at ≡ Compare c a b
+compare_read : (c : Comparison) (l : List ℕ) (at : ℕ) (a : Argument) (x : List ℕ) (b : Argument) (y : List ℕ) → drop at l ≡ space ∷ (x ++ (space ∷ y)) → ArgumentSpelled (at + 1) a x → ArgumentSpelled (at + 1 + length x + 1) b y → compare_at c l at ≡ Some (Compare c a b)
 unfolding compare_at
 compare_read c l at a x b y e u v =
     let k : ℕ = at + 1 + length x in
@@ -114,21 +107,21 @@ compare_read c l at a x b y e u v =
     rw (behind_argument l at a x (space ∷ y) e u (closed y), behind_argument l k b y [] f v tt, at_end l (k + 1 + length y) (after l k y [] f))
 
 -- the variable is an operand that may stand there
-set_by : (o : Operation) (t : Target) (p : Operand) (l : List ℕ) (at : ℕ) (x : List ℕ) (a : Argument) (y : List ℕ) → drop at l ≡ space ∷ (x ++ (space ∷ y)) → OperandSpelled (at + 1) p x → target_of p o ≡ TargetIs t → ArgumentSpelled (at + 1 + length x + 1) a y → set_at o l at ≡ Set o t a
+set_by : (o : Operation) (t : Target) (p : Operand) (l : List ℕ) (at : ℕ) (x : List ℕ) (a : Argument) (y : List ℕ) → drop at l ≡ space ∷ (x ++ (space ∷ y)) → OperandSpelled (at + 1) p x → target_of p o ≡ Some t → ArgumentSpelled (at + 1 + length x + 1) a y → set_at o l at ≡ Some (Set o t a)
 unfolding set_at belongs
 set_by o t p l at x a y e u q v =
     let k : ℕ = at + 1 + length x in
     let f = after l at x (space ∷ y) e ∙ last y in
-    let g : operand_at l (behind_space l at) ≡ OperandTo p k = rw (space_read l at (x ++ (space ∷ y)) e) (operand_read l (at + 1) p x (space ∷ y) u (past l at space (x ++ (space ∷ y)) e) (refl, λ z. omega arith)) in
+    let g : operand_at l (behind_space l at) ≡ Some (p, k) = rw (space_read l at (x ++ (space ∷ y)) e) (operand_read l (at + 1) p x (space ∷ y) u (past l at space (x ++ (space ∷ y)) e) (refl, λ z. omega arith)) in
     rw (g, q, behind_argument l k a y [] f v tt, at_end l (k + 1 + length y) (after l k y [] f))
 
-set_read : (o : Operation) (t : Target) (l : List ℕ) (at : ℕ) (x : List ℕ) (a : Argument) (y : List ℕ) → drop at l ≡ space ∷ (x ++ (space ∷ y)) → TargetSpelled o t x → ArgumentSpelled (at + 1 + length x + 1) a y → set_at o l at ≡ Set o t a
+set_read : (o : Operation) (t : Target) (l : List ℕ) (at : ℕ) (x : List ℕ) (a : Argument) (y : List ℕ) → drop at l ≡ space ∷ (x ++ (space ∷ y)) → TargetSpelled o t x → ArgumentSpelled (at + 1 + length x + 1) a y → set_at o l at ≡ Some (Set o t a)
 unfolding target_of string_target
 set_read o t l at x a y e (integer_target o' n s k) v = set_by o t (IntegerVariable n) l at x a y e (integer_variable n s k) refl v
 set_read o t l at x a y e (decimal_target o' n s k) v = set_by o t (DecimalVariable n) l at x a y e (decimal_variable n s k) refl v
 set_read o t l at x a y e (string_as_target n s k) v = set_by o t (StringVariable n) l at x a y e (string_variable n s k) refl v
 
-datasource_read : (l : List ℕ) (at : ℕ) (i : Index) (s : List ℕ) → drop at l ≡ space ∷ s → IndexSpelled i s → datasource_at l at ≡ Datasource i
+datasource_read : (l : List ℕ) (at : ℕ) (i : Index) (s : List ℕ) → drop at l ≡ space ∷ s → IndexSpelled i s → datasource_at l at ≡ Some (Datasource i)
 unfolding datasource_at
 datasource_read l at i s e k =
     let f = e ∙ last s in
@@ -136,7 +129,7 @@ datasource_read l at i s e k =
 
 -- ---- $REC and $TBL
 
-fetched_read : (l : List ℕ) (at n m : ℕ) (r : Index) (u : List ℕ) (e : Index) (v : List ℕ) (c : Index) (w : List ℕ) → drop at l ≡ space ∷ (u ++ (space ∷ (v ++ (space ∷ w)))) → IndexSpelled r u → IndexSpelled e v → IndexSpelled c w → fetched_at l at n m ≡ FetchTo (record { number = n; parameter = m; «record» = r; entry = e; count = c }) (at + 1 + length u + 1 + length v + 1 + length w)
+fetched_read : (l : List ℕ) (at n m : ℕ) (r : Index) (u : List ℕ) (e : Index) (v : List ℕ) (c : Index) (w : List ℕ) → drop at l ≡ space ∷ (u ++ (space ∷ (v ++ (space ∷ w)))) → IndexSpelled r u → IndexSpelled e v → IndexSpelled c w → fetched_at l at n m ≡ Some (record { number = n; parameter = m; «record» = r; entry = e; count = c }, at + 1 + length u + 1 + length v + 1 + length w)
 unfolding fetched_at belongs
 fetched_read l at n m r u e v c w h a b d =
     let j : ℕ = at + 1 + length u in
@@ -145,7 +138,7 @@ fetched_read l at n m r u e v c w h a b d =
     let g : drop k l ≡ space ∷ (w ++ []) = after l j v (space ∷ w) f ∙ last w in
     rw (behind_index l at r u (space ∷ (v ++ (space ∷ w))) h a refl, behind_index l j e v (space ∷ w) f b refl, behind_index l k c w [] g d tt)
 
-fetch_read : (form : Fetch → Line) (l : List ℕ) (at : ℕ) (f : Fetch) (s : List ℕ) → drop at l ≡ space ∷ s → FetchSpelled f s → fetch_at form l at ≡ form f
+fetch_read : (form : Fetch → Line) (l : List ℕ) (at : ℕ) (f : Fetch) (s : List ℕ) → drop at l ≡ space ∷ s → FetchSpelled f s → fetch_at form l at ≡ Some (form f)
 unfolding fetch_at parameter_at belongs
 fetch_read form l at f s h (fetch n x m y r u e v c w a b i j k) =
     let rest : List ℕ = space ∷ (u ++ (space ∷ (v ++ (space ∷ w)))) in
@@ -161,7 +154,7 @@ fetch_read form l at f s h (fetch n x m y r u e v c w a b i j k) =
 
 -- ---- $SEC, $PH, texts
 
-section_read : (l : List ℕ) (at : ℕ) (name : List ℕ) → drop at l ≡ space ∷ name → Several InName 1 16 name → section_at l at ≡ Section (at + 1) (at + 1 + length name)
+section_read : (l : List ℕ) (at : ℕ) (name : List ℕ) → drop at l ≡ space ∷ name → Several InName 1 16 name → section_at l at ≡ Some (Section (at + 1) (at + 1 + length name))
 unfolding section_at name_at
 section_read l at name e w =
     let f = e ∙ last name in
@@ -174,18 +167,18 @@ unfolding text_fits fits_behind text_pieces
 text_fits_law l at ps s e t h =
     rw (text_read (length l) l at ps s t e (omega (arith, ap length e, length-drop at l))) (le-leb (at + total_width ps) 132 h)
 
-heading_of_law : (l : List ℕ) (at n : ℕ) (ps : List Piece) (s : List ℕ) → drop at l ≡ space ∷ s → TextSpelled (at + 1) ps s → at + 1 + total_width ps ≤ 132 → heading_of l at n ≡ Heading n (at + 1)
+heading_of_law : (l : List ℕ) (at n : ℕ) (ps : List Piece) (s : List ℕ) → drop at l ≡ space ∷ s → TextSpelled (at + 1) ps s → at + 1 + total_width ps ≤ 132 → heading_of l at n ≡ Some (Heading n (at + 1))
 unfolding heading_of
 heading_of_law l at n ps s e t h =
     rw (not_end l at space s e, eq-eqb (byte_at l at) space (byte_is_law l at (space ∷ s) e), text_fits_law l (at + 1) ps s (past l at space s e) t h)
 
-no_heading_of : (l : List ℕ) (at n : ℕ) → drop at l ≡ [] → heading_of l at n ≡ NoHeading n
+no_heading_of : (l : List ℕ) (at n : ℕ) → drop at l ≡ [] → heading_of l at n ≡ Some (NoHeading n)
 unfolding heading_of
 no_heading_of l at n e = rw (le-leb (length l) at (omega (arith, ap length e, length-drop at l)))
 
-no_number : (l : List ℕ) (at limit : ℕ) (r : List ℕ) → drop at l ≡ r → Stops Digit r → number_at l at limit ≡ NoNumeral
+no_number : (l : List ℕ) (at limit : ℕ) (r : List ℕ) → drop at l ≡ r → Stops Digit r → number_at l at limit ≡ None
 unfolding number_at
-no_number l at limit r e t = rw (no_digits l at 5 r (omega arith) e t) (tested (λ (x : Numeral). x ≡ NoNumeral) (byte_is l at "0") (λ z. refl) (λ z. refl))
+no_number l at limit r e t = rw (no_digits l at 5 r (omega arith) e t) (tested (λ (x : Option (ℕ × ℕ)). x ≡ None) (byte_is l at "0") (λ z. refl) (λ z. refl))
 
 -- ---- the whole line
 
@@ -193,7 +186,7 @@ moved : (a : Argument) (y : List ℕ) {m n : ℕ} → m ≡ n → ArgumentSpelle
 moved a y e k = subst (λ (i : ℕ). ArgumentSpelled i a y) e k
 
 -- Every line that is spelled is read so.
-pub spelled_is_read : (f : Line) (l : List ℕ) → Spells f l → parse_line l ≡ f
+pub spelled_is_read : (f : Line) (l : List ℕ) → Spells f l → parse_line l ≡ Some f
 unfolding parse_line commands first_of stands_at begins byte_at heading_at remark_at belongs
 spelled_is_read f l (text ps l' h t w) = rw (ne_eqb (byte_at l 0) 36 h, text_fits_law l 0 ps l refl t (omega (arith, w)))
 spelled_is_read f l (section_form name w) = section_read l 4 name refl w
@@ -224,7 +217,7 @@ spelled_is_read f l (new_page_line k s u) = optional_read NewPage l 3 k s refl u
 spelled_is_read f l (heading n w ps s bare_word t h) = rw (no_number l 3 9 (space ∷ s) refl refl) (heading_of_law l 3 1 ps s refl t h)
 spelled_is_read f l (heading n w ps s (numbered_word n' x k) t h) =
     rw (number_read l 3 9 n x (space ∷ s) (omega arith) refl k refl)
-    (heading_of_law l (3 + length x) n ps s (onward l 3 x (space ∷ s) refl) (subst (λ (i : ℕ). TextSpelled i ps s) (omega arith) t) (omega (arith, h)) ∙ ap (Heading n) (omega arith))
+    (heading_of_law l (3 + length x) n ps s (onward l 3 x (space ∷ s) refl) (subst (λ (i : ℕ). TextSpelled i ps s) (omega arith) t) (omega (arith, h)) ∙ ap (λ (at : ℕ). Some (Heading n at)) (omega arith))
 spelled_is_read f l (no_heading_line n w bare_word) = rw (no_number l 3 9 [] refl tt) (no_heading_of l 3 1 refl)
 spelled_is_read f l (no_heading_line n w (numbered_word n' x k)) =
     rw (number_read l 3 9 n x [] (omega arith) (sym (append-nil x)) k tt) (no_heading_of l (3 + length x) n (onward l 3 x [] (sym (append-nil x))))

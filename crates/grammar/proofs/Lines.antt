@@ -1,16 +1,14 @@
 -- Lines: what is read is spelled; and the law of the grammar.
+use Rattle.std.specs.Prelude.{Some, None, Option}
 use mathlib.Core.Path.{◌≡◌, refl, sym, ap, ◌∙◌, subst}
 use mathlib.Core.Bool.{Bool, true, false, cond, false≢true}
 use mathlib.Core.List.{List, [], ◌∷◌, ◌++◌, append-nil}
-use mathlib.Core.Option.{Option, none, some}
 use Prim.Native.Nat.{ℕ, ◌+◌, ◌≤◌}
 use native.Mathlib.Omega.{arith}
 use borrow.Author.Tests.{eqb-true, eqb-false, leb-true, ltb-false}
 use lib.Dec.{leb, ltb, eqb}
 use lib.ListN.{length, take, drop, length-drop, length-take, drop_of_length-le}
 use Rattle.scan.specs.declared.run.Class.TheVariants.{InName}
-use Rattle.scan.specs.declared.digits.Numeral.{Numeral}
-use Rattle.scan.specs.declared.digits.Numeral.TheVariants.{Value, NoNumeral}
 use Rattle.scan.specs.Ascii.{ascii}
 use Rattle.scan.specs.Run.{span}
 use Rattle.scan.specs.Line.{byte_at, byte_is}
@@ -18,14 +16,8 @@ use Rattle.scan.specs.Readers.Digits.{number_at}
 use Rattle.scan.specs.Words.{stands_at, first_of}
 use Rattle.scan.proofs.RunLaws.{length_span}
 use Rattle.arguments.specs.declared.index.Index.{Index}
-use Rattle.arguments.specs.declared.index.IndexRead.{IndexRead}
-use Rattle.arguments.specs.declared.index.IndexRead.TheVariants.{IndexTo, NoIndex}
 use Rattle.arguments.specs.declared.operand.Operand.{Operand}
-use Rattle.arguments.specs.declared.operand.OperandRead.{OperandRead}
-use Rattle.arguments.specs.declared.operand.OperandRead.TheVariants.{OperandTo, NoOperand}
 use Rattle.arguments.specs.declared.argument.Argument.{Argument}
-use Rattle.arguments.specs.declared.argument.ArgumentRead.{ArgumentRead}
-use Rattle.arguments.specs.declared.argument.ArgumentRead.TheVariants.{ArgumentTo, NoArgument}
 use Rattle.arguments.specs.Readers.Index.{index_at}
 use Rattle.arguments.specs.Readers.Operand.{operand_at}
 use Rattle.arguments.specs.Readers.Argument.{argument_at}
@@ -38,15 +30,9 @@ use Rattle.lines.specs.declared.command.Target.{Target}
 use Rattle.lines.specs.declared.command.Target.TheVariants.{IntegerTarget, DecimalTarget, StringTarget}
 use Rattle.lines.specs.declared.command.Comparison.{Comparison}
 use Rattle.lines.specs.declared.command.Comparison.TheVariants.{SameString, SameLetters, Equal, NotEqual, Less, AtMost, Greater, AtLeast}
-use Rattle.lines.specs.declared.command.Optional.{Optional}
-use Rattle.lines.specs.declared.command.Optional.TheVariants.{Given, Absent}
 use Rattle.lines.specs.declared.command.Fetch.{Fetch}
 use Rattle.lines.specs.declared.command.Line.{Line}
-use Rattle.lines.specs.declared.command.Line.TheVariants.{NoForm, Section, Set, IfNot, If, Compare, Else, EndIf, BeginTable, EndTable, Records, Entries, Datasource, NoFormFeed, NewPage, Heading, NoHeading, Remark}
-use Rattle.lines.specs.declared.set.TargetRead.{TargetRead}
-use Rattle.lines.specs.declared.set.TargetRead.TheVariants.{TargetIs, NoTarget}
-use Rattle.lines.specs.declared.fetch.FetchRead.{FetchRead}
-use Rattle.lines.specs.declared.fetch.FetchRead.TheVariants.{FetchTo, NoFetch}
+use Rattle.lines.specs.declared.command.Line.TheVariants.{Section, Set, IfNot, If, Compare, Else, EndIf, BeginTable, EndTable, Records, Entries, Datasource, NoFormFeed, NewPage, Heading, NoHeading, Remark}
 use Rattle.lines.specs.Readers.Reading.{argument_or, index_or, numeral_or}
 use Rattle.lines.specs.Readers.Behind.{behind_space, ending}
 use Rattle.lines.specs.Readers.Set.{string_target, target_of, operand_or, target_or, set_at, datasource_at}
@@ -56,7 +42,6 @@ use Rattle.lines.specs.Readers.Fetch.{parameter_at, fetched_at, fetch_or, fetch_
 use Rattle.lines.specs.Readers.Title.{name_at, section_at, heading_of, heading_at, remark_at}
 use Rattle.lines.specs.Readers.Command.{commands, parse_line}
 use Rattle.lines.proofs.EndLaws.{no_number, no_parameter, no_index, no_operand, no_argument, no_name}
-use Rattle.lines.proofs.SectionLaws.{form_case}
 use Rattle.grammar.specs.Number.{Several, Numbered, IndexSpelled}
 use Rattle.grammar.specs.Argument.{OperandSpelled, number_literal, string_literal, integer_variable, decimal_variable, string_variable, page_number, line_number, loop_counter, record_element, entry_element, parameter, record_of, entry_cell_of, ArgumentSpelled}
 use Rattle.grammar.specs.Text.{TextSpelled}
@@ -70,9 +55,9 @@ use Rattle.grammar.proofs.Texts.{text_spelled}
 use Rattle.grammar.proofs.Commands.{spelled_is_read}
 
 -- a line that was read has no form, or spells the one that was read
-data Sound (l : List ℕ) : Line → Type 0 where
-  nothing : Sound l NoForm
-  as_spelled : {f : Line} → Spells f l → Sound l f
+data Sound (l : List ℕ) : Option Line → Type 0 where
+  nothing : Sound l None
+  as_spelled : {f : Line} → Spells f l → Sound l (Some f)
 
 -- ---- the line, put together from its end
 
@@ -98,15 +83,15 @@ module _ (l : List ℕ) where
   space_then at r e h = byte_stands l at space (eqb-true (byte_at l at) space e) (omega arith) ∙ ap (λ (x : List ℕ). space ∷ x) h
 
   -- an argument behind a space, and what follows it; the line's end stands for a missing space
-  argument_sound : (at : ℕ) (g : Argument → ℕ → Line) → ((a : Argument) (next : ℕ) → byte_is l at " " ≡ true → Found (ArgumentSpelled (at + 1) a) l (at + 1) next → Sound l (g a next)) → Sound l (argument_or NoForm (argument_at l (behind_space l at)) g)
+  argument_sound : (at : ℕ) (g : Argument → ℕ → Option Line) → ((a : Argument) (next : ℕ) → byte_is l at " " ≡ true → Found (ArgumentSpelled (at + 1) a) l (at + 1) next → Sound l (g a next)) → Sound l (argument_or None (argument_at l (behind_space l at)) g)
   unfolding behind_space
   argument_sound at g h = go (byte_is l at " ") refl
     where
-      found : (x : ArgumentRead) → argument_at l (at + 1) ≡ x → byte_is l at " " ≡ true → Sound l (argument_or NoForm x g)
-      found (ArgumentTo a next) q e = h a next e (argument_spelled l (at + 1) a next q)
-      found NoArgument q e = nothing
+      found : (x : Option (Argument × ℕ)) → argument_at l (at + 1) ≡ x → byte_is l at " " ≡ true → Sound l (argument_or None x g)
+      found (Some (a, next)) q e = h a next e (argument_spelled l (at + 1) a next q)
+      found None q e = nothing
 
-      go : (t : Bool) → byte_is l at " " ≡ t → Sound l (argument_or NoForm (argument_at l (cond t (at + 1) (length l))) g)
+      go : (t : Bool) → byte_is l at " " ≡ t → Sound l (argument_or None (argument_at l (cond t (at + 1) (length l))) g)
       go true e = found (argument_at l (at + 1)) refl e
       go false e = rw (no_argument l (length l) (omega arith)) nothing
 
@@ -114,9 +99,9 @@ module _ (l : List ℕ) where
   unfolding behind_space
   index_sound P lack z at g h = go (byte_is l at " ") refl
     where
-      found : (x : IndexRead) → index_at l (at + 1) ≡ x → byte_is l at " " ≡ true → P (index_or lack x g)
-      found (IndexTo i next) q e = h i next e (index_spelled l (at + 1) i next q)
-      found NoIndex q e = z
+      found : (x : Option (Index × ℕ)) → index_at l (at + 1) ≡ x → byte_is l at " " ≡ true → P (index_or lack x g)
+      found (Some (i, next)) q e = h i next e (index_spelled l (at + 1) i next q)
+      found None q e = z
 
       go : (t : Bool) → byte_is l at " " ≡ t → P (index_or lack (index_at l (cond t (at + 1) (length l))) g)
       go true e = found (index_at l (at + 1)) refl e
@@ -139,13 +124,13 @@ module _ (l : List ℕ) where
     unfolding bare_at
     bare_sound form h = ending_sound at form (λ z. subst (Spells form) (sym (append-nil w) ∙ line_is [] f (ended at z)) h)
 
-    optional_sound : (form : Optional → Line) → ((k : Optional) (s : List ℕ) → OptionalSpelled at k s → Spells (form k) (w ++ s)) → Sound l (optional_at form l at)
+    optional_sound : (form : Option Argument → Line) → ((k : Option Argument) (s : List ℕ) → OptionalSpelled at k s → Spells (form k) (w ++ s)) → Sound l (optional_at form l at)
     unfolding optional_at
     optional_sound form h =
         tested (Sound l) (leb (length l) at)
-        (λ b. as_spelled (subst (Spells (form Absent)) (line_is [] f (drop_of_length-le l (leb-true (length l) at b))) (h Absent [] absent)))
-        (λ b. argument_sound at (λ a end. ending l end (form (Given a))) (λ a end e g.
-        ending_sound end (form (Given a)) (λ z. subst (Spells (form (Given a))) (line_is _ f (space_then at _ e (found_last g z))) (h (Given a) (space ∷ g.bytes) (present a g.bytes g.spelled)))))
+        (λ b. as_spelled (subst (Spells (form None)) (line_is [] f (drop_of_length-le l (leb-true (length l) at b))) (h None [] absent)))
+        (λ b. argument_sound at (λ a end. ending l end (form (Some a))) (λ a end e g.
+        ending_sound end (form (Some a)) (λ z. subst (Spells (form (Some a))) (line_is _ f (space_then at _ e (found_last g z))) (h (Some a) (space ∷ g.bytes) (present a g.bytes g.spelled)))))
 
     compare_sound : (c : Comparison) → ((a : Argument) (x : List ℕ) (b : Argument) (y : List ℕ) → ArgumentSpelled (at + 1) a x → ArgumentSpelled (at + 1 + length x + 1) b y → Spells (Compare c a b) (w ++ (space ∷ (x ++ (space ∷ y))))) → Sound l (compare_at c l at)
     unfolding compare_at
@@ -159,15 +144,15 @@ module _ (l : List ℕ) where
     datasource_sound : ((i : Index) (s : List ℕ) → IndexSpelled i s → Spells (Datasource i) (w ++ (space ∷ s))) → Sound l (datasource_at l at)
     unfolding datasource_at
     datasource_sound h =
-        index_sound (Sound l) NoForm nothing at (λ i end. ending l end (Datasource i)) (λ i end e g.
+        index_sound (Sound l) None nothing at (λ i end. ending l end (Datasource i)) (λ i end e g.
         ending_sound end (Datasource i) (λ z. subst (Spells (Datasource i)) (line_is _ f (space_then at _ e (found_last g z))) (h i g.bytes g.spelled)))
 
 -- ---- $SET.
 
-no_target : {t : Target} → NoTarget ≡ TargetIs t → ⊥
+no_target : {t : Target} → None ≡ Some t → ⊥
 no_target e = let z : ◌≡◌ {A = ℕ} 0 1 = cc in omega arith
 
-string_spelled : (n : ℕ) (s : List ℕ) (o : Operation) (t : Target) → Numbered 99 n s → string_target n o ≡ TargetIs t → TargetSpelled o t (ascii "SV" ++ s)
+string_spelled : (n : ℕ) (s : List ℕ) (o : Operation) (t : Target) → Numbered 99 n s → string_target n o ≡ Some t → TargetSpelled o t (ascii "SV" ++ s)
 unfolding string_target
 string_spelled n s Assign t k e = let q : StringTarget n ≡ t = cc in subst (λ (x : Target). TargetSpelled Assign x (ascii "SV" ++ s)) q (string_as_target n s k)
 string_spelled n s Add t k e = absurd (no_target e)
@@ -176,7 +161,7 @@ string_spelled n s Multiply t k e = absurd (no_target e)
 string_spelled n s Divide t k e = absurd (no_target e)
 
 -- the operands that may be set, and where
-target_spelled : (at : ℕ) (p : Operand) (x : List ℕ) (o : Operation) (t : Target) → OperandSpelled at p x → target_of p o ≡ TargetIs t → TargetSpelled o t x
+target_spelled : (at : ℕ) (p : Operand) (x : List ℕ) (o : Operation) (t : Target) → OperandSpelled at p x → target_of p o ≡ Some t → TargetSpelled o t x
 unfolding target_of
 target_spelled at p x o t (number_literal k) e = absurd (no_target e)
 target_spelled at p x o t (string_literal s k) e = absurd (no_target e)
@@ -197,20 +182,20 @@ module _ (l : List ℕ) {at : ℕ} {w : List ℕ} (f : Fronted l at w) where
   unfolding set_at behind_space
   set_sound o h = go (byte_is l at " ") refl
     where
-      rest : Operand → ℕ → Line
-      rest p next = target_or (target_of p o) (λ t. argument_or NoForm (argument_at l (behind_space l next)) (λ a end. ending l end (Set o t a)))
+      rest : Operand → ℕ → Option Line
+      rest p next = target_or (target_of p o) (λ t. argument_or None (argument_at l (behind_space l next)) (λ a end. ending l end (Set o t a)))
 
-      known : (p : Operand) (m : ℕ) → byte_is l at " " ≡ true → Found (OperandSpelled (at + 1) p) l (at + 1) m → (x : TargetRead) → target_of p o ≡ x → Sound l (target_or x (λ t. argument_or NoForm (argument_at l (behind_space l m)) (λ a end. ending l end (Set o t a))))
-      known p m e g (TargetIs t) q =
+      known : (p : Operand) (m : ℕ) → byte_is l at " " ≡ true → Found (OperandSpelled (at + 1) p) l (at + 1) m → (x : Option Target) → target_of p o ≡ x → Sound l (target_or x (λ t. argument_or None (argument_at l (behind_space l m)) (λ a end. ending l end (Set o t a))))
+      known p m e g (Some t) q =
           argument_sound l m (λ a end. ending l end (Set o t a)) (λ a end d k.
           ending_sound l end (Set o t a) (λ z.
           subst (Spells (Set o t a)) (line_is l _ f (space_then l at _ e (found_then l _ g (space_then l m _ d (found_last l k z)))))
           (h t g.bytes a k.bytes (target_spelled (at + 1) p g.bytes o t g.spelled q) (subst (λ (i : ℕ). ArgumentSpelled (i + 1) a k.bytes) g.behind k.spelled))))
-      known p m e g NoTarget q = nothing
+      known p m e g None q = nothing
 
-      found : (x : OperandRead) → operand_at l (at + 1) ≡ x → byte_is l at " " ≡ true → Sound l (operand_or x rest)
-      found (OperandTo p m) q e = known p m e (operand_spelled l (at + 1) p m q) (target_of p o) refl
-      found NoOperand q e = nothing
+      found : (x : Option (Operand × ℕ)) → operand_at l (at + 1) ≡ x → byte_is l at " " ≡ true → Sound l (operand_or x rest)
+      found (Some (p, m)) q e = known p m e (operand_spelled l (at + 1) p m q) (target_of p o) refl
+      found None q e = nothing
 
       go : (t : Bool) → byte_is l at " " ≡ t → Sound l (operand_or (operand_at l (cond t (at + 1) (length l))) rest)
       go true e = found (operand_at l (at + 1)) refl e
@@ -219,35 +204,35 @@ module _ (l : List ℕ) {at : ℕ} {w : List ℕ} (f : Fronted l at w) where
   -- ---- $REC and $TBL
 
   -- a fetch that was read behind its number and its parameter, where the line ends behind it
-  abbrev FetchFound : (Fetch → Line) → FetchRead → Type 0
-  FetchFound form (FetchTo g end) = ltb end (length l) ≡ false → Spells (form g) l
-  FetchFound form NoFetch = Unit {0}
+  abbrev FetchFound : (Fetch → Line) → Option (Fetch × ℕ) → Type 0
+  FetchFound form (Some (g, end)) = ltb end (length l) ≡ false → Spells (form g) l
+  FetchFound form None = Unit {0}
 
-  number_sound : (at limit : ℕ) (g : ℕ → ℕ → Line) → ((n next : ℕ) → byte_is l at " " ≡ true → Found (Numbered limit n) l (at + 1) next → Sound l (g n next)) → Sound l (numeral_or NoForm (number_at l (behind_space l at) limit) g)
+  number_sound : (at limit : ℕ) (g : ℕ → ℕ → Option Line) → ((n next : ℕ) → byte_is l at " " ≡ true → Found (Numbered limit n) l (at + 1) next → Sound l (g n next)) → Sound l (numeral_or None (number_at l (behind_space l at) limit) g)
   unfolding behind_space
   number_sound at limit g h = go (byte_is l at " ") refl
     where
-      found : (x : Numeral) → number_at l (at + 1) limit ≡ x → byte_is l at " " ≡ true → Sound l (numeral_or NoForm x g)
-      found (Value n next) q e = h n next e (number_spelled l (at + 1) limit n next q)
-      found NoNumeral q e = nothing
+      found : (x : Option (ℕ × ℕ)) → number_at l (at + 1) limit ≡ x → byte_is l at " " ≡ true → Sound l (numeral_or None x g)
+      found (Some (n, next)) q e = h n next e (number_spelled l (at + 1) limit n next q)
+      found None q e = nothing
 
-      go : (t : Bool) → byte_is l at " " ≡ t → Sound l (numeral_or NoForm (number_at l (cond t (at + 1) (length l)) limit) g)
+      go : (t : Bool) → byte_is l at " " ≡ t → Sound l (numeral_or None (number_at l (cond t (at + 1) (length l)) limit) g)
       go true e = found (number_at l (at + 1) limit) refl e
       go false e = rw (no_number l (length l) (omega arith) limit) nothing
 
-  parameter_sound : (at : ℕ) (g : ℕ → ℕ → Line) → ((m next : ℕ) → byte_is l at " " ≡ true → drop (at + 1) l ≡ 80 ∷ drop (at + 1 + 1) l → Found (Numbered 65535 m) l (at + 1 + 1) next → Sound l (g m next)) → Sound l (numeral_or NoForm (parameter_at l (behind_space l at)) g)
+  parameter_sound : (at : ℕ) (g : ℕ → ℕ → Option Line) → ((m next : ℕ) → byte_is l at " " ≡ true → drop (at + 1) l ≡ 80 ∷ drop (at + 1 + 1) l → Found (Numbered 65535 m) l (at + 1 + 1) next → Sound l (g m next)) → Sound l (numeral_or None (parameter_at l (behind_space l at)) g)
   unfolding behind_space parameter_at
   parameter_sound at g h = go (byte_is l at " ") refl
     where
-      found : (x : Numeral) → number_at l (at + 1 + 1) 65535 ≡ x → byte_is l at " " ≡ true → drop (at + 1) l ≡ 80 ∷ drop (at + 1 + 1) l → Sound l (numeral_or NoForm x g)
-      found (Value n next) q e d = h n next e d (number_spelled l (at + 1 + 1) 65535 n next q)
-      found NoNumeral q e d = nothing
+      found : (x : Option (ℕ × ℕ)) → number_at l (at + 1 + 1) 65535 ≡ x → byte_is l at " " ≡ true → drop (at + 1) l ≡ 80 ∷ drop (at + 1 + 1) l → Sound l (numeral_or None x g)
+      found (Some (n, next)) q e d = h n next e d (number_spelled l (at + 1 + 1) 65535 n next q)
+      found None q e d = nothing
 
-      named : (t : Bool) → byte_is l (at + 1) "P" ≡ t → byte_is l at " " ≡ true → Sound l (numeral_or NoForm (cond t (number_at l (at + 1 + 1) 65535) NoNumeral) g)
+      named : (t : Bool) → byte_is l (at + 1) "P" ≡ t → byte_is l at " " ≡ true → Sound l (numeral_or None (cond t (number_at l (at + 1 + 1) 65535) None) g)
       named true q e = found (number_at l (at + 1 + 1) 65535) refl e (byte_stands l (at + 1) 80 (eqb-true (byte_at l (at + 1)) 80 q) (omega arith))
       named false q e = nothing
 
-      go : (t : Bool) → byte_is l at " " ≡ t → Sound l (numeral_or NoForm (parameter_at l (cond t (at + 1) (length l))) g)
+      go : (t : Bool) → byte_is l at " " ≡ t → Sound l (numeral_or None (parameter_at l (cond t (at + 1) (length l))) g)
       go true e = named (byte_is l (at + 1) "P") refl e
       go false e = rw (no_parameter l (length l) (omega arith)) nothing
 
@@ -257,16 +242,16 @@ module _ (l : List ℕ) {at : ℕ} {w : List ℕ} (f : Fronted l at w) where
       number_sound at 10 _ (λ n i e a.
       parameter_sound i _ (λ m j d p b.
       finish (fetched_at l j n m) (
-      index_sound l (FetchFound form) NoFetch tt j _ (λ r k y u.
-      index_sound l (FetchFound form) NoFetch tt k _ (λ t o x v.
-      index_sound l (FetchFound form) NoFetch tt o _ (λ c end z q.
+      index_sound l (FetchFound form) None tt j _ (λ r k y u.
+      index_sound l (FetchFound form) None tt k _ (λ t o x v.
+      index_sound l (FetchFound form) None tt o _ (λ c end z q.
       λ last.
       subst (Spells (form _)) (line_is l _ f (space_then l at _ e (found_then l _ a (space_then l i _ d (p ∙ ap (λ (g : List ℕ). 80 ∷ g) (found_then l _ b (space_then l j _ y (found_then l _ u (space_then l k _ x (found_then l _ v (space_then l o _ z (found_last l q last))))))))))))
       (h _ _ (fetch n a.bytes m b.bytes r u.bytes t v.bytes c q.bytes a.spelled b.spelled u.spelled v.spelled q.spelled))))))))
     where
-      finish : (x : FetchRead) → FetchFound form x → Sound l (fetch_or x (λ g end. ending l end (form g)))
-      finish (FetchTo g end) q = ending_sound l end (form g) q
-      finish NoFetch q = nothing
+      finish : (x : Option (Fetch × ℕ)) → FetchFound form x → Sound l (fetch_or x (λ g end. ending l end (form g)))
+      finish (Some (g, end)) q = ending_sound l end (form g) q
+      finish None q = nothing
 
 -- ---- $SEC, $PH, $REM, texts
 
@@ -281,8 +266,8 @@ unfolding text_fits fits_behind text_pieces
 fitting l at e = go (pieces_within (length l) l at) refl e
   where
     go : (o : Option (List Piece)) → pieces_within (length l) l at ≡ o → fits_behind at o ≡ true → Fitting l at
-    go (some ps) h e = record { pieces = ps; spelled = text_spelled (length l) l at ps (omega (arith, length-drop at l)) h; fits = leb-true (at + total_width ps) 132 e }
-    go none h e = absurd (false≢true e)
+    go (Some ps) h e = record { pieces = ps; spelled = text_spelled (length l) l at ps (omega (arith, length-drop at l)) h; fits = leb-true (at + total_width ps) 132 e }
+    go None h e = absurd (false≢true e)
 
 module _ (l : List ℕ) {at : ℕ} {w : List ℕ} (f : Fronted l at w) where
   heading_of_sound : (n : ℕ) → HeadingWord n w → Sound l (heading_of l at n)
@@ -333,20 +318,20 @@ heading_sound : (l : List ℕ) → Fronted l 3 (ascii "$PH") → Sound l (headin
 unfolding heading_at
 heading_sound l f = go (number_at l 3 9) refl
   where
-    go : (x : Numeral) → number_at l 3 9 ≡ x → Sound l (numeral_or (heading_of l 3 1) x (λ n next. heading_of l next n))
-    go (Value n next) h =
+    go : (x : Option (ℕ × ℕ)) → number_at l 3 9 ≡ x → Sound l (numeral_or (heading_of l 3 1) x (λ n next. heading_of l next n))
+    go (Some (n, next)) h =
         let g = number_spelled l 3 9 n next h in
         heading_of_sound l (record { whole = f.whole ∙ ap (λ (x : List ℕ). ascii "$PH" ++ x) g.here; size = omega (arith, g.behind) }) n (numbered_word n g.bytes g.spelled)
-    go NoNumeral h = heading_of_sound l f 1 bare_word
+    go None h = heading_of_sound l f 1 bare_word
 
 moved : {a : Argument} {s : List ℕ} {m n : ℕ} → m ≡ n → ArgumentSpelled m a s → ArgumentSpelled n a s
 moved {a} {s} e k = subst (λ (i : ℕ). ArgumentSpelled i a s) e k
 
-command_sound : (l : List ℕ) → byte_at l 0 ≡ 36 → Sound l (first_of NoForm commands l 1)
+command_sound : (l : List ℕ) → byte_at l 0 ≡ 36 → Sound l (first_of None commands l 1)
 unfolding commands
 command_sound l e =
     let front : (word : List ℕ) → stands_at word l 1 ≡ true → Fronted l (1 + length word) (36 ∷ word) = λ word. fronted l word e in
-    found_word (Sound l) NoForm commands l 1 nothing (
+    found_word (Sound l) None commands l 1 nothing (
     (λ h. datasource_sound l (front (ascii "SETDS") h) datasource)
     or (λ h. set_sound l (front (ascii "SETE") h) Assign (λ t x a y u v. set Assign t x a y u (moved (omega arith) v)))
     or (λ h. set_sound l (front (ascii "SETA") h) Add (λ t x a y u v. set Add t x a y u (moved (omega arith) v)))
@@ -388,46 +373,22 @@ line_sound l =
 
 -- ---- the law of the grammar
 
-sound_spells : (l : List ℕ) (f : Line) → (f ≡ NoForm → ⊥) → Sound l f → Spells f l
-sound_spells l f n nothing = absurd (n refl)
-sound_spells l f n (as_spelled s) = s
+sound_spells : (l : List ℕ) (f : Line) (x : Option Line) → x ≡ Some f → Sound l x → Spells f l
+sound_spells l f x e nothing = cc
+sound_spells l f x e (as_spelled {f = g} s) = let q : g ≡ f = cc in subst (λ (h : Line). Spells h l) q s
 
--- For every line, and every form but NoForm: the line is read as the form exactly if it spells it.
-pub reads_what_is_spelled : (f : Line) (l : List ℕ) → (f ≡ NoForm → ⊥) → (parse_line l ≡ f → Spells f l) × (Spells f l → parse_line l ≡ f)
-reads_what_is_spelled f l n = (λ e. sound_spells l f n (subst (Sound l) e (line_sound l)), spelled_is_read f l)
+-- For every line and every form: the line is read as the form exactly if it spells it.
+pub reads_what_is_spelled : (f : Line) (l : List ℕ) → (parse_line l ≡ Some f → Spells f l) × (Spells f l → parse_line l ≡ Some f)
+reads_what_is_spelled f l = (λ e. sound_spells l f (parse_line l) e (line_sound l), spelled_is_read f l)
 
 -- No line spells two forms: the grammar is unambiguous.
 pub spells_one : (f g : Line) (l : List ℕ) → Spells f l → Spells g l → f ≡ g
-spells_one f g l s t = sym (spelled_is_read f l s) ∙ spelled_is_read g l t
+spells_one f g l s t = let q : Some f ≡ Some g = sym (spelled_is_read f l s) ∙ spelled_is_read g l t in cc
 
-abbrev HasForm : Line → Type 0
-HasForm = form_case ⊥ (Unit {0}) (Unit {0})
-
-spelled_has_form : (f : Line) (l : List ℕ) → Spells f l → HasForm f
-spelled_has_form f l (text ps l' h t w) = tt
-spelled_has_form f l (section_form name w) = tt
-spelled_has_form f l (set o t x a y u v) = tt
-spelled_has_form f l (if_not a s k) = tt
-spelled_has_form f l (if a s k) = tt
-spelled_has_form f l (compare c a x b y u v) = tt
-spelled_has_form f l «else» = tt
-spelled_has_form f l end_if = tt
-spelled_has_form f l (begin_table a s k) = tt
-spelled_has_form f l (end_table k s u) = tt
-spelled_has_form f l (records_form r s u) = tt
-spelled_has_form f l (entries_form r s u) = tt
-spelled_has_form f l (datasource i s u) = tt
-spelled_has_form f l no_form_feed = tt
-spelled_has_form f l (new_page_line k s u) = tt
-spelled_has_form f l (heading n w ps s u t h) = tt
-spelled_has_form f l (no_heading_line n w u) = tt
-spelled_has_form f l remark = tt
-spelled_has_form f l (remark_text s) = tt
-
-sound_none : (l : List ℕ) (f : Line) → ((g : Line) → Spells g l → ⊥) → Sound l f → f ≡ NoForm
-sound_none l f h nothing = refl
-sound_none l f h (as_spelled s) = absurd (h f s)
+sound_none : (l : List ℕ) (x : Option Line) → ((g : Line) → Spells g l → ⊥) → Sound l x → x ≡ None
+sound_none l x h nothing = refl
+sound_none l x h (as_spelled {f} s) = absurd (h f s)
 
 -- A line has no form exactly if it spells none.
-pub nothing_spelled : (l : List ℕ) → (parse_line l ≡ NoForm → (f : Line) → Spells f l → ⊥) × (((f : Line) → Spells f l → ⊥) → parse_line l ≡ NoForm)
-nothing_spelled l = (λ e f s. subst HasForm (sym (spelled_is_read f l s) ∙ e) (spelled_has_form f l s), λ h. sound_none l (parse_line l) h (line_sound l))
+pub nothing_spelled : (l : List ℕ) → (parse_line l ≡ None → (f : Line) → Spells f l → ⊥) × (((f : Line) → Spells f l → ⊥) → parse_line l ≡ None)
+nothing_spelled l = (λ e f s. let q : None ≡ Some f = sym e ∙ spelled_is_read f l s in cc, λ h. sound_none l (parse_line l) h (line_sound l))

@@ -1,4 +1,5 @@
 -- Numbers, literals and indexes: what is read is spelled, and what is spelled is read.
+use Rattle.std.specs.Prelude.{Option, Some, None}
 use mathlib.Core.Path.{◌≡◌, refl, sym, ap, ◌∙◌, subst}
 use mathlib.Core.Bool.{Bool, true, false}
 use mathlib.Core.List.{List, [], ◌∷◌, ◌++◌}
@@ -10,8 +11,6 @@ use lib.Dec.{leb, eqb}
 use lib.ListN.{length, get_or, take, drop, get_or-append}
 use Rattle.scan.specs.declared.run.Class.TheVariants.{Digit}
 use Rattle.scan.specs.declared.digits.Digits.{Digits}
-use Rattle.scan.specs.declared.digits.Numeral.{Numeral}
-use Rattle.scan.specs.declared.digits.Numeral.TheVariants.{Value, NoNumeral}
 use Rattle.scan.specs.Run.{span}
 use Rattle.scan.specs.Line.{byte_at, byte_is}
 use Rattle.scan.specs.Value.{value_from, value_of}
@@ -65,7 +64,7 @@ unfolding byte_at
 first_byte s r h = get_or-append s r 0 0 h
 
 -- a number that is spelled is read
-pub number_read : (l : List ℕ) (at limit n : ℕ) (s r : List ℕ) → limit ≤ 65535 → drop at l ≡ s ++ r → Numbered limit n s → Stops Digit r → number_at l at limit ≡ Value n (at + length s)
+pub number_read : (l : List ℕ) (at limit n : ℕ) (s r : List ℕ) → limit ≤ 65535 → drop at l ≡ s ++ r → Numbered limit n s → Stops Digit r → number_at l at limit ≡ Some (n, at + length s)
 unfolding number_at
 number_read l at limit n s r h e k t =
     let some = some_digits limit n s k in
@@ -74,9 +73,9 @@ number_read l at limit n s r h e k t =
     rw (z, d, ne_eqb (length s) 0 (λ q. omega (arith, some)), k.value, le-leb n limit k.most)
 
 -- what is read as a number is spelled so
-abbrev NumberSound : List ℕ → ℕ → ℕ → Numeral → Type 0
-NumberSound l at limit (Value n next) = Found (Numbered limit n) l at next
-NumberSound l at limit NoNumeral = Unit {0}
+abbrev NumberSound : List ℕ → ℕ → ℕ → Option (ℕ × ℕ) → Type 0
+NumberSound l at limit (Some (n, next)) = Found (Numbered limit n) l at next
+NumberSound l at limit None = Unit {0}
 
 number_sound : (l : List ℕ) (at limit : ℕ) → NumberSound l at limit (number_at l at limit)
 unfolding number_at digits_at
@@ -86,7 +85,7 @@ number_sound l at limit =
     tested (NumberSound l at limit) (eqb (length s) 0) (λ c. tt) (λ c.
     tested (NumberSound l at limit) (leb (value_of s) limit) (λ v.
     let some : 0 < length s = omega (arith, eqb-false (length s) 0 c) in
-    let q : number_at l at limit ≡ Value (value_of s) (at + length s) = rw (z, c, v) in
+    let q : number_at l at limit ≡ Some (value_of s, at + length s) = rw (z, c, v) in
     let w = subst (Within limit at) q (number_within l at limit) in
     let h = span_here Digit l at 5 in
     record {
@@ -102,5 +101,5 @@ number_sound l at limit =
       behind = refl;
     }) (λ v. tt)))
 
-pub number_spelled : (l : List ℕ) (at limit n next : ℕ) → number_at l at limit ≡ Value n next → Found (Numbered limit n) l at next
+pub number_spelled : (l : List ℕ) (at limit n next : ℕ) → number_at l at limit ≡ Some (n, next) → Found (Numbered limit n) l at next
 number_spelled l at limit n next e = subst (NumberSound l at limit) e (number_sound l at limit)

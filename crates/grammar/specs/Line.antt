@@ -1,6 +1,6 @@
 -- How lines are spelled: "A line beginning with `$` is a command: word, then arguments, one space before each. Other lines are
 -- text, blank ones included." Nothing stands behind the last argument.
-use Rattle.std.specs.Prelude.{◌≡◌, List, [], ◌∷◌, ◌++◌, ℕ, ◌+◌, ◌≤◌, length}
+use Rattle.std.specs.Prelude.{◌≡◌, List, [], ◌∷◌, ◌++◌, ℕ, ◌+◌, ◌≤◌, length, Option, Some, None}
 use Prim.Native.Char.{code}
 use Rattle.scan.specs.declared.run.Class.TheVariants.{InName}
 use Rattle.scan.specs.Ascii.{ascii}
@@ -15,8 +15,6 @@ use Rattle.lines.specs.declared.command.Target.{Target}
 use Rattle.lines.specs.declared.command.Target.TheVariants.{IntegerTarget, DecimalTarget, StringTarget}
 use Rattle.lines.specs.declared.command.Comparison.{Comparison}
 use Rattle.lines.specs.declared.command.Comparison.TheVariants.{SameString, SameLetters, Equal, NotEqual, Less, AtMost, Greater, AtLeast}
-use Rattle.lines.specs.declared.command.Optional.{Optional}
-use Rattle.lines.specs.declared.command.Optional.TheVariants.{Given, Absent}
 use Rattle.lines.specs.declared.command.Fetch.{Fetch}
 use Rattle.lines.specs.declared.command.Line.{Line}
 use Rattle.lines.specs.declared.command.Line.TheVariants.{Text, Section, Set, IfNot, If, Compare, Else, EndIf, BeginTable, EndTable, Records, Entries, Datasource, NoFormFeed, NewPage, Heading, NoHeading, Remark}
@@ -52,9 +50,9 @@ compare_word Greater = ascii "$IFGT "
 compare_word AtLeast = ascii "$IFGE "
 
 -- "[k]", "[n]": an argument, or nothing
-pub data OptionalSpelled (at : ℕ) : Optional → List ℕ → Type 0 where
-  absent : OptionalSpelled at Absent []
-  present : (a : Argument) (s : List ℕ) → ArgumentSpelled (at + 1) a s → OptionalSpelled at (Given a) (space ∷ s)
+pub data OptionalSpelled (at : ℕ) : Option Argument → List ℕ → Type 0 where
+  absent : OptionalSpelled at None []
+  present : (a : Argument) (s : List ℕ) → ArgumentSpelled (at + 1) a s → OptionalSpelled at (Some a) (space ∷ s)
 
 -- "n Pm record entry count"
 pub data FetchSpelled : Fetch → List ℕ → Type 0 where
@@ -77,12 +75,12 @@ pub data Spells : Line → List ℕ → Type 0 where
   «else» : Spells Else (ascii "$ELSE")
   end_if : Spells EndIf (ascii "$ENDIF")
   begin_table : (a : Argument) (s : List ℕ) → ArgumentSpelled 4 a s → Spells (BeginTable a) (ascii "$BT " ++ s)
-  end_table : (k : Optional) (s : List ℕ) → OptionalSpelled 3 k s → Spells (EndTable k) (ascii "$ET" ++ s)
+  end_table : (k : Option Argument) (s : List ℕ) → OptionalSpelled 3 k s → Spells (EndTable k) (ascii "$ET" ++ s)
   records_form : (f : Fetch) (s : List ℕ) → FetchSpelled f s → Spells (Records f) (ascii "$REC " ++ s)
   entries_form : (f : Fetch) (s : List ℕ) → FetchSpelled f s → Spells (Entries f) (ascii "$TBL " ++ s)
   datasource : (i : Index) (s : List ℕ) → IndexSpelled i s → Spells (Datasource i) (ascii "$SETDS " ++ s)
   no_form_feed : Spells NoFormFeed (ascii "$NOFF")
-  new_page_line : (n : Optional) (s : List ℕ) → OptionalSpelled 3 n s → Spells (NewPage n) (ascii "$NP" ++ s)
+  new_page_line : (n : Option Argument) (s : List ℕ) → OptionalSpelled 3 n s → Spells (NewPage n) (ascii "$NP" ++ s)
   -- "no space after the word undefines it, a space alone defines a blank"; the width is that of the line, "command word included"
   heading : (n : ℕ) (w : List ℕ) (ps : List Piece) (s : List ℕ) → HeadingWord n w → TextSpelled (length w + 1) ps s → length w + 1 + total_width ps ≤ 132 → Spells (Heading n (length w + 1)) (w ++ (space ∷ s))
   no_heading_line : (n : ℕ) (w : List ℕ) → HeadingWord n w → Spells (NoHeading n) w

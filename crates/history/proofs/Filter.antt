@@ -1,8 +1,8 @@
 -- The cells below a key and those above it are picked by a test; what such a choice keeps.
+use Rattle.std.specs.Prelude.{Some, None}
 use mathlib.Core.Path.{◌≡◌, refl, sym, ap, ◌∙◌}
 use mathlib.Core.Bool.{Bool, true, false, cond}
 use mathlib.Core.List.{List, [], ◌∷◌, ◌++◌}
-use mathlib.Core.Option.{none, some}
 use Prim.Native.Nat.{ℕ}
 use borrow.Author.Tests.{eq-eqb, ne_eqb}
 use lib.Dec.{ltb, eqb}
@@ -55,7 +55,7 @@ module _ (p : Cell → Bool) where
 
 -- ---- the cell of a key
 
-pub lookup_first : (k : ℕ) (c : Cell) (cs : List Cell) → key_number c ≡ k → lookup k (c ∷ cs) ≡ some c
+pub lookup_first : (k : ℕ) (c : Cell) (cs : List Cell) → key_number c ≡ k → lookup k (c ∷ cs) ≡ Some c
 unfolding lookup
 lookup_first k c cs e = rw (eq-eqb _ _ e)
 
@@ -65,13 +65,13 @@ lookup_next k c cs e = rw (ne_eqb _ _ e)
 
 lookup_cons : (k : ℕ) (c : Cell) (xs ys : List Cell) → lookup k xs ≡ lookup k ys → lookup k (c ∷ xs) ≡ lookup k (c ∷ ys)
 unfolding lookup
-lookup_cons k c xs ys e = ap (cond (eqb (key_number c) k) (some c)) e
+lookup_cons k c xs ys e = ap (cond (eqb (key_number c) k) (Some c)) e
 
 module _ (k : ℕ) (p : Cell → Bool) where
   -- no cell that passes has the key
-  pub lookup_none : ((c : Cell) → p c ≡ true → key_number c ≡ k → ⊥) → (cs : List Cell) → lookup k (filter p cs) ≡ none
+  pub lookup_none : ((c : Cell) → p c ≡ true → key_number c ≡ k → ⊥) → (cs : List Cell) → lookup k (filter p cs) ≡ None
   unfolding lookup
-  lookup_none f = filter_elim p (λ cs ds. lookup k ds ≡ none) refl (λ c cs e r. lookup_next k c (filter p cs) (f c e) ∙ r) (λ c cs e r. r)
+  lookup_none f = filter_elim p (λ cs ds. lookup k ds ≡ None) refl (λ c cs e r. lookup_next k c (filter p cs) (f c e) ∙ r) (λ c cs e r. r)
 
   -- no cell that fails has the key
   pub lookup_all : ((c : Cell) → p c ≡ false → key_number c ≡ k → ⊥) → (cs : List Cell) → lookup k (filter p cs) ≡ lookup k cs
@@ -80,16 +80,16 @@ module _ (k : ℕ) (p : Cell → Bool) where
 
 -- the key is in the first list, or not there
 module _ (k : ℕ) (ys : List Cell) where
-  pub lookup_behind : (xs : List Cell) → lookup k xs ≡ none → lookup k (xs ++ ys) ≡ lookup k ys
+  pub lookup_behind : (xs : List Cell) → lookup k xs ≡ None → lookup k (xs ++ ys) ≡ lookup k ys
   unfolding lookup
   lookup_behind [] e = refl
   lookup_behind (x ∷ xs) e = go (eqb (key_number x) k) e (lookup_behind xs)
     where
-      go : (t : Bool) → cond t (some x) (lookup k xs) ≡ none → (lookup k xs ≡ none → lookup k (xs ++ ys) ≡ lookup k ys) → cond t (some x) (lookup k (xs ++ ys)) ≡ lookup k ys
+      go : (t : Bool) → cond t (Some x) (lookup k xs) ≡ None → (lookup k xs ≡ None → lookup k (xs ++ ys) ≡ lookup k ys) → cond t (Some x) (lookup k (xs ++ ys)) ≡ lookup k ys
       go true e r = absurd (none_some (sym e))
       go false e r = r e
 
-  pub lookup_before : (xs : List Cell) → lookup k ys ≡ none → lookup k (xs ++ ys) ≡ lookup k xs
+  pub lookup_before : (xs : List Cell) → lookup k ys ≡ None → lookup k (xs ++ ys) ≡ lookup k xs
   unfolding lookup
   lookup_before [] e = e
   lookup_before (x ∷ xs) e = lookup_cons k x (xs ++ ys) xs (lookup_before xs e)

@@ -1,8 +1,8 @@
 -- One edit: an accepted one leaves a store in form, with the cells of its definition; a refused one leaves everything.
+use Rattle.std.specs.Prelude.{Option, Some, None}
 use mathlib.Core.Path.{◌≡◌, refl, sym, ap, ◌∙◌, subst}
 use mathlib.Core.Bool.{Bool, true, false, cond, ◌&&◌, true≢false}
 use mathlib.Core.List.{List, ◌++◌, append_assoc}
-use mathlib.Core.Option.{Option, none, some}
 use Prim.Native.Nat.{ℕ, ◌+◌, ◌-◌, ◌≤◌}
 use native.Mathlib.Nat.{le_trans}
 use native.Mathlib.Omega.{arith}
@@ -28,15 +28,15 @@ use Rattle.history.proofs.Order.{with_valid, without_valid, without_shorter}
 
 -- ---- what is handed in
 
-chosen : {A : Type 0} (t : Bool) (x y : A) → cond t (some x) none ≡ some y → (t ≡ true) × (x ≡ y)
+chosen : {A : Type 0} (t : Bool) (x y : A) → cond t (Some x) None ≡ Some y → (t ≡ true) × (x ≡ y)
 chosen true x y e = (refl, some_inj e)
 chosen false x y e = absurd (none_some e)
 
-pub cell_allowed_law : (s : List ℕ) (c : Cell) → whole_cell s ≡ some c → cell_allowed c ≡ true
+pub cell_allowed_law : (s : List ℕ) (c : Cell) → whole_cell s ≡ Some c → cell_allowed c ≡ true
 unfolding whole_cell
 cell_allowed_law s c e = (passing_some (λ b. equal_bytes b s) (cell_of s) c e).0
 
-pub key_allowed_law : (s : List ℕ) (k : Key) → whole_key s ≡ some k → key_allowed k ≡ true
+pub key_allowed_law : (s : List ℕ) (k : Key) → whole_key s ≡ Some k → key_allowed k ≡ true
 unfolding whole_key
 key_allowed_law s k e =
     let t = chosen (key_allowed (key_at s 0) && equal_bytes (key_bytes (key_at s 0)) s) (key_at s 0) k e in
@@ -49,17 +49,17 @@ record InForm (b : List ℕ) (n : ℕ) (cs : List Cell) : Type 0 where
   limit : n ≤ capacity
   run : Holds (take n b) cs
 
-held_form : (b : List ℕ) (n : ℕ) (cs : List Cell) → cells_held b n ≡ some cs → InForm b n cs
+held_form : (b : List ℕ) (n : ℕ) (cs : List Cell) → cells_held b n ≡ Some cs → InForm b n cs
 unfolding cells_held
 held_form b n cs e = go (leb n (length b) && leb n capacity) refl e
   where
-    go : (t : Bool) → leb n (length b) && leb n capacity ≡ t → cond t (cells (take n b)) none ≡ some cs → InForm b n cs
+    go : (t : Bool) → leb n (length b) && leb n capacity ≡ t → cond t (cells (take n b)) None ≡ Some cs → InForm b n cs
     go true f x =
         let t = and_true _ _ f in
         record { inside = leb-true _ _ t.0; limit = leb-true _ _ t.1; run = cells_some (take n b) cs x }
     go false f x = absurd (none_some x)
 
-form_held : (b : List ℕ) (n : ℕ) (cs : List Cell) → n ≤ length b → n ≤ capacity → encode cs ≡ take n b → Valid cs → cells_held b n ≡ some cs
+form_held : (b : List ℕ) (n : ℕ) (cs : List Cell) → n ≤ length b → n ≤ capacity → encode cs ≡ take n b → Valid cs → cells_held b n ≡ Some cs
 unfolding cells_held
 form_held b n cs h k e v = rw (le-leb n (length b) h, le-leb n capacity k, ← e) (cells_encode cs v)
 
@@ -69,7 +69,7 @@ size_held b n cs f = ap length f.run.bytes ∙ length-take-le n b f.inside
 -- ---- what an edit hands back: the cells behind it, in a buffer as long as before
 
 pub record Kept (b : List ℕ) (cs : List Cell) (r : Edit) : Type 0 where
-  pub held : cells_held r.buffer r.length ≡ some cs
+  pub held : cells_held r.buffer r.length ≡ Some cs
   pub size : length r.buffer ≡ length b
 
 front_written : (b e z : List ℕ) → length (e ++ z) ≤ length b → take (length e) (sets b 0 (e ++ z)) ≡ e
@@ -90,7 +90,7 @@ fits_says : (size : ℕ) (cs : List Cell) → fits size cs ≡ true → (length 
 unfolding fits
 fits_says size cs e = let t = and_true _ _ e in (leb-true _ _ t.0, leb-true _ _ t.1)
 
-module _ (b : List ℕ) (n : ℕ) (cs : List Cell) (h : cells_held b n ≡ some cs) where
+module _ (b : List ℕ) (n : ℕ) (cs : List Cell) (h : cells_held b n ≡ Some cs) where
   -- the cells that an edit leaves are held by what it hands back
   abbrev Keeps : CellEdit → Type 0
   Keeps x = Kept b x.left (written_out b n x)
@@ -101,8 +101,8 @@ module _ (b : List ℕ) (n : ℕ) (cs : List Cell) (h : cells_held b n ≡ some 
 
   put_kept : (s : List ℕ) (o : Option Cell) → whole_cell s ≡ o → Keeps (put_on (length b) o cs)
   unfolding put_on written_by
-  put_kept s none e = refused_kept BadRequest
-  put_kept s (some c) e = go (fits (length b) (with c cs)) refl
+  put_kept s None e = refused_kept BadRequest
+  put_kept s (Some c) e = go (fits (length b) (with c cs)) refl
     where
       go : (t : Bool) → fits (length b) (with c cs) ≡ t → Keeps (cond t (done_on (with c cs)) (refused_on StoreFull cs))
       go true f =
@@ -113,20 +113,20 @@ module _ (b : List ℕ) (n : ℕ) (cs : List Cell) (h : cells_held b n ≡ some 
 
   taken_kept : (k : ℕ) (o : Option Cell) → Keeps (taken_out k cs o)
   unfolding taken_out written_by
-  taken_kept k none = refused_kept NoCell
-  taken_kept k (some c) =
+  taken_kept k None = refused_kept NoCell
+  taken_kept k (Some c) =
       let i = held_form b n cs h in
       let t : length (encode (without k cs)) ≤ n = subst (λ (x : ℕ). length (encode (without k cs)) ≤ x) (size_held b n cs i) (without_shorter k cs) in
       written_kept b n (without k cs) i.inside (without_valid k cs i.run.valid) (le_trans t i.inside) (le_trans t i.limit)
 
   remove_kept : (o : Option Key) → Keeps (remove_on o cs)
   unfolding remove_on
-  remove_kept none = refused_kept BadRequest
-  remove_kept (some k) = taken_kept (key_as_number k) (lookup (key_as_number k) cs)
+  remove_kept None = refused_kept BadRequest
+  remove_kept (Some k) = taken_kept (key_as_number k) (lookup (key_as_number k) cs)
 
 -- From a store in form every edit leaves one in form, with the cells that its definition gives: "Put adds or replaces the cell
 -- of a key", "Remove takes it out", and a refused edit changes nothing. The buffer stays as long as it was.
-pub form_kept : (e : Change) (m : LentStore) (cs : List Cell) → cells_held_by m ≡ some cs → Kept m.buffer (edited (length m.buffer) e cs).left (handed_back e m)
+pub form_kept : (e : Change) (m : LentStore) (cs : List Cell) → cells_held_by m ≡ Some cs → Kept m.buffer (edited (length m.buffer) e cs).left (handed_back e m)
 unfolding handed_back edited put_of remove_of checked_edit
 form_kept (put s) m cs h = rw h (put_kept m.buffer m.length cs h s (whole_cell s) refl)
 form_kept (remove s) m cs h = rw h (remove_kept m.buffer m.length cs h (whole_key s))
@@ -137,7 +137,7 @@ written_end b n cs Finished = refl
 written_end b n cs (Halted h l) = refl
 
 -- and it ends as it does on the cells
-pub end_kept : (e : Change) (m : LentStore) (cs : List Cell) → cells_held_by m ≡ some cs → edit_end e m ≡ (edited (length m.buffer) e cs).end
+pub end_kept : (e : Change) (m : LentStore) (cs : List Cell) → cells_held_by m ≡ Some cs → edit_end e m ≡ (edited (length m.buffer) e cs).end
 unfolding handed_back edited put_of remove_of checked_edit
 end_kept (put s) m cs h =
     ap (λ (o : Option (List Cell)). (checked_edit m.buffer m.length (put_on (length m.buffer) (whole_cell s)) o).end) h ∙ written_end m.buffer m.length _ _
@@ -156,17 +156,17 @@ refused_left size (put s) cs = go (whole_cell s)
     by c false e = refl
 
     go : (o : Option Cell) → succeeded (put_on size o cs).end ≡ false → (put_on size o cs).left ≡ cs
-    go none e = refl
-    go (some c) e = by c (fits size (with c cs)) e
+    go None e = refl
+    go (Some c) e = by c (fits size (with c cs)) e
 refused_left size (remove s) cs = go (whole_key s)
   where
     by : (k : ℕ) (o : Option Cell) → succeeded (taken_out k cs o).end ≡ false → (taken_out k cs o).left ≡ cs
-    by k none e = refl
-    by k (some c) e = absurd (true≢false e)
+    by k None e = refl
+    by k (Some c) e = absurd (true≢false e)
 
     go : (o : Option Key) → succeeded (remove_on o cs).end ≡ false → (remove_on o cs).left ≡ cs
-    go none e = refl
-    go (some k) e = by (key_as_number k) (lookup (key_as_number k) cs) e
+    go None e = refl
+    go (Some k) e = by (key_as_number k) (lookup (key_as_number k) cs) e
 
 written_stays : (b : List ℕ) (n : ℕ) (cs : List Cell) (x : Ended) → succeeded (written_by b n cs x).end ≡ false → handed_on (written_by b n cs x) ≡ record { buffer = b; length = n }
 unfolding written_by written succeeded
@@ -175,8 +175,8 @@ written_stays b n cs (Halted h l) e = refl
 
 checked_stays : (b : List ℕ) (n : ℕ) (f : List Cell → CellEdit) (o : Option (List Cell)) → succeeded (checked_edit b n f o).end ≡ false → handed_on (checked_edit b n f o) ≡ record { buffer = b; length = n }
 unfolding checked_edit
-checked_stays b n f none = λ e. refl
-checked_stays b n f (some cs) = written_stays b n (f cs).left (f cs).end
+checked_stays b n f None = λ e. refl
+checked_stays b n f (Some cs) = written_stays b n (f cs).left (f cs).end
 
 -- A refused edit keeps every byte and the length.
 pub refused_keeps : (e : Change) (m : LentStore) → accepted e m ≡ false → after_change e m ≡ m
@@ -185,7 +185,7 @@ refused_keeps (put s) m = checked_stays m.buffer m.length (put_on (length m.buff
 refused_keeps (remove s) m = checked_stays m.buffer m.length (remove_on (whole_key s)) (cells_held_by m)
 
 -- 1: "The store breaks its form": every edit is refused with it
-pub out_of_form_once : (e : Change) (m : LentStore) → cells_held_by m ≡ none → handed_back e m ≡ refused_edit m.buffer m.length BadStore
+pub out_of_form_once : (e : Change) (m : LentStore) → cells_held_by m ≡ None → handed_back e m ≡ refused_edit m.buffer m.length BadStore
 unfolding handed_back put_of remove_of checked_edit
 out_of_form_once (put s) m h = rw h
 out_of_form_once (remove s) m h = rw h

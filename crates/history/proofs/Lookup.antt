@@ -1,8 +1,8 @@
 -- The cell of a key, after a put and after a remove.
+use Rattle.std.specs.Prelude.{Some, None}
 use mathlib.Core.Path.{◌≡◌, refl, ◌∙◌}
 use mathlib.Core.Bool.{Bool, true, false}
 use mathlib.Core.List.{List, ◌∷◌, ◌++◌}
-use mathlib.Core.Option.{none, some}
 use Prim.Native.Nat.{ℕ, ◌≤◌, ◌<◌}
 use native.Mathlib.Omega.{arith}
 use borrow.Author.Tests.{ltb-true, ltb-false}
@@ -14,10 +14,10 @@ use Rattle.history.proofs.Filter.{is_below, is_above, lower_filter, higher_filte
 
 -- no key from n on is below n, no key up to n is above it
 module _ (k n : ℕ) (cs : List Cell) where
-  not_lower : n ≤ k → lookup k (lower n cs) ≡ none
+  not_lower : n ≤ k → lookup k (lower n cs) ≡ None
   not_lower h = rw (lower_filter n cs) (lookup_none k (is_below n) (λ c e q. omega (arith, ltb-true (key_number c) n e)) cs)
 
-  not_higher : k ≤ n → lookup k (higher n cs) ≡ none
+  not_higher : k ≤ n → lookup k (higher n cs) ≡ None
   not_higher h = rw (higher_filter n cs) (lookup_none k (is_above n) (λ c e q. omega (arith, ltb-true n (key_number c) e)) cs)
 
   in_lower : k < n → lookup k (lower n cs) ≡ lookup k cs
@@ -39,13 +39,13 @@ module _ (k n : ℕ) (cs : List Cell) where
           lookup_behind k ys (lower n cs) (not_lower h) ∙ e ∙ in_higher (omega arith)
 
 -- "Put adds or replaces the cell of a key": it is found
-pub lookup_with : (c : Cell) (cs : List Cell) → lookup (key_number c) (with c cs) ≡ some c
+pub lookup_with : (c : Cell) (cs : List Cell) → lookup (key_number c) (with c cs) ≡ Some c
 unfolding with
 lookup_with c cs =
     lookup_behind (key_number c) (c ∷ higher (key_number c) cs) (lower (key_number c) cs) (not_lower (key_number c) (key_number c) cs (omega arith)) ∙ lookup_first (key_number c) c _ refl
 
 -- "Remove takes it out.": it is missing
-pub lookup_without : (n : ℕ) (cs : List Cell) → lookup n (without n cs) ≡ none
+pub lookup_without : (n : ℕ) (cs : List Cell) → lookup n (without n cs) ≡ None
 unfolding without
 lookup_without n cs =
     lookup_behind n (higher n cs) (lower n cs) (not_lower n n cs (omega arith)) ∙ not_higher n n cs (omega arith)

@@ -1,8 +1,8 @@
 -- Edits of other parameters: every question about a parameter is answered as before, the highest numbers too.
+use Rattle.std.specs.Prelude.{Option, Some, None}
 use mathlib.Core.Path.{◌≡◌, refl, sym, ap, ◌∙◌}
 use mathlib.Core.Bool.{Bool, true, false, cond, ◌&&◌, true≢false}
 use mathlib.Core.List.{List, [], ◌∷◌, ◌++◌}
-use mathlib.Core.Option.{Option, none, some}
 use Prim.Native.Nat.{ℕ, max}
 use native.Mathlib.Omega.{arith}
 use borrow.Author.Tests.{eqb-true, eq-eqb, ltb-true, ltb-false, not-true}
@@ -70,41 +70,41 @@ module _ (p : Key → Bool) (f : Cell → ℕ) where
       omega (arith, top_append (lower (key_as_number l) cs) (higher (key_as_number l) cs), top_around (key_as_number l) cs (none_of l a n cs h))
 
   -- an edit of a key that doesn't pass
-  top_edited : (size : ℕ) (e : Change) → ((l : Key) → key_named e ≡ some l → p l ≡ false) → (cs : List Cell) → cells_allowed cs ≡ true → top (edited size e cs).left ≡ top cs
+  top_edited : (size : ℕ) (e : Change) → ((l : Key) → key_named e ≡ Some l → p l ≡ false) → (cs : List Cell) → cells_allowed cs ≡ true → top (edited size e cs).left ≡ top cs
   unfolding key_named key_of_cell edited put_on remove_on taken_out
   top_edited size (put s) n cs h = go (whole_cell s) refl n
     where
-      by : (c : Cell) (t : Bool) → whole_cell s ≡ some c → p c.key ≡ false → top (cond t (done_on (with c cs)) (refused_on StoreFull cs)).left ≡ top cs
+      by : (c : Cell) (t : Bool) → whole_cell s ≡ Some c → p c.key ≡ false → top (cond t (done_on (with c cs)) (refused_on StoreFull cs)).left ≡ top cs
       by c true e n = top_with c (cell-key-allowed c (cell_allowed_law s c e)) n cs h
       by c false e n = refl
 
-      go : (o : Option Cell) → whole_cell s ≡ o → ((l : Key) → key_of_cell o ≡ some l → p l ≡ false) → top (put_on size o cs).left ≡ top cs
-      go none e n = refl
-      go (some c) e n = by c (fits size (with c cs)) e (n c.key refl)
+      go : (o : Option Cell) → whole_cell s ≡ o → ((l : Key) → key_of_cell o ≡ Some l → p l ≡ false) → top (put_on size o cs).left ≡ top cs
+      go None e n = refl
+      go (Some c) e n = by c (fits size (with c cs)) e (n c.key refl)
   top_edited size (remove s) n cs h = go (whole_key s) refl n
     where
-      by : (k : Key) (o : Option Cell) → whole_key s ≡ some k → p k ≡ false → top (taken_out (key_as_number k) cs o).left ≡ top cs
-      by k none e n = refl
-      by k (some c) e n = top_without k (key_allowed_law s k e) n cs h
+      by : (k : Key) (o : Option Cell) → whole_key s ≡ Some k → p k ≡ false → top (taken_out (key_as_number k) cs o).left ≡ top cs
+      by k None e n = refl
+      by k (Some c) e n = top_without k (key_allowed_law s k e) n cs h
 
-      go : (o : Option Key) → whole_key s ≡ o → ((l : Key) → o ≡ some l → p l ≡ false) → top (remove_on o cs).left ≡ top cs
-      go none e n = refl
-      go (some k) e n = by k (lookup (key_as_number k) cs) e (n k refl)
+      go : (o : Option Key) → whole_key s ≡ o → ((l : Key) → o ≡ Some l → p l ≡ false) → top (remove_on o cs).left ≡ top cs
+      go None e n = refl
+      go (Some k) e n = by k (lookup (key_as_number k) cs) e (n k refl)
 
 -- ---- one edit
 
-named_allowed : (e : Change) (l : Key) → key_named e ≡ some l → key_allowed l ≡ true
+named_allowed : (e : Change) (l : Key) → key_named e ≡ Some l → key_allowed l ≡ true
 unfolding key_named key_of_cell
 named_allowed (put s) l h = go (whole_cell s) refl h
   where
-    go : (o : Option Cell) → whole_cell s ≡ o → key_of_cell o ≡ some l → key_allowed l ≡ true
-    go none e h = let z : ◌≡◌ {A = ℕ} 0 1 = cc in absurd (omega arith)
-    go (some c) e h = let q : c.key ≡ l = cc in rw (← q) (cell-key-allowed c (cell_allowed_law s c e))
+    go : (o : Option Cell) → whole_cell s ≡ o → key_of_cell o ≡ Some l → key_allowed l ≡ true
+    go None e h = let z : ◌≡◌ {A = ℕ} 0 1 = cc in absurd (omega arith)
+    go (Some c) e h = let q : c.key ≡ l = cc in rw (← q) (cell-key-allowed c (cell_allowed_law s c e))
 named_allowed (remove s) l h = key_allowed_law s l h
 
 module _ (q : Question) (e : Change) (n : of_its_parameter (key_asked q) (key_named e) ≡ false) where
   -- a key that the edit names is not of the parameter
-  other : (l : Key) → key_named e ≡ some l → eqb l.datasource q.datasource && eqb l.parameter q.parameter ≡ false
+  other : (l : Key) → key_named e ≡ Some l → eqb l.datasource q.datasource && eqb l.parameter q.parameter ≡ false
   unfolding of_its_parameter
   other l h = sym (ap (of_its_parameter (key_asked q)) h) ∙ n
 
@@ -114,8 +114,8 @@ module _ (q : Question) (e : Change) (n : of_its_parameter (key_asked q) (key_na
   not_asked a = go (key_named e) refl
     where
       go : (o : Option Key) → key_named e ≡ o → is_key (key_asked q) o ≡ false
-      go none h = refl
-      go (some l) h = by (eqb (key_as_number l) (key_as_number (key_asked q))) refl
+      go None h = refl
+      go (Some l) h = by (eqb (key_as_number l) (key_as_number (key_asked q))) refl
         where
           by : (t : Bool) → eqb (key_as_number l) (key_as_number (key_asked q)) ≡ t → t ≡ false
           by true u =
@@ -123,7 +123,7 @@ module _ (q : Question) (e : Change) (n : of_its_parameter (key_asked q) (key_na
               absurd (true≢false (sym (rw (eq-eqb q.datasource q.datasource refl, eq-eqb q.parameter q.parameter refl)) ∙ sym (ap (λ (x : Key). eqb x.datasource q.datasource && eqb x.parameter q.parameter) k) ∙ other l h))
           by false u = refl
 
-  same_reply : (size : ℕ) (cs : List Cell) → cells_allowed cs ≡ true → replied q (some (edited size e cs).left) ≡ replied q (some cs)
+  same_reply : (size : ℕ) (cs : List Cell) → cells_allowed cs ≡ true → replied q (Some (edited size e cs).left) ≡ replied q (Some cs)
   unfolding replied query_allowed question_allowed query_answer answer of_parameter of_record
   same_reply size cs h = by_query q (λ o. reply o (edited size e cs).left ≡ reply o cs) refl (go (key_allowed (key_asked q)) refl) (rw in_parameter) (rw in_record)
     where
@@ -138,7 +138,7 @@ module _ (q : Question) (e : Change) (n : of_its_parameter (key_asked q) (key_na
           top_edited (λ l. (eqb l.datasource q.datasource && eqb l.parameter q.parameter) && eqb l.record_number q.«record») (λ c. c.key.entry_number) size e
           (λ l k. ap (λ (t : Bool). t && eqb l.record_number q.«record») (other l k)) cs h
 
-      go : (t : Bool) → key_allowed (key_asked q) ≡ t → reply (some (the_cell (key_asked q))) (edited size e cs).left ≡ reply (some (the_cell (key_asked q))) cs
+      go : (t : Bool) → key_allowed (key_asked q) ≡ t → reply (Some (the_cell (key_asked q))) (edited size e cs).left ≡ reply (Some (the_cell (key_asked q))) cs
       go true a = rw (edited_other size (key_asked q) e cs (not_asked a))
       go false a = rw a
 
@@ -151,8 +151,8 @@ other_once q e m n = by (edit_end e m) refl
     by Finished u = go (cells_held_by m) refl
       where
         go : (o : Option (List Cell)) → cells_held_by m ≡ o → ask_in (after_change e m) q ≡ ask_in m q
-        go none h = absurd (true≢false (sym (ap succeeded u) ∙ ap (λ r. succeeded r.end) (out_of_form_once e m h)))
-        go (some cs) h =
+        go None h = absurd (true≢false (sym (ap succeeded u) ∙ ap (λ r. succeeded r.end) (out_of_form_once e m h)))
+        go (Some cs) h =
             ap (replied q) (form_kept e m cs h).held
             ∙ same_reply q e (rw (ap succeeded u) at n) (length m.buffer) cs (held_some m.buffer m.length cs h).holds.valid.allowed
             ∙ ap (replied q) (sym h)

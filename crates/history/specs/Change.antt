@@ -1,6 +1,5 @@
 -- "Put adds or replaces the cell of a key, whichever kind it had. Remove takes it out.": an edit by the bytes handed in.
-use Rattle.std.specs.Prelude.{Bool, true, false, ◌&&◌, List, ℕ, eqb}
-use Rattle.std.proofs.Math.Option.{Option, none, some}
+use Rattle.std.specs.Prelude.{Bool, true, false, ◌&&◌, List, ℕ, eqb, Option, Some, None}
 use Rattle.meaning.specs.declared.end.Ended.{Ended}
 use Rattle.meaning.specs.declared.end.Ended.TheVariants.{Finished, Halted}
 use Rattle.cells.specs.Cell.{Key, Cell, key_as_number, whole_cell, whole_key}
@@ -37,8 +36,8 @@ accepted e m = succeeded (edit_end e m)
 
 -- the key that an edit names, none where the bytes are no cell or key
 unfoldable pub key_of_cell : Option Cell → Option Key
-key_of_cell none = none
-key_of_cell (some c) = some c.key
+key_of_cell None = None
+key_of_cell (Some c) = Some c.key
 
 unfoldable pub key_named : Change → Option Key
 key_named (put s) = key_of_cell (whole_cell s)
@@ -46,8 +45,8 @@ key_named (remove s) = whole_key s
 
 -- keys are compared as numbers
 unfoldable pub is_key : Key → Option Key → Bool
-is_key k none = false
-is_key k (some l) = eqb (key_as_number l) (key_as_number k)
+is_key k None = false
+is_key k (Some l) = eqb (key_as_number l) (key_as_number k)
 
 -- an accepted put or remove of key k
 unfoldable pub touches : Key → Change → LentStore → Bool
@@ -55,8 +54,8 @@ touches k e m = accepted e m && is_key k (key_named e)
 
 -- the key is one of the parameter in the datasource that k names
 unfoldable pub of_its_parameter : Key → Option Key → Bool
-of_its_parameter k none = false
-of_its_parameter k (some l) = eqb l.datasource k.datasource && eqb l.parameter k.parameter
+of_its_parameter k None = false
+of_its_parameter k (Some l) = eqb l.datasource k.datasource && eqb l.parameter k.parameter
 
 -- an accepted put or remove of a cell of that parameter
 unfoldable pub touches_parameter : Key → Change → LentStore → Bool

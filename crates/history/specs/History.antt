@@ -1,6 +1,5 @@
 -- "the whole list of edits, the empty list included"
-use Rattle.std.specs.Prelude.{Bool, true, not, ◌&&◌, List, [], ◌∷◌, ℕ, length, replicate}
-use Rattle.std.proofs.Math.Option.{Option, none, some}
+use Rattle.std.specs.Prelude.{Bool, true, not, ◌&&◌, List, [], ◌∷◌, ℕ, length, replicate, Option, Some, None}
 use Rattle.meaning.specs.declared.refusal.Refusal.TheVariants.{BadStore}
 use Rattle.meaning.specs.declared.end.Ended.{Ended}
 use Rattle.cells.specs.Asking.{refused_with}
@@ -39,9 +38,9 @@ ends_on size (e ∷ es) cs = (edited size e cs).end ∷ ends_on size es (edited 
 
 -- "The list starts from the store, of any bytes": out of form there are no cells, before or after, and every edit ends in 1
 unfoldable pub cells_held_after : ℕ → List Change → Option (List Cell) → Option (List Cell)
-cells_held_after size es none = none
-cells_held_after size es (some cs) = some (cells_after size es cs)
+cells_held_after size es None = None
+cells_held_after size es (Some cs) = Some (cells_after size es cs)
 
 unfoldable pub ends_after : ℕ → List Change → Option (List Cell) → List Ended
-ends_after size es none = replicate (length es) (refused_with BadStore)
-ends_after size es (some cs) = ends_on size es cs
+ends_after size es None = replicate (length es) (refused_with BadStore)
+ends_after size es (Some cs) = ends_on size es cs

@@ -1,4 +1,5 @@
 -- What the form of a parsed line says of its parts: a text fits, and whatever was read lies within its limits.
+use Rattle.std.specs.Prelude.{Option, Some, None}
 use mathlib.Core.Path.{◌≡◌, refl, subst}
 use mathlib.Core.Bool.{Bool, true, false, cond}
 use mathlib.Core.List.{List}
@@ -11,10 +12,8 @@ use Rattle.arguments.proofs.Parsed.{Between, IndexWithin, ArgumentWithin, small_
 use Rattle.texts.specs.Readers.Text.{text_fits}
 use Rattle.lines.specs.declared.command.Operation.{Operation}
 use Rattle.lines.specs.declared.command.Comparison.{Comparison}
-use Rattle.lines.specs.declared.command.Optional.{Optional}
-use Rattle.lines.specs.declared.command.Optional.TheVariants.{Given, Absent}
 use Rattle.lines.specs.declared.command.Line.{Line}
-use Rattle.lines.specs.declared.command.Line.TheVariants.{NoForm, Text, Section, Set, IfNot, If, Compare, Else, EndIf, BeginTable, EndTable, Records, Entries, Datasource, NoFormFeed, NewPage, Heading, NoHeading, Remark}
+use Rattle.lines.specs.declared.command.Line.TheVariants.{Text, Section, Set, IfNot, If, Compare, Else, EndIf, BeginTable, EndTable, Records, Entries, Datasource, NoFormFeed, NewPage, Heading, NoHeading, Remark}
 use Rattle.lines.specs.Readers.Set.{set_at}
 use Rattle.lines.specs.Readers.Compare.{compare_at}
 use Rattle.lines.specs.Readers.Command.{commands, parse_line}
@@ -24,7 +23,6 @@ pub use Rattle.lines.proofs.Makes.{TargetWithin, OptionalWithin, FetchWithin, He
 
 -- what the form of line l says of its parts: each is within the limits of document 01
 abbrev pub Bounded : List ℕ → Line → Type 0
-Bounded l NoForm = Unit {0}
 Bounded l Text = text_fits l 0 ≡ true
 Bounded l (Section a e) = Unit {0}
 Bounded l (Set o t a) = TargetWithin t × ArgumentWithin l a
@@ -44,21 +42,24 @@ Bounded l (Heading n at) = (text_fits l at ≡ true) × HeadingWithin l n at
 Bounded l (NoHeading n) = Between 1 9 n
 Bounded l Remark = Unit {0}
 
-record Fine (l : List ℕ) (f : Line) : Type 0 where
-  is : Bounded l f
+abbrev BoundedOr : List ℕ → Option Line → Type 0
+BoundedOr l (Some f) = Bounded l f
+BoundedOr l None = Unit {0}
 
-fine : {l : List ℕ} {f : Line} → Bounded l f → Fine l f
+record Fine (l : List ℕ) (f : Option Line) : Type 0 where
+  is : BoundedOr l f
+
+fine : {l : List ℕ} {f : Line} → Bounded l f → Fine l (Some f)
 fine h = record { is = h }
 
 small : (l : List ℕ) (a : Argument) → ArgumentWithin l a → Small a
 small l a h = small_parameter l a.operand h.operand
 
-small_optional : (l : List ℕ) (k : Optional) → OptionalWithin l k → SmallOptional k
-small_optional l (Given a) h = small l a h
-small_optional l Absent h = tt
+small_optional : (l : List ℕ) (k : Option Argument) → OptionalWithin l k → SmallOptional k
+small_optional l (Some a) h = small l a h
+small_optional l None h = tt
 
 sound : (l : List ℕ) (f : Line) → Bounded l f → Sound l f
-sound l NoForm h = tt
 sound l Text h = h
 sound l (Section a e) h = tt
 sound l (Set o t a) h = small l a h.1
@@ -79,8 +80,8 @@ sound l (NoHeading n) h = tt
 sound l Remark h = tt
 
 module _ (l : List ℕ) where
-  none : Fine l NoForm
-  none = fine tt
+  none : Fine l None
+  none = record { is = tt }
 
   set : (word : Operation) (at : ℕ) → Fine l (set_at word l at)
   set word = set_makes (Fine l) none word (λ t a k. fine k)
@@ -122,22 +123,22 @@ module _ (l : List ℕ) where
 
   parsed_fine : Fine l (parse_line l)
   unfolding parse_line
-  parsed_fine = picked (Fine l) (byte_is l 0 "$") (found_form (Fine l) NoForm commands l 1 none commands_fine) (go (text_fits l 0) refl)
+  parsed_fine = picked (Fine l) (byte_is l 0 "$") (found_form (Fine l) None commands l 1 none commands_fine) (go (text_fits l 0) refl)
     where
-      go : (b : Bool) → text_fits l 0 ≡ b → Fine l (cond b Text NoForm)
+      go : (b : Bool) → text_fits l 0 ≡ b → Fine l (cond b (Some Text) None)
       go true e = fine e
-      go false e = fine tt
+      go false e = none
 
   -- "With fields at width w a line, command word included, has at most 132 bytes"
-  pub text_accepted : parse_line l ≡ Text → text_fits l 0 ≡ true
+  pub text_accepted : parse_line l ≡ Some Text → text_fits l 0 ≡ true
   text_accepted e = (subst (Fine l) e parsed_fine).is
 
-  pub heading_accepted : (n at : ℕ) → parse_line l ≡ Heading n at → text_fits l at ≡ true
+  pub heading_accepted : (n at : ℕ) → parse_line l ≡ Some (Heading n at) → text_fits l at ≡ true
   heading_accepted n at e = (subst (Fine l) e parsed_fine).is.0
 
   -- Whatever was read of the line lies within its limits.
-  pub parsed_bounded : (f : Line) → parse_line l ≡ f → Bounded l f
+  pub parsed_bounded : (f : Line) → parse_line l ≡ Some f → Bounded l f
   parsed_bounded f e = (subst (Fine l) e parsed_fine).is
 
-  pub parsed_sound : (f : Line) → parse_line l ≡ f → Sound l f
+  pub parsed_sound : (f : Line) → parse_line l ≡ Some f → Sound l f
   parsed_sound f e = sound l f (parsed_bounded f e)

@@ -1,8 +1,8 @@
 pub mod EndLaws
 pub mod DispatchLaws
 pub mod SetLaws
-pub mod WordLetters
 pub mod KnownLaws
 pub mod Makes
 pub mod SectionLaws
 pub mod Accepted
+pub mod WordLetters

@@ -1,5 +1,6 @@
 -- Which lines are sections: of the lines that have a form, just those that begin with `$SEC `, and then the rest of the
 -- line is the name. Checks 5 and 6 find a section by these five bytes.
+use Rattle.std.specs.Prelude.{None, Option, Some}
 use mathlib.Core.Path.{◌≡◌, refl, sym, ap, ap₂, ◌∙◌, subst}
 use mathlib.Core.Bool.{Bool, true, false, cond, false≢true}
 use mathlib.Core.List.{List, [], ◌∷◌, ◌++◌}
@@ -20,7 +21,7 @@ use Rattle.texts.specs.Readers.Text.{text_fits}
 use Rattle.lines.specs.declared.command.Operation.{Operation}
 use Rattle.lines.specs.declared.command.Comparison.{Comparison}
 use Rattle.lines.specs.declared.command.Line.{Line}
-use Rattle.lines.specs.declared.command.Line.TheVariants.{NoForm, Text, Section, Set, IfNot, If, Compare, Else, EndIf, BeginTable, EndTable, Records, Entries, Datasource, NoFormFeed, NewPage, Heading, NoHeading, Remark}
+use Rattle.lines.specs.declared.command.Line.TheVariants.{Text, Section, Set, IfNot, If, Compare, Else, EndIf, BeginTable, EndTable, Records, Entries, Datasource, NoFormFeed, NewPage, Heading, NoHeading, Remark}
 use Rattle.lines.specs.Readers.Behind.{behind_space}
 use Rattle.lines.specs.Readers.Set.{set_at}
 use Rattle.lines.specs.Readers.Compare.{compare_at}
@@ -31,37 +32,37 @@ use Rattle.lines.proofs.Makes.{set_makes, datasource_makes, compare_makes, singl
 -- ---- the other forms
 
 -- a type for a line without a form, one for a section, and one for every other form
-abbrev pub form_case : Type 0 → Type 0 → Type 0 → Line → Type 0
-form_case N S R NoForm = N
-form_case N S R Text = R
-form_case N S R (Section a e) = S
-form_case N S R (Set o t a) = R
-form_case N S R (IfNot a) = R
-form_case N S R (If a) = R
-form_case N S R (Compare c a b) = R
-form_case N S R Else = R
-form_case N S R EndIf = R
-form_case N S R (BeginTable a) = R
-form_case N S R (EndTable k) = R
-form_case N S R (Records f) = R
-form_case N S R (Entries f) = R
-form_case N S R (Datasource i) = R
-form_case N S R NoFormFeed = R
-form_case N S R (NewPage n) = R
-form_case N S R (Heading n at) = R
-form_case N S R (NoHeading n) = R
-form_case N S R Remark = R
+abbrev pub form_case : Type 0 → Type 0 → Type 0 → Option Line → Type 0
+form_case N S R None = N
+form_case N S R (Some Text) = R
+form_case N S R (Some (Section a e)) = S
+form_case N S R (Some (Set o t a)) = R
+form_case N S R (Some (IfNot a)) = R
+form_case N S R (Some (If a)) = R
+form_case N S R (Some (Compare c a b)) = R
+form_case N S R (Some Else) = R
+form_case N S R (Some EndIf) = R
+form_case N S R (Some (BeginTable a)) = R
+form_case N S R (Some (EndTable k)) = R
+form_case N S R (Some (Records f)) = R
+form_case N S R (Some (Entries f)) = R
+form_case N S R (Some (Datasource i)) = R
+form_case N S R (Some NoFormFeed) = R
+form_case N S R (Some (NewPage n)) = R
+form_case N S R (Some (Heading n at)) = R
+form_case N S R (Some (NoHeading n)) = R
+form_case N S R (Some Remark) = R
 
-abbrev IsOther : Line → Type 0
+abbrev IsOther : Option Line → Type 0
 IsOther = form_case (Unit {0}) ⊥ (Unit {0})
 
-pub record Other (f : Line) : Type 0 where
-  pub no : (a e : ℕ) → f ≡ Section a e → ⊥
+pub record Other (f : Option Line) : Type 0 where
+  pub no : (a e : ℕ) → f ≡ Some (Section a e) → ⊥
 
-other : {f : Line} → IsOther f → Other f
+other : {f : Option Line} → IsOther f → Other f
 other o = record { no = λ a e q. subst IsOther q o }
 
-lacking : Other NoForm
+lacking : Other None
 lacking = other tt
 
 -- ---- the word
@@ -86,26 +87,26 @@ begins_all (c ∷ t) d w e = rw (eq-eqb 36 c (sym (eqb-true c 36 d))) (begins_sp
 -- ---- the line
 
 -- a choice that is a section is not the form that can't be one
-unpicked : (t : Bool) {f g : Line} (a e : ℕ) → Other f → cond t f g ≡ Section a e → (t ≡ false) × (g ≡ Section a e)
+unpicked : (t : Bool) {f g : Option Line} (a e : ℕ) → Other f → cond t f g ≡ Some (Section a e) → (t ≡ false) × (g ≡ Some (Section a e))
 unpicked true a e o q = absurd (o.no a e q)
 unpicked false a e o q = (refl, q)
 
 -- commands that are never a section
 infixr 5 ◌besides◌
-data Never : List (Spelled Line) → Type 0 where
+data Never : List (Spelled (Option Line)) → Type 0 where
   all : Never []
-  ◌besides◌ : {c : Spelled Line} {cs : List (Spelled Line)} → ((l : List ℕ) (at : ℕ) → Other (c.form l at)) → Never cs → Never (c ∷ cs)
+  ◌besides◌ : {c : Spelled (Option Line)} {cs : List (Spelled (Option Line))} → ((l : List ℕ) (at : ℕ) → Other (c.form l at)) → Never cs → Never (c ∷ cs)
 
 module _ (l : List ℕ) (a e : ℕ) where
-  passed : (cs ds : List (Spelled Line)) → Never cs → first_of NoForm (cs ++ ds) l 1 ≡ Section a e → first_of NoForm ds l 1 ≡ Section a e
+  passed : (cs ds : List (Spelled (Option Line))) → Never cs → first_of None (cs ++ ds) l 1 ≡ Some (Section a e) → first_of None ds l 1 ≡ Some (Section a e)
   unfolding first_of
   passed [] ds n q = q
   passed (c ∷ cs) ds (o besides n) q =
       passed cs ds n (unpicked (stands_at c.word l 1) a e (o l (1 + length c.word)) q).1
 
-  none : (cs : List (Spelled Line)) → Never cs → first_of NoForm cs l 1 ≡ Section a e → ⊥
+  none : (cs : List (Spelled (Option Line))) → Never cs → first_of None cs l 1 ≡ Some (Section a e) → ⊥
   unfolding first_of
-  none [] n q = (other {f = NoForm} tt).no a e q
+  none [] n q = (other {f = None} tt).no a e q
   none (c ∷ cs) (o besides n) q = none cs n (unpicked (stands_at c.word l 1) a e (o l (1 + length c.word)) q).1
 
 before_section : Never (take 24 commands)
@@ -149,24 +150,24 @@ behind_section =
     (λ l. heading_makes Other lacking l (λ n at e h. other tt) (λ n k. other tt)) besides remark_makes Other lacking (other tt) besides all
 
 -- where no space stands behind the word, no name does
-space_behind : (l : List ℕ) (at a e : ℕ) → section_at l at ≡ Section a e → byte_is l at " " ≡ true
+space_behind : (l : List ℕ) (at a e : ℕ) → section_at l at ≡ Some (Section a e) → byte_is l at " " ≡ true
 unfolding section_at behind_space name_at span
 space_behind l at a e = go (byte_is l at " ")
   where
-    go : (t : Bool) → name_at l (cond t (at + 1) (length l)) ≡ Section a e → t ≡ true
+    go : (t : Bool) → name_at l (cond t (at + 1) (length l)) ≡ Some (Section a e) → t ≡ true
     go true q = refl
-    go false q = absurd ((other {f = NoForm} tt).no a e (rw (window_end l 16 (length l) (omega arith)) at q))
+    go false q = absurd ((other {f = None} tt).no a e (rw (window_end l 16 (length l) (omega arith)) at q))
 
 -- A section begins with `$SEC `.
-pub section_begins : (l : List ℕ) (a e : ℕ) → parse_line l ≡ Section a e → begins (ascii "$SEC ") l ≡ true
+pub section_begins : (l : List ℕ) (a e : ℕ) → parse_line l ≡ Some (Section a e) → begins (ascii "$SEC ") l ≡ true
 unfolding parse_line first_of commands
 section_begins l a e = go (byte_is l 0 "$") refl
   where
-    word : (t : Bool) → stands_at (ascii "SEC") l 1 ≡ t → cond t (section_at l 4) (first_of NoForm (drop 25 commands) l 1) ≡ Section a e → byte_is l 0 "$" ≡ true → begins (ascii "$SEC ") l ≡ true
+    word : (t : Bool) → stands_at (ascii "SEC") l 1 ≡ t → cond t (section_at l 4) (first_of None (drop 25 commands) l 1) ≡ Some (Section a e) → byte_is l 0 "$" ≡ true → begins (ascii "$SEC ") l ≡ true
     word true w f d = begins_all l d w (space_behind l 4 a e f)
     word false w f d = absurd (none l a e (drop 25 commands) behind_section f)
 
-    go : (t : Bool) → byte_is l 0 "$" ≡ t → cond t (first_of NoForm commands l 1) (cond (text_fits l 0) Text NoForm) ≡ Section a e → begins (ascii "$SEC ") l ≡ true
+    go : (t : Bool) → byte_is l 0 "$" ≡ t → cond t (first_of None commands l 1) (cond (text_fits l 0) (Some Text) None) ≡ Some (Section a e) → begins (ascii "$SEC ") l ≡ true
     go true d f = word (stands_at (ascii "SEC") l 1) refl (passed l a e (take 24 commands) (drop 24 commands) before_section f) d
     go false d f = absurd ((picked Other (text_fits l 0) (other tt) (other tt)).no a e f)
 
@@ -190,17 +191,17 @@ above_zero : (n : ℕ) → eqb n 0 ≡ false → 0 < n
 above_zero zero e = absurd (false≢true (sym e))
 above_zero (suc n) e = omega arith
 
-name_whole : (l : List ℕ) → (name_at l 5 ≡ NoForm → ⊥) → name_at l 5 ≡ Section 5 (length l)
+name_whole : (l : List ℕ) → (name_at l 5 ≡ None → ⊥) → name_at l 5 ≡ Some (Section 5 (length l))
 unfolding name_at
 name_whole l f = go (eqb (name_length l 5) 0) refl (ltb (5 + name_length l 5) (length l)) refl f
   where
-    go : (t : Bool) → eqb (name_length l 5) 0 ≡ t → (u : Bool) → ltb (5 + name_length l 5) (length l) ≡ u → (cond t NoForm (cond u NoForm (Section 5 (5 + name_length l 5))) ≡ NoForm → ⊥) → cond t NoForm (cond u NoForm (Section 5 (5 + name_length l 5))) ≡ Section 5 (length l)
+    go : (t : Bool) → eqb (name_length l 5) 0 ≡ t → (u : Bool) → ltb (5 + name_length l 5) (length l) ≡ u → (cond t None (cond u None (Some (Section 5 (5 + name_length l 5)))) ≡ None → ⊥) → cond t None (cond u None (Some (Section 5 (5 + name_length l 5)))) ≡ Some (Section 5 (length l))
     go true p u q f = absurd (f refl)
     go false p true q f = absurd (f refl)
-    go false p false q f = ap (Section 5) (le_antisymm (run_within InName l 5 16 (above_zero _ p)) (ltb-false _ _ q))
+    go false p false q f = ap (λ (e : ℕ). Some (Section 5 e)) (le_antisymm (run_within InName l 5 16 (above_zero _ p)) (ltb-false _ _ q))
 
 -- A line that begins with `$SEC ` and has a form is a section, and all behind these five bytes is its name.
-pub begins_section : (l : List ℕ) → begins (ascii "$SEC ") l ≡ true → (parse_line l ≡ NoForm → ⊥) → parse_line l ≡ Section 5 (length l)
+pub begins_section : (l : List ℕ) → begins (ascii "$SEC ") l ≡ true → (parse_line l ≡ None → ⊥) → parse_line l ≡ Some (Section 5 (length l))
 begins_section l b f =
     let e : l ≡ ascii "$SEC " ++ drop 5 l = begins_says (ascii "$SEC ") l b in
     let p : parse_line l ≡ name_at l 5 = ap parse_line e ∙ named (drop 5 l) ∙ ap (λ (x : List ℕ). name_at x 5) (sym e) in

@@ -1,5 +1,5 @@
 -- Every form of a line, and lines at the limits, each shown by the definitions.
-use Rattle.std.specs.Prelude.{◌≡◌, refl, List, [], ◌∷◌, map, ℕ, pos, negsuc}
+use Rattle.std.specs.Prelude.{◌≡◌, refl, List, [], ◌∷◌, map, ℕ, pos, negsuc, Some, None, Option}
 use Prim.Native.String.{String}
 use Rattle.numbers.specs.declared.Quantity.TheVariants.{Integer, Decimal}
 use Rattle.scan.specs.Ascii.{ascii}
@@ -25,9 +25,8 @@ use Rattle.texts.specs.Readers.Text.{places_at, places_of, width_next, field_of,
 use Rattle.lines.specs.declared.command.Operation.TheVariants.{Assign, Add, Subtract, Multiply, Divide}
 use Rattle.lines.specs.declared.command.Target.TheVariants.{IntegerTarget, DecimalTarget, StringTarget}
 use Rattle.lines.specs.declared.command.Comparison.TheVariants.{SameString, SameLetters, Equal, NotEqual, Less, AtMost, Greater, AtLeast}
-use Rattle.lines.specs.declared.command.Optional.TheVariants.{Given, Absent}
 use Rattle.lines.specs.declared.command.Line.{Line}
-use Rattle.lines.specs.declared.command.Line.TheVariants.{NoForm, Text, Section, Set, IfNot, If, Compare, Else, EndIf, BeginTable, EndTable, Records, Entries, Datasource, NoFormFeed, NewPage, Heading, NoHeading, Remark}
+use Rattle.lines.specs.declared.command.Line.TheVariants.{Text, Section, Set, IfNot, If, Compare, Else, EndIf, BeginTable, EndTable, Records, Entries, Datasource, NoFormFeed, NewPage, Heading, NoHeading, Remark}
 use Rattle.lines.specs.Readers.Behind.{behind_space}
 use Rattle.lines.specs.Readers.Set.{string_target, target_of, set_at, datasource_at}
 use Rattle.lines.specs.Readers.Compare.{compare_at}
@@ -38,12 +37,16 @@ use Rattle.lines.specs.Readers.Command.{commands, parse_line}
 
 -- what a line is, and what is expected
 pub record Row : Type 0 where
-  pub computed : Line
-  pub expected : Line
+  pub computed : Option Line
+  pub expected : Option Line
 
 infix 70 ◌is◌
 abbrev ◌is◌ : String → Line → Row
-l is e = record { computed = parse_line (ascii l); expected = e }
+l is e = record { computed = parse_line (ascii l); expected = Some e }
+
+-- what has no form
+abbrev formless : String → Row
+formless l = record { computed = parse_line (ascii l); expected = None }
 
 abbrev plain : Operand → Argument
 plain o = record { operand = o; filter = Unfiltered }
@@ -80,14 +83,14 @@ rows =
     ∷ "$ELSE" is Else
     ∷ "$ENDIF" is EndIf
     ∷ "$BT 5" is BeginTable (int 5)
-    ∷ "$ET" is EndTable Absent
-    ∷ "$ET 2" is EndTable (Given (int 2))
+    ∷ "$ET" is EndTable None
+    ∷ "$ET 2" is EndTable (Some (int 2))
     ∷ "$REC 10 P65535 0 IV1 064" is Records (record { number = 10; parameter = 65535; «record» = Fixed 0; entry = Variable 1; count = Fixed 64 })
     ∷ "$TBL 1 P1 LOOP 999 1" is Entries (record { number = 1; parameter = 1; «record» = Loop; entry = Fixed 999; count = Fixed 1 })
     ∷ "$SETDS 35" is Datasource (Fixed 35)
     ∷ "$NOFF" is NoFormFeed
-    ∷ "$NP" is NewPage Absent
-    ∷ "$NP 3" is NewPage (Given (int 3))
+    ∷ "$NP" is NewPage None
+    ∷ "$NP 3" is NewPage (Some (int 3))
     ∷ "$PH page {PAGENUM,3}" is Heading 1 4
     ∷ "$PH9 x" is Heading 9 5
     ∷ "$REM" is Remark
@@ -99,52 +102,52 @@ rows =
     ∷ "$PH2  " is Heading 2 5
     -- "1–16 of A–Z, 0–9"
     ∷ "$SEC ABCDEFGHIJKLM012" is Section 5 21
-    ∷ "$SEC ABCDEFGHIJKLM0123" is NoForm
-    ∷ "$SEC " is NoForm
-    ∷ "$SEC a" is NoForm
+    ∷ formless "$SEC ABCDEFGHIJKLM0123"
+    ∷ formless "$SEC "
+    ∷ formless "$SEC a"
     -- "at most 132 bytes" with fields at their widths, and one more
     ∷ "{1,32}{1,32}{1,32}{1,32}abcd" is Text
-    ∷ "{1,32}{1,32}{1,32}{1,32}abcde" is NoForm
+    ∷ formless "{1,32}{1,32}{1,32}{1,32}abcde"
     ∷ "$PH1 {1,32}{1,32}{1,32}{1,31}" is Heading 1 5
-    ∷ "$PH1 {1,32}{1,32}{1,32}{1,32}" is NoForm
+    ∷ formless "$PH1 {1,32}{1,32}{1,32}{1,32}"
     -- "other braces in text and headings .. are refused"
-    ∷ "{1,33}" is NoForm
-    ∷ "a}" is NoForm
-    ∷ "$PH {" is NoForm
+    ∷ formless "{1,33}"
+    ∷ formless "a}"
+    ∷ formless "$PH {"
     -- "word, then arguments, one space before each", and nothing behind the last
-    ∷ "$SETE  IV1 5" is NoForm
-    ∷ "$SETE IV1 5 " is NoForm
-    ∷ "$SETE IV1" is NoForm
-    ∷ "$ET " is NoForm
-    ∷ "$ELSE x" is NoForm
-    ∷ "$REMark" is NoForm
-    ∷ "$" is NoForm
+    ∷ formless "$SETE  IV1 5"
+    ∷ formless "$SETE IV1 5 "
+    ∷ formless "$SETE IV1"
+    ∷ formless "$ET "
+    ∷ formless "$ELSE x"
+    ∷ formless "$REMark"
+    ∷ formless "$"
     ∷ " $ELSE" is Text
     -- numbers and strings out of their limits, and leading zeros
-    ∷ "$SETE IV0 1" is NoForm
-    ∷ "$SETE IV01 1" is NoForm
-    ∷ "$SETE FV100 1" is NoForm
-    ∷ "$IF R11" is NoForm
-    ∷ "$IF P65536" is NoForm
-    ∷ "$IF P1.1000" is NoForm
-    ∷ "$IF 2000000001" is NoForm
-    ∷ "$REC 11 P1 0 0 1" is NoForm
-    ∷ "$SETDS 1234" is NoForm
-    ∷ "$IF 00000000001" is NoForm
-    ∷ "$IF 0.1234567" is NoForm
-    ∷ "$IF 1." is NoForm
-    ∷ "$IF \"12345678901234567\"" is NoForm
-    ∷ "$PH0" is NoForm
-    ∷ "$PH10" is NoForm
+    ∷ formless "$SETE IV0 1"
+    ∷ formless "$SETE IV01 1"
+    ∷ formless "$SETE FV100 1"
+    ∷ formless "$IF R11"
+    ∷ formless "$IF P65536"
+    ∷ formless "$IF P1.1000"
+    ∷ formless "$IF 2000000001"
+    ∷ formless "$REC 11 P1 0 0 1"
+    ∷ formless "$SETDS 1234"
+    ∷ formless "$IF 00000000001"
+    ∷ formless "$IF 0.1234567"
+    ∷ formless "$IF 1."
+    ∷ formless "$IF \"12345678901234567\""
+    ∷ formless "$PH0"
+    ∷ formless "$PH10"
     -- "SV takes a string; after another word than $SETE it is 3"
-    ∷ "$SETA SV1 \"a\"" is NoForm
+    ∷ formless "$SETA SV1 \"a\""
     -- what takes no filter, and counts elsewhere
-    ∷ "$SETE IV1|ABS 1" is NoForm
-    ∷ "$REC 1 P1|ABS 0 0 1" is NoForm
-    ∷ "$SETDS IV1|ABS" is NoForm
-    ∷ "$IF P1.0|RECCNT" is NoForm
-    ∷ "$IF P1|ENTCNT" is NoForm
-    ∷ "$IF P1.1.1|ENTCNT" is NoForm
+    ∷ formless "$SETE IV1|ABS 1"
+    ∷ formless "$REC 1 P1|ABS 0 0 1"
+    ∷ formless "$SETDS IV1|ABS"
+    ∷ formless "$IF P1.0|RECCNT"
+    ∷ formless "$IF P1|ENTCNT"
+    ∷ formless "$IF P1.1.1|ENTCNT"
     ∷ []
 
 pub rows_hold : map (λ (r : Row). r.computed) rows ≡ map (λ (r : Row). r.expected) rows

@@ -1,16 +1,15 @@
 // What a line is, and which command stands in it.
-ghost use Rattle.std.specs.Prelude.{◌≡◌};
+ghost use Rattle.std.specs.Prelude.{◌≡◌, None};
 ghost use Rattle.scan.specs.Words.{first_of};
-ghost use Rattle.lines.specs.declared.command.Line.TheVariants.{NoForm};
 ghost use Rattle.lines.specs.Readers.Command.{commands, parse_line};
-ghost use Rattle.lines.specs.Inner.Dispatch.{other_at, command_at};
+ghost use Rattle.lines.specs.Inner.Dispatch.{command_at};
 ghost use Rattle.lines.specs.Inner.Known.{form_of};
 
+use crate::word::Word;
 use crate::{compare, fetch, set, simple, title, word};
 use arguments::argument::Argument;
 use arguments::index::Index;
 use scan::bytes;
-use scan::words::WordRead;
 
 // $SETE, $SETA, $SETS, $SETM, $SETD
 #[derive(Clone, Copy)]
@@ -43,12 +42,6 @@ pub enum Comparison {
     AtLeast,
 }
 
-#[derive(Clone, Copy)]
-pub enum Optional {
-    Given(Argument),
-    Absent,
-}
-
 // "$REC n Pm record entry count"
 #[derive(Clone, Copy)]
 pub struct Fetch {
@@ -61,8 +54,6 @@ pub struct Fetch {
 
 #[derive(Clone, Copy)]
 pub enum Line {
-    // the line has no form: 3
-    NoForm,
     Text,
     // $SEC: the name's first byte in the line, and the place behind its last
     Section(usize, usize),
@@ -75,7 +66,7 @@ pub enum Line {
     EndIf,
     // $BT, $ET
     BeginTable(Argument),
-    EndTable(Optional),
+    EndTable(Option<Argument>),
     // $REC, $TBL
     Records(Fetch),
     Entries(Fetch),
@@ -83,86 +74,62 @@ pub enum Line {
     Datasource(Index),
     // $NOFF, $NP
     NoFormFeed,
-    NewPage(Optional),
+    NewPage(Option<Argument>),
     // $PHn: its number, and where its text starts in the line
     Heading(usize, usize),
     NoHeading(usize),
     Remark,
 }
 
-// The words 20 to 26 of the table.
-fn other_at(line: &[u8], at: usize, k: usize) -> Line
-    ensures { result ≡ other_at line.now at k }
+// The command of a word, which ends at a place of the line.
+#[tactic(auto, unfolding(crate::specs::Inner::Dispatch::command_at))]
+fn command_at(line: &[u8], at: usize, word: Word) -> Option<Line>
+    ensures { result ≡ command_at word line.now at }
 {
-    if k < 22 {
-        return simple::optional_at(line, at, k);
+    match word {
+        Word::Datasource => set::datasource_at(line, at),
+        Word::Set(operation) => set::set_at(line, at, operation),
+        Word::Compare(comparison) => compare::compare_at(line, at, comparison),
+        Word::Single(single) => simple::single_at(line, at, single),
+        Word::Bare(bare) => simple::bare_at(line, at, bare),
+        Word::Optional(optional) => simple::optional_at(line, at, optional),
+        Word::Fetched(fetched) => fetch::fetch_at(line, at, fetched),
+        Word::Section => title::section_at(line, at),
+        Word::Heading => title::heading_at(line, at),
+        Word::Remark => title::remark_at(line, at),
     }
-    if k < 24 {
-        return fetch::fetch_at(line, at, k);
-    }
-    if k == 24 {
-        return title::section_at(line, at);
-    }
-    if k == 25 {
-        return title::heading_at(line, at);
-    }
-    title::remark_at(line, at)
-}
-
-// The command of the table's word k, which ends at a place of the line.
-fn command_at(line: &[u8], at: usize, k: usize) -> Line
-    ensures { result ≡ command_at line.now at k }
-{
-    if k == 0 {
-        return set::datasource_at(line, at);
-    }
-    if k < 6 {
-        return set::set_at(line, at, k);
-    }
-    if k < 14 {
-        return compare::compare_at(line, at, k);
-    }
-    if k < 17 {
-        return simple::single_at(line, at, k);
-    }
-    if k < 20 {
-        return simple::bare_at(line, at, k);
-    }
-    other_at(line, at, k)
 }
 
 // The command whose word stands behind the `$`.
-fn command_in(line: &[u8]) -> Line
-    ensures { result ≡ first_of NoForm commands line.now 1 }
+#[tactic(auto, using(crate::proofs::DispatchLaws::command_by_kind))]
+fn command_in(line: &[u8]) -> Option<Line>
+    ensures { result ≡ first_of None commands line.now 1 }
 {
-    let WordRead::Word(k, at) = word::command_word(line) else {
-        return Line::NoForm;
-    };
-    command_at(line, at, k)
+    let (word, at) = word::command_word(line)?;
+    command_at(line, at, word)
 }
 
-// A line's command with its arguments, a text, or that it has no form.
-pub fn parse_line(line: &[u8]) -> Line
+// A line's command with its arguments, or a text; none where the line has no form: 3.
+#[tactic(auto, unfolding(crate::specs::Readers::Command::parse_line))]
+pub fn parse_line(line: &[u8]) -> Option<Line>
     ensures { result ≡ parse_line line.now }
 {
     if bytes::byte(line, 0) == b'$' {
         return command_in(line);
     }
-    if texts::text::text_fits(line, 0) {
-        return Line::Text;
-    }
-    Line::NoForm
+    texts::text::text_fits(line, 0).then_some(Line::Text)
 }
 
 // The form of a line that has one, which check 3 has judged: no text is walked for its width again. Only $PH begins with P.
-pub fn form_of(line: &[u8]) -> Line
+#[tactic(auto, unfolding(crate::specs::Inner::Known::form_of))]
+pub fn form_of(line: &[u8]) -> Option<Line>
     ensures { result ≡ form_of line.now }
 {
     if bytes::byte(line, 0) != b'$' {
-        return Line::Text;
+        return Some(Line::Text);
     }
     if bytes::byte(line, 1) == b'P' {
-        return title::known_heading(line, 3);
+        return Some(title::known_heading(line, 3));
     }
     command_in(line)
 }

@@ -1,72 +1,69 @@
-// Commands of one argument, of none, and of one that may be absent: the words 14 to 21 of the table.
+// Commands of one argument, of none, and of one that may be absent.
 ghost use Rattle.std.specs.Prelude.{◌≡◌};
 ghost use Rattle.lines.specs.Inner.Dispatch.{single_of, bare_of, optional_of};
 ghost use Rattle.lines.specs.Readers.Simple.{single_at, bare_at, optional_at};
 
 use crate::behind;
-use crate::command::{Line, Optional};
+use crate::command::Line;
+use crate::word::{Bare, Optional, Single};
 use arguments::argument;
-use arguments::argument::ArgumentRead;
+use arguments::argument::Argument;
 
 // $IFNOT, $IF, $BT
-pub fn single_at(line: &[u8], at: usize, k: usize) -> Line
-    ensures { result ≡ single_at (single_of k) line.now at }
+#[tactic(auto, unfolding(crate::specs::Inner::Dispatch::single_of, crate::specs::Readers::Simple::single_at))]
+pub fn single_at(line: &[u8], at: usize, single: Single) -> Option<Line>
+    ensures { result ≡ single_at (single_of single) line.now at }
 {
     let start = behind::behind_space(line, at);
-    let ArgumentRead::ArgumentTo(argument, end) = argument::argument_at(line, start) else {
-        return Line::NoForm;
-    };
+    let (argument, end) = argument::argument_at(line, start)?;
     if end < line.len() {
-        return Line::NoForm;
+        return None;
     }
-    if k == 14 {
-        return Line::IfNot(argument);
-    }
-    if k == 15 {
-        return Line::If(argument);
-    }
-    Line::BeginTable(argument)
+    Some(match single {
+        Single::IfNot => Line::IfNot(argument),
+        Single::If => Line::If(argument),
+        Single::BeginTable => Line::BeginTable(argument),
+    })
 }
 
 // $ELSE, $ENDIF, $NOFF
-pub fn bare_at(line: &[u8], at: usize, k: usize) -> Line
-    ensures { result ≡ bare_at (bare_of k) line.now at }
+#[tactic(auto, unfolding(crate::specs::Inner::Dispatch::bare_of, crate::specs::Readers::Simple::bare_at))]
+pub fn bare_at(line: &[u8], at: usize, bare: Bare) -> Option<Line>
+    ensures { result ≡ bare_at (bare_of bare) line.now at }
 {
     if at < line.len() {
-        return Line::NoForm;
+        return None;
     }
-    if k == 17 {
-        return Line::Else;
-    }
-    if k == 18 {
-        return Line::EndIf;
-    }
-    Line::NoFormFeed
+    Some(match bare {
+        Bare::Else => Line::Else,
+        Bare::EndIf => Line::EndIf,
+        Bare::NoFormFeed => Line::NoFormFeed,
+    })
 }
 
 // $ET, $NP
-fn optional_of(k: usize, argument: Optional) -> Line
-    ensures { result ≡ optional_of k argument }
+#[tactic(auto, unfolding(crate::specs::Inner::Dispatch::optional_of))]
+fn optional_of(optional: Optional, argument: Option<Argument>) -> Line
+    ensures { result ≡ optional_of optional argument }
 {
-    if k == 20 {
-        return Line::EndTable(argument);
+    match optional {
+        Optional::EndTable => Line::EndTable(argument),
+        Optional::NewPage => Line::NewPage(argument),
     }
-    Line::NewPage(argument)
 }
 
 // "[k]": an argument, or the end of the line.
-pub fn optional_at(line: &[u8], at: usize, k: usize) -> Line
-    ensures { result ≡ optional_at (optional_of k) line.now at }
+#[tactic(auto, unfolding(crate::specs::Readers::Simple::optional_at))]
+pub fn optional_at(line: &[u8], at: usize, optional: Optional) -> Option<Line>
+    ensures { result ≡ optional_at (optional_of optional) line.now at }
 {
     if line.len() <= at {
-        return optional_of(k, Optional::Absent);
+        return Some(optional_of(optional, None));
     }
     let start = behind::behind_space(line, at);
-    let ArgumentRead::ArgumentTo(argument, end) = argument::argument_at(line, start) else {
-        return Line::NoForm;
-    };
+    let (argument, end) = argument::argument_at(line, start)?;
     if end < line.len() {
-        return Line::NoForm;
+        return None;
     }
-    optional_of(k, Optional::Given(argument))
+    Some(optional_of(optional, Some(argument)))
 }

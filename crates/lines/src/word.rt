@@ -1,95 +1,151 @@
 // Which command's word stands behind the `$`: letters of the line tell which words can, and these are compared with it.
 ghost use Rattle.std.specs.Prelude.{◌≡◌};
 ghost use Rattle.scan.specs.Line.{byte_at};
+ghost use Rattle.scan.specs.Inner.Tables.{word_else};
 ghost use Rattle.lines.specs.Inner.Dispatch.{command_word};
 
-use scan::words::WordRead;
+use crate::command::{Comparison, Operation};
 use scan::{bytes, words};
 
-// Any of the words. Apart from its callers, since the table is built with each call.
-fn any_word(line: &[u8]) -> WordRead
-    ensures { result ≡ command_word line.now }
+// $IFNOT, $IF, $BT
+#[derive(Clone, Copy)]
+pub enum Single {
+    IfNot,
+    If,
+    BeginTable,
+}
+
+// $ELSE, $ENDIF, $NOFF
+#[derive(Clone, Copy)]
+pub enum Bare {
+    Else,
+    EndIf,
+    NoFormFeed,
+}
+
+// $ET, $NP
+#[derive(Clone, Copy)]
+pub enum Optional {
+    EndTable,
+    NewPage,
+}
+
+// $REC, $TBL
+#[derive(Clone, Copy)]
+pub enum Fetched {
+    Records,
+    Entries,
+}
+
+// What the words of commands begin.
+#[derive(Clone, Copy)]
+pub enum Word {
+    // $SETDS
+    Datasource,
+    Set(Operation),
+    Compare(Comparison),
+    Single(Single),
+    Bare(Bare),
+    Optional(Optional),
+    Fetched(Fetched),
+    // $SEC, $PH, $REM
+    Section,
+    Heading,
+    Remark,
+}
+
+// The word where it stands behind the `$`, else what another search gave.
+fn word_or(
+    line: &[u8],
+    word: &[u8],
+    begins: Word,
+    other: Option<(Word, usize)>,
+) -> Option<(Word, usize)>
+    ensures { result ≡ word_else word.now line.now 1 begins other }
 {
-    let table =
-        b"SETDS   SETE    SETA    SETS    SETM    SETD    IFEQSS  IFEQSI  IFEQ    IFNE    IFLT    IFLE    IFGT    IFGE    IFNOT   IF      BT      ELSE    ENDIF   NOFF    ET      NP      REC     TBL     SEC     PH      REM     ";
-    words::word_at(line, 1, table)
+    words::word_or(line, 1, word, begins, other)
 }
 
 // The words that begin with S.
-fn set_word(line: &[u8]) -> WordRead
+fn set_word(line: &[u8]) -> Option<(Word, usize)>
     requires { byte_at line.now 1 ≡ 83 }
     ensures { result ≡ command_word line.now }
 {
-    let section = words::word_or(line, 1, b"SEC", 24, WordRead::NoWord);
-    let fourth = bytes::byte(line, 4);
-    match fourth {
-        b'A' => words::word_or(line, 1, b"SETA", 2, section),
+    let section = word_or(line, b"SEC", Word::Section, None);
+    match bytes::byte(line, 4) {
+        b'A' => word_or(line, b"SETA", Word::Set(Operation::Add), section),
         b'D' => {
-            let divide = words::word_or(line, 1, b"SETD", 5, section);
-            words::word_or(line, 1, b"SETDS", 0, divide)
+            let divide = word_or(line, b"SETD", Word::Set(Operation::Divide), section);
+            word_or(line, b"SETDS", Word::Datasource, divide)
         }
-        b'E' => words::word_or(line, 1, b"SETE", 1, section),
-        b'M' => words::word_or(line, 1, b"SETM", 4, section),
-        b'S' => words::word_or(line, 1, b"SETS", 3, section),
-        b' ' => section,
-        _ => any_word(line),
+        b'E' => word_or(line, b"SETE", Word::Set(Operation::Assign), section),
+        b'M' => word_or(line, b"SETM", Word::Set(Operation::Multiply), section),
+        b'S' => word_or(line, b"SETS", Word::Set(Operation::Subtract), section),
+        _ => section,
     }
 }
 
 // The words that begin with I.
-fn test_word(line: &[u8]) -> WordRead
+fn test_word(line: &[u8]) -> Option<(Word, usize)>
     requires { byte_at line.now 1 ≡ 73 }
     ensures { result ≡ command_word line.now }
 {
-    let shortest = words::word_or(line, 1, b"IF", 15, WordRead::NoWord);
-    let third = bytes::byte(line, 3);
-    match third {
+    let shortest = word_or(line, b"IF", Word::Single(Single::If), None);
+    match bytes::byte(line, 3) {
         b'E' => {
-            let equal = words::word_or(line, 1, b"IFEQ", 8, shortest);
-            let letters = words::word_or(line, 1, b"IFEQSI", 7, equal);
-            words::word_or(line, 1, b"IFEQSS", 6, letters)
+            let equal = word_or(line, b"IFEQ", Word::Compare(Comparison::Equal), shortest);
+            let letters = word_or(
+                line,
+                b"IFEQSI",
+                Word::Compare(Comparison::SameLetters),
+                equal,
+            );
+            word_or(
+                line,
+                b"IFEQSS",
+                Word::Compare(Comparison::SameString),
+                letters,
+            )
         }
         b'G' => {
-            let least = words::word_or(line, 1, b"IFGE", 13, shortest);
-            words::word_or(line, 1, b"IFGT", 12, least)
+            let least = word_or(line, b"IFGE", Word::Compare(Comparison::AtLeast), shortest);
+            word_or(line, b"IFGT", Word::Compare(Comparison::Greater), least)
         }
         b'L' => {
-            let most = words::word_or(line, 1, b"IFLE", 11, shortest);
-            words::word_or(line, 1, b"IFLT", 10, most)
+            let most = word_or(line, b"IFLE", Word::Compare(Comparison::AtMost), shortest);
+            word_or(line, b"IFLT", Word::Compare(Comparison::Less), most)
         }
         b'N' => {
-            let zero = words::word_or(line, 1, b"IFNOT", 14, shortest);
-            words::word_or(line, 1, b"IFNE", 9, zero)
+            let zero = word_or(line, b"IFNOT", Word::Single(Single::IfNot), shortest);
+            word_or(line, b"IFNE", Word::Compare(Comparison::NotEqual), zero)
         }
-        b' ' => shortest,
-        _ => any_word(line),
+        _ => shortest,
     }
 }
 
-// The first word of the table of commands that stands behind the `$`.
-pub fn command_word(line: &[u8]) -> WordRead
+// The first word of a command that stands behind the `$`.
+pub fn command_word(line: &[u8]) -> Option<(Word, usize)>
     ensures { result ≡ command_word line.now }
 {
-    let first = bytes::byte(line, 1);
-    match first {
+    match bytes::byte(line, 1) {
         b'S' => set_word(line),
         b'I' => test_word(line),
-        b'B' => words::word_or(line, 1, b"BT", 16, WordRead::NoWord),
+        b'B' => word_or(line, b"BT", Word::Single(Single::BeginTable), None),
         b'E' => {
-            let table = words::word_or(line, 1, b"ET", 20, WordRead::NoWord);
-            let end = words::word_or(line, 1, b"ENDIF", 18, table);
-            words::word_or(line, 1, b"ELSE", 17, end)
+            let table = word_or(line, b"ET", Word::Optional(Optional::EndTable), None);
+            let end = word_or(line, b"ENDIF", Word::Bare(Bare::EndIf), table);
+            word_or(line, b"ELSE", Word::Bare(Bare::Else), end)
         }
         b'N' => {
-            let page = words::word_or(line, 1, b"NP", 21, WordRead::NoWord);
-            words::word_or(line, 1, b"NOFF", 19, page)
+            let page = word_or(line, b"NP", Word::Optional(Optional::NewPage), None);
+            word_or(line, b"NOFF", Word::Bare(Bare::NoFormFeed), page)
         }
-        b'P' => words::word_or(line, 1, b"PH", 25, WordRead::NoWord),
+        b'P' => word_or(line, b"PH", Word::Heading, None),
         b'R' => {
-            let remark = words::word_or(line, 1, b"REM", 26, WordRead::NoWord);
-            words::word_or(line, 1, b"REC", 22, remark)
+            let remark = word_or(line, b"REM", Word::Remark, None);
+            word_or(line, b"REC", Word::Fetched(Fetched::Records), remark)
         }
-        b'T' => words::word_or(line, 1, b"TBL", 23, WordRead::NoWord),
-        _ => any_word(line),
+        b'T' => word_or(line, b"TBL", Word::Fetched(Fetched::Entries), None),
+        _ => None,
     }
 }

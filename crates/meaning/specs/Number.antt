@@ -1,12 +1,15 @@
 -- "Numbers a run can end with", and the line that it names.
-use Rattle.std.specs.Prelude.{ℕ}
+use Rattle.std.specs.Prelude.{ℕ, Result, Ok, Err}
 use Rattle.meaning.specs.Tree.{Cause, refused, cut, End, finished, halted}
+use Rattle.numbers.specs.declared.ArithmeticError.{ArithmeticError}
+use Rattle.numbers.specs.declared.ArithmeticError.TheVariants as arithmetic
 use Rattle.meaning.specs.declared.refusal.Refusal.{Refusal}
 use Rattle.meaning.specs.declared.refusal.Refusal.TheVariants.{BadStore, BadTemplate, BadLine, BadNesting, RepeatedSection, NoSection, TooManyLines, BadIndex, MissingArgument, WrongKind, ZeroDivisor, OutOfRange, BadRequest, StoreFull, NoCell}
 use Rattle.meaning.specs.declared.refusal.Overflow.{Overflow}
 use Rattle.meaning.specs.declared.refusal.Overflow.TheVariants.{ReadList, Output}
 use Rattle.meaning.specs.declared.end.Halt.{Halt}
 use Rattle.meaning.specs.declared.end.Halt.TheVariants.{Refused, Cut}
+use Rattle.meaning.specs.declared.end.Stop.{Stop}
 use Rattle.meaning.specs.declared.end.Ended.{Ended}
 use Rattle.meaning.specs.declared.end.Ended.TheVariants.{Finished, Halted}
 
@@ -27,6 +30,11 @@ refusal_number OutOfRange = 13
 refusal_number BadRequest = 15
 refusal_number StoreFull = 16
 refusal_number NoCell = 17
+
+-- "The divisor is zero", "A result is out of range": why a calculation has no result, as why a line is refused
+abbrev pub refusal_of : ArithmeticError → Refusal
+refusal_of arithmetic.ZeroDivisor = ZeroDivisor
+refusal_of arithmetic.OutOfRange = OutOfRange
 
 abbrev pub overflow_number : Overflow → ℕ
 overflow_number ReadList = 9
@@ -55,3 +63,11 @@ cause_of (Cut o) = cut o
 abbrev pub end_of : {A : Type 0} → A → Ended → End Refusal ℕ A
 end_of a Finished = finished a
 end_of a (Halted h l) = halted (cause_of h) l
+
+-- The same of a call that answers with what it yields, seen as f sees it, or with where the run stops.
+abbrev pub ended_in : {A B : Type 0} → (A → B) → Result A Stop → End Refusal ℕ B
+ended_in f (Ok a) = finished (f a)
+ended_in f (Err s) = halted (cause_of s.halt) s.line
+
+abbrev pub stopped : Halt → ℕ → Stop
+stopped h l = record { halt = h; line = l }

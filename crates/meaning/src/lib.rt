@@ -2,11 +2,11 @@
 //
 // question::Question            a question, as it is asked and listed
 // refusal::Refusal, Overflow    what a run can be refused for, or cut off at; number() gives document 01's number
-// end::Halt, Ended              how a call that asks or prints ended; number() and line() as document 01 gives them
-// count::Counts                 how far the lent buffers are filled
+// end::Stop, Halt               where a run stops early, and why; a call of a run ends with a Result<_, Stop>
+// end::Ended                    how ask, put and remove ended
+// end::number, line             of a run's end, as document 01 gives them; Ended has its own
 #![tactic(auto)]
 
-pub mod count; // count.rt: how far the lent buffers are filled
-pub mod end; // end.rt: how a call that asks or prints ended
+pub mod end; // end.rt: how a call ended
 pub mod question; // question.rt: questions
 pub mod refusal; // refusal.rt: refusals and full buffers, with their numbers

@@ -1,7 +1,6 @@
 -- "Nesting is crossed, unmatched, repeated ($ELSE), too deep, or open at the next $SEC or the last line, which is named;
 -- or a line other than $REM has no $SEC before it."
-use Rattle.std.specs.Prelude.{Bool, true, false, cond, List, [], ◌∷◌, ℕ, suc, ltb}
-use Rattle.std.proofs.Math.Option.{Option, none, some}
+use Rattle.std.specs.Prelude.{Bool, true, false, cond, List, [], ◌∷◌, ℕ, suc, ltb, Option, Some, None}
 use Rattle.nesting.specs.declared.Shape.{Shape}
 use Rattle.nesting.specs.declared.Shape.TheVariants.{Section, Remark, Test, Else, EndTest, Table, EndTable, Plain, NoForm}
 
@@ -30,53 +29,53 @@ tables_open (table ∷ s) = suc (tables_open s)
 
 -- $SEC: "open at the next $SEC"
 unfoldable pub section_begun : List Mark → Option (List Mark)
-section_begun [] = some (section ∷ [])
-section_begun (section ∷ s) = some (section ∷ [])
-section_begun (test ∷ s) = none
-section_begun (else_part ∷ s) = none
-section_begun (table ∷ s) = none
+section_begun [] = Some (section ∷ [])
+section_begun (section ∷ s) = Some (section ∷ [])
+section_begun (test ∷ s) = None
+section_begun (else_part ∷ s) = None
+section_begun (table ∷ s) = None
 
 -- $ELSE: "repeated" in a test's $ELSE part, "crossed" in a table, else "unmatched"
 unfoldable pub test_turned : List Mark → Option (List Mark)
-test_turned [] = none
-test_turned (section ∷ s) = none
-test_turned (test ∷ s) = some (else_part ∷ s)
-test_turned (else_part ∷ s) = none
-test_turned (table ∷ s) = none
+test_turned [] = None
+test_turned (section ∷ s) = None
+test_turned (test ∷ s) = Some (else_part ∷ s)
+test_turned (else_part ∷ s) = None
+test_turned (table ∷ s) = None
 
 -- $ENDIF: "crossed" in a table, "unmatched"
 unfoldable pub test_ended : List Mark → Option (List Mark)
-test_ended [] = none
-test_ended (section ∷ s) = none
-test_ended (test ∷ s) = some s
-test_ended (else_part ∷ s) = some s
-test_ended (table ∷ s) = none
+test_ended [] = None
+test_ended (section ∷ s) = None
+test_ended (test ∷ s) = Some s
+test_ended (else_part ∷ s) = Some s
+test_ended (table ∷ s) = None
 
 -- $ET: "crossed" in a test, "unmatched"
 unfoldable pub table_ended : List Mark → Option (List Mark)
-table_ended [] = none
-table_ended (section ∷ s) = none
-table_ended (test ∷ s) = none
-table_ended (else_part ∷ s) = none
-table_ended (table ∷ s) = some s
+table_ended [] = None
+table_ended (section ∷ s) = None
+table_ended (test ∷ s) = None
+table_ended (else_part ∷ s) = None
+table_ended (table ∷ s) = Some s
 
 -- "a line other than $REM has no $SEC before it"
 unfoldable pub in_section : List Mark → Option (List Mark) → Option (List Mark)
-in_section [] o = none
+in_section [] o = None
 in_section (m ∷ s) o = o
 
 -- what is open behind a line, the innermost first, or none where the line is at fault
 unfoldable pub behind : Shape → List Mark → Option (List Mark)
 behind Section s = section_begun s
-behind Remark s = some s
-behind Test s = in_section s (cond (ltb (tests_open s) 10) (some (test ∷ s)) none)
+behind Remark s = Some s
+behind Test s = in_section s (cond (ltb (tests_open s) 10) (Some (test ∷ s)) None)
 behind Else s = test_turned s
 behind EndTest s = test_ended s
-behind Table s = in_section s (cond (ltb (tables_open s) 5) (some (table ∷ s)) none)
+behind Table s = in_section s (cond (ltb (tables_open s) 5) (Some (table ∷ s)) None)
 behind EndTable s = table_ended s
-behind Plain s = in_section s (some s)
+behind Plain s = in_section s (Some s)
 -- no line of the templates that check 4 sees: check 3 comes first (template/specs/Order)
-behind NoForm s = in_section s (some s)
+behind NoForm s = in_section s (Some s)
 
 -- "open at .. the last line": nothing but a section is open
 unfoldable pub all_closed : List Mark → Bool

@@ -23,18 +23,13 @@ pub enum Shape {
     NoForm,
 }
 
-// What is open: the marks as digits in base 5, the innermost lowest, and how many tests and tables there are.
+// What is open: the marks as digits in base 5, the innermost lowest, and how many tests and tables there are. One number in place of
+// a stack, since a state is copied from line to line and nothing lies on a heap.
 #[derive(Clone, Copy)]
 pub struct Open {
     pub marks: u64,
     pub tests: u32,
     pub tables: u32,
-}
-
-#[derive(Clone, Copy)]
-pub enum Step {
-    Went(Open),
-    Wrong,
 }
 
 const SECTION: u64 = 1;
@@ -54,141 +49,107 @@ const MOST_TABLES: u32 = 5;
 const TOO_MANY: u64 = 152_587_890_625;
 
 // A $SEC: nothing may be open but the section before it.
-fn section_begun(state: Open) -> Step
+fn section_begun(state: Open) -> Option<Open>
     ensures { Steps state Section result }
 {
-    let top = state.marks % 5;
-    if top == 0 {
-        return Step::Went(Open {
+    match state.marks % 5 {
+        0 | SECTION => Some(Open {
             marks: SECTION,
             tests: 0,
             tables: 0,
-        });
+        }),
+        _ => None,
     }
-    if top == SECTION {
-        return Step::Went(Open {
-            marks: SECTION,
-            tests: 0,
-            tables: 0,
-        });
-    }
-    Step::Wrong
 }
 
-fn test_begun(state: Open) -> Step
+fn test_begun(state: Open) -> Option<Open>
     ensures { Steps state Test result }
 {
-    if state.marks == 0 {
-        return Step::Wrong;
+    if state.marks == 0 || MOST_TESTS <= state.tests || TOO_MANY <= state.marks {
+        return None;
     }
-    if MOST_TESTS <= state.tests {
-        return Step::Wrong;
-    }
-    if TOO_MANY <= state.marks {
-        return Step::Wrong;
-    }
-    Step::Went(Open {
+    Some(Open {
         marks: state.marks * 5 + TEST,
         tests: state.tests + 1,
-        tables: state.tables,
+        ..state
     })
 }
 
-fn test_turned(state: Open) -> Step
+fn test_turned(state: Open) -> Option<Open>
     ensures { Steps state Else result }
 {
-    if state.marks % 5 == TEST {
-        return Step::Went(Open {
+    match state.marks % 5 {
+        TEST => Some(Open {
             marks: state.marks + 1,
-            tests: state.tests,
-            tables: state.tables,
-        });
+            ..state
+        }),
+        _ => None,
     }
-    Step::Wrong
 }
 
-fn test_ended(state: Open) -> Step
+#[tactic(auto, using(crate::proofs::OpenLaws::test_end_step))]
+fn test_ended(state: Open) -> Option<Open>
     ensures { Steps state EndTest result }
 {
-    if state.tests == 0 {
-        return Step::Wrong;
-    }
-    let top = state.marks % 5;
-    if top == TEST {
-        return Step::Went(Open {
+    match state.marks % 5 {
+        TEST | OTHER if 0 < state.tests => Some(Open {
             marks: state.marks / 5,
             tests: state.tests - 1,
-            tables: state.tables,
-        });
+            ..state
+        }),
+        _ => None,
     }
-    if top == OTHER {
-        return Step::Went(Open {
-            marks: state.marks / 5,
-            tests: state.tests - 1,
-            tables: state.tables,
-        });
-    }
-    Step::Wrong
 }
 
-fn table_begun(state: Open) -> Step
+fn table_begun(state: Open) -> Option<Open>
     ensures { Steps state Table result }
 {
-    if state.marks == 0 {
-        return Step::Wrong;
+    if state.marks == 0 || MOST_TABLES <= state.tables || TOO_MANY <= state.marks {
+        return None;
     }
-    if MOST_TABLES <= state.tables {
-        return Step::Wrong;
-    }
-    if TOO_MANY <= state.marks {
-        return Step::Wrong;
-    }
-    Step::Went(Open {
+    Some(Open {
         marks: state.marks * 5 + TABLE,
-        tests: state.tests,
         tables: state.tables + 1,
+        ..state
     })
 }
 
-fn table_ended(state: Open) -> Step
+#[tactic(auto, using(crate::proofs::OpenLaws::table_end_step))]
+fn table_ended(state: Open) -> Option<Open>
     ensures { Steps state EndTable result }
 {
-    if state.tables == 0 {
-        return Step::Wrong;
-    }
-    if state.marks % 5 == TABLE {
-        return Step::Went(Open {
+    match state.marks % 5 {
+        TABLE if 0 < state.tables => Some(Open {
             marks: state.marks / 5,
-            tests: state.tests,
             tables: state.tables - 1,
-        });
+            ..state
+        }),
+        _ => None,
     }
-    Step::Wrong
 }
 
-fn passed(state: Open) -> Step
+fn passed(state: Open) -> Option<Open>
     ensures { Steps state Plain result }
 {
     if state.marks == 0 {
-        return Step::Wrong;
+        return None;
     }
-    Step::Went(state)
+    Some(state)
 }
 
 // What is open behind a line.
-pub fn after_line(state: Open, shape: Shape) -> Step
+pub fn after_line(state: Open, shape: Shape) -> Option<Open>
     ensures { Steps state shape result }
 {
     match shape {
         Shape::Section => section_begun(state),
-        Shape::Remark => Step::Went(state),
+        Shape::Remark => Some(state),
         Shape::Test => test_begun(state),
         Shape::Else => test_turned(state),
         Shape::EndTest => test_ended(state),
         Shape::Table => table_begun(state),
         Shape::EndTable => table_ended(state),
-        Shape::Plain => passed(state),
-        Shape::NoForm => passed(state),
+        Shape::Plain | Shape::NoForm => passed(state),
     }
 }
 

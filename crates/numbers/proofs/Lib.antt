@@ -2,5 +2,4 @@ pub mod Tests
 pub mod Machine
 pub mod Rounding
 pub mod Millionths
-pub mod Comparison
 pub mod Laws

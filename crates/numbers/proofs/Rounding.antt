@@ -1,10 +1,8 @@
 -- The rounded quotient of magnitudes, and the table of powers of ten.
 use mathlib.Core.Path.{◌≡◌, sym, ap, ◌∙◌}
-use mathlib.Core.List.{List, [], ◌∷◌}
-use Prim.Native.Nat.{ℕ, zero, suc, ◌+◌, ◌*◌, ◌-◌, ◌/◌, ◌^◌, ◌≤◌, ◌<◌}
-use native.Mathlib.Nat.{mul-div-le, lt-mul-div-succ, div-div-eq-div-mul, div-lt_iff_lt-mul, mul-le-mul, pow-succ', mul_assoc, mul-one, pow-le-pow_right, mul-add-div_right, div-eq_of_lt}
+use Prim.Native.Nat.{ℕ, ◌+◌, ◌*◌, ◌-◌, ◌/◌, ◌^◌, ◌≤◌, ◌<◌}
+use native.Mathlib.Nat.{mul-div-le, lt-mul-div-succ, div-div-eq-div-mul, div-lt_iff_lt-mul, mul-le-mul, mul_assoc, pow-le-pow_right, mul-add-div_right, div-eq_of_lt}
 use native.Mathlib.Omega.{arith}
-use lib.ListN.{get_or}
 use lib.Pow.{pow-add}
 use Rattle.numbers.specs.Rounding.{rounded}
 
@@ -39,17 +37,6 @@ rounded_le a b h =
     omega arith
 
 -- ---- powers of ten
-
--- k numbers from p on, each ten times the one before
-abbrev pub rising : ℕ → ℕ → List ℕ
-rising zero p = []
-rising (suc k) p = p ∷ rising k (p * 10)
-
-pub power_at : (k p n : ℕ) → n < k → get_or (rising k p) n 0 ≡ p * 10 ^ n
-power_at zero p n h = absurd (omega arith)
-power_at (suc k) p zero h = sym (mul-one p)
-power_at (suc k) p (suc n) h =
-    power_at k (p * 10) n (omega arith) ∙ mul_assoc p 10 (10 ^ n) ∙ ap (λ (x : ℕ). p * x) (sym (pow-succ' 10 n))
 
 pub power_above : (n : ℕ) → 0 < 10 ^ n
 power_above n = pow-le-pow_right {n = 10} (omega arith) {i = 0} {j = n} (omega arith)

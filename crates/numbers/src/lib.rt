@@ -19,10 +19,9 @@ pub mod parts; // parts.rt: whole parts
 pub mod order; // order.rt: comparison
 pub mod places; // places.rt: rounding to places
 
-// What a calculation answers.
-#[derive(Clone, Copy)]
-pub enum Number {
-    Computed(i64),
+// Why a calculation has no result.
+#[derive(Clone, Copy, Debug, PartialEq, Eq)]
+pub enum ArithmeticError {
     ZeroDivisor,
     OutOfRange,
 }
@@ -33,11 +32,4 @@ pub enum Quantity {
     Integer(i64),
     // a count of millionths
     Decimal(i64),
-}
-
-// A magnitude in units of the last place. OutOfRange: a quantity out of range, or more than 6 places.
-#[derive(Clone, Copy)]
-pub enum Rounded {
-    Units(u64),
-    OutOfRange,
 }

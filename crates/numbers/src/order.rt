@@ -11,10 +11,7 @@ pub fn less(p: Quantity, q: Quantity) -> bool
 {
     let a = whole(p);
     let b = whole(q);
-    if a == b {
-        return rest(p) < rest(q);
-    }
-    a < b
+    a < b || a == b && rest(p) < rest(q)
 }
 
 pub fn at_most(p: Quantity, q: Quantity) -> bool
@@ -26,10 +23,7 @@ pub fn at_most(p: Quantity, q: Quantity) -> bool
 pub fn equal(p: Quantity, q: Quantity) -> bool
     ensures { result ≡ equal_to p q }
 {
-    if less(p, q) {
-        return false;
-    }
-    !less(q, p)
+    !less(p, q) && !less(q, p)
 }
 
 pub fn is_zero(q: Quantity) -> bool

@@ -2,15 +2,15 @@
 ghost use Rattle.std.specs.Prelude.{◌≡◌, ◌&&◌, ◌≤◌};
 ghost use Rattle.numbers.specs.Sign.{signed};
 ghost use Rattle.numbers.specs.Range.{within, decimal_limit};
-ghost use Rattle.numbers.specs.Result.{result_in};
 ghost use Rattle.numbers.specs.Arithmetic.{checked, sum_of, difference_of, absolute_of};
 
-use crate::{Number, sign};
+use crate::{ArithmeticError, sign};
 
 pub const INTEGER_LIMIT: u64 = 2_000_000_000;
 
 pub const DECIMAL_LIMIT: u64 = 2_000_000_000_000_000;
 
+#[tactic(auto, unfolding(crate::specs::Range::within))]
 pub fn in_range(limit: u64, z: i64) -> bool
     ensures { result ≡ within limit z }
 {
@@ -20,63 +20,60 @@ pub fn in_range(limit: u64, z: i64) -> bool
 pub fn both_in_range(limit: u64, a: i64, b: i64) -> bool
     ensures { result ≡ within limit a && within limit b }
 {
-    if in_range(limit, a) {
-        in_range(limit, b)
-    } else {
-        false
-    }
+    in_range(limit, a) && in_range(limit, b)
 }
 
 // A result, where it is in range.
-pub fn check(limit: u64, z: i64) -> Number
-    ensures { result_in result ≡ checked limit z }
+#[tactic(auto, unfolding(crate::specs::Arithmetic::checked))]
+pub fn check(limit: u64, z: i64) -> Result<i64, ArithmeticError>
+    ensures { result ≡ checked limit z }
 {
     if in_range(limit, z) {
-        Number::Computed(z)
+        Ok(z)
     } else {
-        Number::OutOfRange
+        Err(ArithmeticError::OutOfRange)
     }
 }
 
 // The same of a result that is given by its sign and magnitude.
-pub fn check_signed(limit: u64, negative: bool, m: u64) -> Number
+#[tactic(auto, using(crate::proofs::Machine::abs_signed, crate::proofs::Machine::abs_fits), unfolding(crate::specs::Arithmetic::checked, crate::specs::Range::within))]
+pub fn check_signed(limit: u64, negative: bool, m: u64) -> Result<i64, ArithmeticError>
     requires { limit ≤ decimal_limit }
-    ensures { result_in result ≡ checked limit (signed negative m) }
+    ensures { result ≡ checked limit (signed negative m) }
 {
     if m > limit {
-        return Number::OutOfRange;
+        return Err(ArithmeticError::OutOfRange);
     }
     let z = m as i64;
-    if negative {
-        Number::Computed(-z)
-    } else {
-        Number::Computed(z)
-    }
+    if negative { Ok(-z) } else { Ok(z) }
 }
 
-pub fn sum(limit: u64, a: i64, b: i64) -> Number
+#[tactic(auto, using(crate::proofs::Machine::abs_add, crate::proofs::Machine::abs_fits), unfolding(crate::specs::Arithmetic::sum_of, crate::specs::Arithmetic::operands, crate::specs::Arithmetic::checked, crate::specs::Range::within))]
+pub fn sum(limit: u64, a: i64, b: i64) -> Result<i64, ArithmeticError>
     requires { limit ≤ decimal_limit }
-    ensures { result_in result ≡ sum_of limit a b }
+    ensures { result ≡ sum_of limit a b }
 {
     if !both_in_range(limit, a, b) {
-        return Number::OutOfRange;
+        return Err(ArithmeticError::OutOfRange);
     }
     check(limit, a + b)
 }
 
-pub fn difference(limit: u64, a: i64, b: i64) -> Number
+#[tactic(auto, using(crate::proofs::Machine::abs_sub, crate::proofs::Machine::abs_fits), unfolding(crate::specs::Arithmetic::difference_of, crate::specs::Arithmetic::operands, crate::specs::Arithmetic::checked, crate::specs::Range::within))]
+pub fn difference(limit: u64, a: i64, b: i64) -> Result<i64, ArithmeticError>
     requires { limit ≤ decimal_limit }
-    ensures { result_in result ≡ difference_of limit a b }
+    ensures { result ≡ difference_of limit a b }
 {
     if !both_in_range(limit, a, b) {
-        return Number::OutOfRange;
+        return Err(ArithmeticError::OutOfRange);
     }
     check(limit, a - b)
 }
 
-pub fn absolute(limit: u64, z: i64) -> Number
+#[tactic(auto, unfolding(crate::specs::Arithmetic::absolute_of))]
+pub fn absolute(limit: u64, z: i64) -> Result<i64, ArithmeticError>
     requires { limit ≤ decimal_limit }
-    ensures { result_in result ≡ absolute_of limit z }
+    ensures { result ≡ absolute_of limit z }
 {
     check_signed(limit, false, sign::magnitude(z))
 }

@@ -11,15 +11,16 @@ pub fn negative(x: i64) -> bool
 }
 
 // Whether exactly one of two numbers is below zero.
+#[tactic(auto, unfolding(crate::specs::Sign::opposed))]
 pub fn opposite(a: i64, b: i64) -> bool
     ensures { result ≡ opposed a b }
 {
     negative(a) != negative(b)
 }
 
-// The magnitude of any number, the least included: -1 - x doesn't overflow.
+// The magnitude of any number, the least included.
 pub fn magnitude(x: i64) -> u64
     ensures { result ≡ nat_abs x }
 {
-    if x < 0 { (-1 - x) as u64 + 1 } else { x as u64 }
+    x.unsigned_abs()
 }

@@ -1,4 +1,5 @@
 -- Bytes that may stand in a line: of parts of clean bytes, and of the lines of a template that check 2 let through.
+use Rattle.std.specs.Prelude.{Some, None}
 use mathlib.Core.Path.{◌≡◌, refl, sym, subst}
 use mathlib.Core.Bool.{Bool, true, false, cond, not, ◌&&◌, ◌||◌, false≢true}
 use mathlib.Core.List.{List, [], ◌∷◌, ◌++◌, map}
@@ -11,7 +12,6 @@ use Rattle.meaning.specs.Each.{Each}
 use Rattle.scan.specs.declared.run.Class.TheVariants.{Allowed, InLine}
 use Rattle.scan.specs.Run.{belongs, span, in_range}
 use Rattle.scan.specs.Line.{all_allowed, line_of, line_at}
-use Rattle.template.specs.declared.Verdict.TheVariants.{Fine, Fault}
 use Rattle.template.specs.Lines.{lines_within, lines_of}
 use Rattle.template.specs.Verdicts.{first_fault, line_allowed, bytes_check}
 use Rattle.cells.proofs.BigEndian.{and_true}
@@ -118,11 +118,11 @@ behind_line (b ∷ s) h k = go (belongs InLine b) refl h k (behind_line s)
         (h.0, rest h.1 (subst (λ (m : ℕ). Each Permitted (drop m (b ∷ s))) z k))
     go false e h k rest = (a_line_end b e, k)
 
-fault_fine : (n : ℕ) → Fault n ≡ Fine → ⊥
+fault_fine : (n : ℕ) → Some n ≡ None → ⊥
 fault_fine n e = let z : ◌≡◌ {A = ℕ} 0 1 = cc in omega arith
 
 -- check 2 finds nothing in these lines: all that they are of is permitted
-lines_permitted : (n k : ℕ) (t : List ℕ) → length t ≤ n → first_fault line_allowed k (lines_within n t) ≡ Fine → Each Permitted t
+lines_permitted : (n k : ℕ) (t : List ℕ) → length t ≤ n → first_fault line_allowed k (lines_within n t) ≡ None → Each Permitted t
 unfolding lines_within first_fault line_allowed
 lines_permitted zero k [] h e = tt
 lines_permitted zero k (b ∷ t) h e = absurd (omega arith)
@@ -134,16 +134,16 @@ lines_permitted (suc n) k (b ∷ t) h e =
     rest : List ℕ
     rest = drop (length (line_of (b ∷ t)) + 1) (b ∷ t)
 
-    go : (x y : Bool) → all_allowed (line_of (b ∷ t)) ≡ y → cond (x && y) (first_fault line_allowed (suc k) (lines_within n rest)) (Fault k) ≡ Fine → (first_fault line_allowed (suc k) (lines_within n rest) ≡ Fine → Each Permitted rest) → Each Permitted (b ∷ t)
+    go : (x y : Bool) → all_allowed (line_of (b ∷ t)) ≡ y → cond (x && y) (first_fault line_allowed (suc k) (lines_within n rest)) (Some k) ≡ None → (first_fault line_allowed (suc k) (lines_within n rest) ≡ None → Each Permitted rest) → Each Permitted (b ∷ t)
     go true true f e more = behind_line (b ∷ t) (all_permitted (line_of (b ∷ t)) f) (more e)
     go true false f e more = absurd (fault_fine k e)
     go false y f e more = absurd (fault_fine k e)
 
 -- "A template has at most 32,768 bytes, each 0x20–0x7E or 0x0A."
-pub bytes_permitted : (t : List ℕ) → bytes_check t ≡ Fine → Each Permitted t
+pub bytes_permitted : (t : List ℕ) → bytes_check t ≡ None → Each Permitted t
 unfolding bytes_check lines_of
 bytes_permitted t e = go (ltb 32768 (length t)) e
   where
-    go : (x : Bool) → cond x (Fault 0) (first_fault line_allowed 1 (lines_within (length t) t)) ≡ Fine → Each Permitted t
+    go : (x : Bool) → cond x (Some 0) (first_fault line_allowed 1 (lines_within (length t) t)) ≡ None → Each Permitted t
     go true e = absurd (fault_fine 0 e)
     go false e = lines_permitted (length t) 1 t (omega arith) e

@@ -1,22 +1,18 @@
 -- Every field shows printable bytes.
+use Rattle.std.specs.Prelude.{Some, None, Option}
 use mathlib.Core.Path.{◌≡◌, refl}
 use mathlib.Core.Bool.{Bool, true, false, cond, not, ◌&&◌}
 use mathlib.Core.List.{List, [], ◌∷◌, ◌++◌}
-use mathlib.Core.Option.{Option, none, some}
 use Prim.Native.Nat.{ℕ, zero, suc, ◌+◌, ◌-◌, ◌/◌, ◌%◌, ◌^◌}
 use native.Mathlib.Omega.{arith}
 use borrow.Author.Tests.{leb-true}
 use lib.Dec.{leb, eqb}
 use lib.ListN.{length, take, replicate}
-use Rattle.numbers.specs.declared.Rounded.{Rounded}
-use Rattle.numbers.specs.declared.Rounded.TheVariants.{Units, OutOfRange}
 use Rattle.numbers.specs.Places.{rounded_to}
-use Rattle.fields.specs.declared.Places.{Places}
 use Rattle.fields.specs.Digits.{digits, digit_count}
 use Rattle.fields.specs.Field.{space, asterisk, hyphen, point, question_mark, places_of, negative, minus, fraction, unsigned, right_in, left_in, width_allowed, rounded_field, shown, field_of}
-use Rattle.texts.specs.declared.text.Places as T
 use Rattle.values.specs.Worth.{Worth, missing, wrong, number, string}
-use Rattle.pages.specs.Shown.{places_in, shown_value, or_stars, field_bytes}
+use Rattle.pages.specs.Shown.{shown_value, or_stars, field_bytes}
 use Rattle.output.specs.Printable.{Printable, Clean}
 use Rattle.output.proofs.Bytes.{each_take, each_append, each_replicate}
 
@@ -65,13 +61,13 @@ left_clean w s h = each_append Printable (take w s) (replicate (w - length s) sp
 
 -- a field's bytes, where it has some
 abbrev Shown : Option (List ℕ) → Type 0
-Shown none = Unit {0}
-Shown (some s) = Clean s
+Shown None = Unit {0}
+Shown (Some s) = Clean s
 
-rounded_clean : (w d : ℕ) (below : Bool) (r : Rounded) → Shown (rounded_field w d below r)
+rounded_clean : (w d : ℕ) (below : Bool) (r : Option ℕ) → Shown (rounded_field w d below r)
 unfolding rounded_field
-rounded_clean w d below (Units u) = right_clean w (minus below u ++ unsigned d u) (each_append Printable (minus below u) (unsigned d u) (minus_clean below u) (unsigned_clean d u))
-rounded_clean w d below OutOfRange = tt
+rounded_clean w d below (Some u) = right_clean w (minus below u ++ unsigned d u) (each_append Printable (minus below u) (unsigned d u) (minus_clean below u) (unsigned_clean d u))
+rounded_clean w d below None = tt
 
 question_marks : Clean (question_mark ∷ question_mark ∷ question_mark ∷ [])
 question_marks = let q = constant question_mark refl refl in (q, (q, (q, tt)))
@@ -83,7 +79,7 @@ WorthClean wrong = Unit {0}
 WorthClean (number q) = Unit {0}
 WorthClean (string s) = Clean s
 
-shown_clean : (w : ℕ) (p : Places) (x : Worth) → WorthClean x → Shown (shown w p (shown_value x))
+shown_clean : (w : ℕ) (p : Option ℕ) (x : Worth) → WorthClean x → Shown (shown w p (shown_value x))
 unfolding shown shown_value
 shown_clean w p missing h = left_clean w (question_mark ∷ question_mark ∷ question_mark ∷ []) question_marks
 shown_clean w p wrong h = left_clean w (question_mark ∷ question_mark ∷ question_mark ∷ []) question_marks
@@ -92,13 +88,13 @@ shown_clean w p (string s) h = left_clean w s h
 
 or_stars_law : (w : ℕ) (o : Option (List ℕ)) → Shown o → Clean (or_stars w o)
 unfolding or_stars
-or_stars_law w none h = stars_clean w
-or_stars_law w (some s) h = h
+or_stars_law w None h = stars_clean w
+or_stars_law w (Some s) h = h
 
-pub field_clean : (w : ℕ) (p : T.Places) (x : Worth) → WorthClean x → Clean (field_bytes w p x)
+pub field_clean : (w : ℕ) (p : Option ℕ) (x : Worth) → WorthClean x → Clean (field_bytes w p x)
 unfolding field_bytes field_of
 field_clean w p x h = go (width_allowed w)
   where
-    go : (y : Bool) → Clean (or_stars w (cond y (shown w (places_in p) (shown_value x)) none))
-    go true = or_stars_law w (shown w (places_in p) (shown_value x)) (shown_clean w (places_in p) x h)
-    go false = or_stars_law w none tt
+    go : (y : Bool) → Clean (or_stars w (cond y (shown w p (shown_value x)) None))
+    go true = or_stars_law w (shown w p (shown_value x)) (shown_clean w p x h)
+    go false = or_stars_law w None tt

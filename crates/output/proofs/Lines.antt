@@ -1,8 +1,9 @@
 -- Every line of a run prints only what is proper, and keeps the strings of the state clean.
+use Rattle.std.specs.Prelude.{Some, None, Option}
+use Rattle.texts.specs.declared.text.Field.{Field}
 use mathlib.Core.Path.{◌≡◌, refl}
 use mathlib.Core.Bool.{Bool, true, false, cond}
 use mathlib.Core.List.{List, [], ◌∷◌}
-use mathlib.Core.Option.{Option, none, some}
 use Prim.Native.Nat.{ℕ, zero, suc, ◌+◌}
 use native.Mathlib.Omega.{arith}
 use borrow.Author.Tests.{leb-false}
@@ -11,10 +12,6 @@ use lib.ListN.{length, take}
 use Rattle.scan.specs.Line.{byte_at}
 use Rattle.texts.specs.declared.text.Piece.{Piece}
 use Rattle.texts.specs.declared.text.Piece.TheVariants.{Byte, Placed}
-use Rattle.texts.specs.declared.text.PieceRead.{PieceRead}
-use Rattle.texts.specs.declared.text.PieceRead.TheVariants.{PieceTo, NoPiece}
-use Rattle.texts.specs.declared.text.FieldRead.{FieldRead}
-use Rattle.texts.specs.declared.text.FieldRead.TheVariants.{FieldTo, NoField}
 use Rattle.texts.specs.Readers.Text.{field_at, placed, piece_at, before, pieces_within, text_pieces}
 use Rattle.texts.specs.Pieces.{or_no_pieces, pieces_of}
 use Rattle.meaning.specs.Each.{Each}
@@ -42,20 +39,20 @@ abbrev PieceClean : Piece → Type 0
 PieceClean (Byte b) = Printable b
 PieceClean (Placed f) = Unit {0}
 
-abbrev ReadClean : PieceRead → Type 0
-ReadClean (PieceTo p next) = PieceClean p
-ReadClean NoPiece = Unit {0}
+abbrev ReadClean : Option (Piece × ℕ) → Type 0
+ReadClean (Some (p, next)) = PieceClean p
+ReadClean None = Unit {0}
 
-placed_clean : (r : FieldRead) → ReadClean (placed r)
+placed_clean : (r : Option (Field × ℕ)) → ReadClean (placed r)
 unfolding placed
-placed_clean (FieldTo f next) = tt
-placed_clean NoField = tt
+placed_clean (Some (f, next)) = tt
+placed_clean None = tt
 
 piece_clean : (l : List ℕ) (i : ℕ) → Clean l → ReadClean (piece_at l i)
 unfolding piece_at byte_at
 piece_clean l i h = go (leb (length l) i) refl (eqb (byte_at l i) 123) (eqb (byte_at l i) 125)
   where
-    go : (x : Bool) → leb (length l) i ≡ x → (y z : Bool) → ReadClean (cond x NoPiece (cond y (placed (field_at l (i + 1))) (cond z NoPiece (PieceTo (Byte (byte_at l i)) (i + 1)))))
+    go : (x : Bool) → leb (length l) i ≡ x → (y z : Bool) → ReadClean (cond x None (cond y (placed (field_at l (i + 1))) (cond z None (Some (Byte (byte_at l i), i + 1)))))
     go true e y z = tt
     go false e true z = placed_clean (field_at l (i + 1))
     go false e false true = tt
@@ -63,18 +60,18 @@ piece_clean l i h = go (leb (length l) i) refl (eqb (byte_at l i) 123) (eqb (byt
 
 before_clean : (p : Piece) (o : Option (List Piece)) → PieceClean p → Each PieceClean (or_no_pieces o) → Each PieceClean (or_no_pieces (before p o))
 unfolding or_no_pieces before
-before_clean p none h k = tt
-before_clean p (some ps) h k = (h, k)
+before_clean p None h k = tt
+before_clean p (Some ps) h k = (h, k)
 
 pieces_within_law : (n : ℕ) (l : List ℕ) (i : ℕ) → Clean l → Each PieceClean (or_no_pieces (pieces_within n l i))
 unfolding pieces_within or_no_pieces
 pieces_within_law zero l i h = tt
 pieces_within_law (suc n) l i h = by (leb (length l) i) (piece_at l i) (piece_clean l i h) (λ next. pieces_within_law n l next h)
   where
-    by : (b : Bool) (r : PieceRead) → ReadClean r → ((next : ℕ) → Each PieceClean (or_no_pieces (pieces_within n l next))) → Each PieceClean (or_no_pieces (cond b (some []) (elim r [ PieceTo p next ↦ before p (pieces_within n l next) | NoPiece ↦ none ])))
+    by : (b : Bool) (r : Option (Piece × ℕ)) → ReadClean r → ((next : ℕ) → Each PieceClean (or_no_pieces (pieces_within n l next))) → Each PieceClean (or_no_pieces (cond b (Some []) (elim r [ Some (p, next) ↦ before p (pieces_within n l next) | None ↦ None ])))
     by true r k rest = tt
-    by false (PieceTo p next) k rest = before_clean p (pieces_within n l next) k (rest next)
-    by false NoPiece k rest = tt
+    by false (Some (p, next)) k rest = before_clean p (pieces_within n l next) k (rest next)
+    by false None k rest = tt
 
 pieces_clean : (l : List ℕ) (from : ℕ) → Clean l → Each PieceClean (pieces_of l from)
 unfolding pieces_of text_pieces

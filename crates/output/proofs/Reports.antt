@@ -1,5 +1,8 @@
 -- The text of every report: lines of 0x20–0x7E, each with its line end, and form feeds. So a line that a page counts is one line of
 -- its text.
+use Rattle.std.specs.Prelude.{Option, Some, None, Result, Ok, Err}
+use Rattle.meaning.specs.declared.refusal.Refusal.{Refusal}
+use Rattle.arguments.specs.declared.argument.Argument.{Argument}
 use mathlib.Core.Path.{◌≡◌, refl, sym, subst}
 use mathlib.Core.Bool.{Bool, true, false, cond}
 use mathlib.Core.List.{List, [], ◌∷◌}
@@ -12,14 +15,10 @@ use lib.ListN.{length, drop, take}
 use Rattle.scan.specs.declared.run.Class.TheVariants.{InLine}
 use Rattle.scan.specs.Line.{line_at}
 use Rattle.scan.proofs.RunLaws.{take_span}
-use Rattle.lines.specs.declared.command.Optional.{Optional}
-use Rattle.lines.specs.declared.command.Optional.TheVariants.{Given, Absent}
 use Rattle.lines.specs.declared.command.Line.{Line}
 use Rattle.lines.specs.declared.command.Line.TheVariants as form
 use Rattle.lines.specs.Readers.Command.{parse_line}
 use Rattle.template.specs.declared.Extent.{Extent}
-use Rattle.template.specs.declared.Checked.{Checked}
-use Rattle.template.specs.declared.Checked.TheVariants.{Accepted, Refused}
 use Rattle.template.specs.declared.seek.Sought.TheVariants.{TableEnd}
 use Rattle.template.specs.Order.{template_checked}
 use Rattle.template.proofs.Accepted.{accepted_runs}
@@ -51,7 +50,7 @@ use Rattle.pages.specs.declared.heading.Heading.{Heading}
 use Rattle.pages.specs.Heading.{no_heading}
 use Rattle.pages.specs.Page.{head_line, break_meaning, line_step}
 use Rattle.control.specs.State.{State, seen, with_position, with_variables, with_datasource, with_tables, with_page, no_variables}
-use Rattle.control.specs.Line.{past_line, jumped, setting, branched, testing, table_begun, table_counted, breaking, breaking_for, new_page_meaning, headed, form_meaning, line_meaning}
+use Rattle.control.specs.Line.{past_line, jumped, setting, branched, testing, table_begun, table_counted, breaking, breaking_for, new_page_meaning, headed, form_meaning, parsed_meaning, line_meaning}
 use Rattle.executed_line.proofs.Sounds.{each_same}
 use Rattle.report.specs.Report.{run_from, start_of, run_meaning, Outcome, refused_report, checked_outcome, report_of}
 use Rattle.output.specs.Printable.{Clean, Proper}
@@ -139,10 +138,10 @@ module _ (t : List ℕ) (whole : Each Permitted t) (at l : ℕ) (s : State) (h :
   unfolding breaking
   breaks_say = paged (break_meaning l s.layout.form_feeds s.page) (break_says l s.layout.form_feeds s.page)
 
-  np_says : (n : Optional) → Says (new_page_meaning l body s n) (StateClean t)
+  np_says : (n : Option Argument) → Says (new_page_meaning l body s n) (StateClean t)
   unfolding new_page_meaning breaking_for
-  np_says Absent = breaks_say
-  np_says (Given a) =
+  np_says None = breaks_say
+  np_says (Some a) =
       says_bind (integer_meaning (seen s) body l a) (breaking_for l s) (λ _. Unit {0}) (StateClean t) (asks_say (integer_meaning (seen s) body l a) Anything (λ _. Unit {0}) (integer_gives (seen s) body l a) (yields_any AnswerClean (integer_meaning (seen s) body l a))) (λ z _. by (lt_z (pos (61 - s.page.row)) z))
     where
       by : (b : Bool) → Says (cond b (breaking l s) (done s)) (StateClean t)
@@ -151,7 +150,6 @@ module _ (t : List ℕ) (whole : Each Permitted t) (at l : ℕ) (s : State) (h :
 
   form_says : (f : Line) → Says (form_meaning t at l body s f) (StateClean t)
   unfolding form_meaning
-  form_says form.NoForm = h
   form_says form.Text = paged (line_step (seen s) t l s.layout.form_feeds s.layout.headings body s.page) (step_says (seen s) h.variables t l s.layout.form_feeds s.layout.headings h.heads body (line_clean t whole at) s.page)
   form_says (form.Section a b) = record { variables = variables_none; heads = each_same (λ x. Clean (head_line t x)) 9 no_heading (blank_clean t) }
   form_says (form.Set o v a) = set_says (set_meaning (seen s) body l o v a) (Shaped s.variables) (set_gives (seen s) body l o v a) (set_clean (seen s) h.variables l body (line_clean t whole at) o v a)
@@ -171,9 +169,13 @@ module _ (t : List ℕ) (whole : Each Permitted t) (at l : ℕ) (s : State) (h :
   form_says (form.NoHeading n) = head_set n no_heading (blank_clean t)
   form_says form.Remark = h
 
+  parsed_says : (x : Option Line) → Says (parsed_meaning t at l body s x) (StateClean t)
+  parsed_says (Some f) = form_says f
+  parsed_says None = h
+
 line_says : (t : List ℕ) → Each Permitted t → (s : State) → StateClean t s → Says (line_meaning t s) (StateClean t)
 unfolding line_meaning
-line_says t whole s h = form_says t whole s.position.at s.position.line (past_line s (length (line_at t s.position.at))) (record { variables = h.variables; heads = h.heads }) (parse_line (line_at t s.position.at))
+line_says t whole s h = parsed_says t whole s.position.at s.position.line (past_line s (length (line_at t s.position.at))) (record { variables = h.variables; heads = h.heads }) (parse_line (line_at t s.position.at))
 
 run_says : (n : ℕ) (t : List ℕ) → Each Permitted t → (end : ℕ) (s : State) → StateClean t s → Says (run_from n t end s) (StateClean t)
 unfolding run_from
@@ -217,11 +219,11 @@ pub text_is_lines : (t name b : List ℕ) (n places room : ℕ) → AllProper (r
 unfolding report_of checked_outcome
 text_is_lines t name b n places room = by (holds_cells (cells_held b n))
   where
-    checked : (k : Checked) → template_checked t name ≡ k → AllProper (checked_outcome t (answers b n) places room k)
-    checked (Accepted r) e =
+    checked : (k : Result Extent (Refusal × ℕ)) → template_checked t name ≡ k → AllProper (checked_outcome t (answers b n) places room k)
+    checked (Ok r) e =
         says_events (answers b n) (answers_clean b n) (StateClean t) places room (run_meaning t r)
         (run_says 50000 t (bytes_permitted t (accepted_runs t name r e).checks.bytes) r.until (start_of r) (start_clean t r))
-    checked (Refused e l) i = tt
+    checked (Err (e, l)) i = tt
 
     by : (f : Bool) → AllProper (cond f (checked_outcome t (answers b n) places room (template_checked t name)) (refused_report BadStore 0))
     by true = checked (template_checked t name) refl

@@ -1,4 +1,6 @@
 -- Strings of a run are printable: those of cells, of the template, of SV, R and T, where the answers are.
+use Rattle.std.specs.Prelude.{Err, Ok, Result}
+use Rattle.numbers.specs.declared.ArithmeticError.{ArithmeticError}
 use mathlib.Core.List.{List, []}
 use Prim.Native.Nat.{ℕ, ◌-◌}
 use lib.IntN.{ℤ, pos, negsuc}
@@ -10,7 +12,6 @@ use Rattle.meaning.specs.Tree.{done}
 use Rattle.meaning.proofs.Yielding.{Yields, yields_bind}
 use Rattle.numbers.specs.declared.Quantity.{Quantity}
 use Rattle.numbers.specs.declared.Quantity.TheVariants.{Integer, Decimal}
-use Rattle.numbers.specs.Result.{Result, success, no_result}
 use Rattle.arguments.specs.declared.argument.Argument.{Argument}
 use Rattle.arguments.specs.declared.argument.Filter.{Filter}
 use Rattle.arguments.specs.declared.argument.Filter.TheVariants.{Unfiltered, Absolute, Truncated, UpperCase, Length, RecordCount, EntryCount}
@@ -30,7 +31,7 @@ use Rattle.values.specs.Fetching.{element, fetch_meaning}
 use Rattle.values.specs.Meanings.{worth_of, operand_meaning, argument_meaning}
 use Rattle.values.proofs.Answering.{cell_has, fetch_has}
 use Rattle.values.proofs.Ranges.{numbered_each}
-use Rattle.commands.specs.Settling.{Settled, settled, refused_for, and_then, concluded, string_from}
+use Rattle.commands.specs.Settling.{Settled, and_then, concluded, string_from}
 use Rattle.commands.specs.Setting.{as_variable, string_new, integer_new, decimal_new, with_strings, set_of, set_meaning}
 use Rattle.control.specs.Fetching.{records_meaning, entries_meaning}
 use Rattle.control.proofs.Ranges as C
@@ -59,10 +60,10 @@ answered_clean (cell (A.number q)) h = tt
 answered_clean (cell (A.string s)) h = h
 answered_clean (highest n) h = tt
 
-ranged_clean : (kind : ℤ → Quantity) (o : Result) → WorthClean (ranged kind o)
+ranged_clean : (kind : ℤ → Quantity) (o : Result ℤ ArithmeticError) → WorthClean (ranged kind o)
 unfolding ranged
-ranged_clean kind (success z) = tt
-ranged_clean kind (no_result n) = tt
+ranged_clean kind (Ok z) = tt
+ranged_clean kind (Err n) = tt
 
 number_clean : (f : Filter) (q : Quantity) → WorthClean (filtered_number f q)
 unfolding filtered_number absolute
@@ -128,16 +129,16 @@ module _ (m : Machine) (line : ℕ) where
 
 -- what follows from the values, where something does
 abbrev Whenever : {A : Type 0} → Settled A → (A → Type 0) → Type 0
-Whenever (settled a) Φ = Φ a
-Whenever (refused_for e) Φ = Unit {0}
+Whenever (Ok a) Φ = Φ a
+Whenever (Err e) Φ = Unit {0}
 
 concluded_clean : {A : Type 0} (line : ℕ) (x : Settled A) (Φ : A → Type 0) → Whenever x Φ → Yields AnswerClean (concluded line x) Φ
-concluded_clean line (settled a) Φ h = h
-concluded_clean line (refused_for e) Φ h = tt
+concluded_clean line (Ok a) Φ h = h
+concluded_clean line (Err e) Φ h = tt
 
 then_always : {A B : Type 0} (x : Settled A) (f : A → Settled B) (Φ : B → Type 0) → ((a : A) → Whenever (f a) Φ) → Whenever (and_then x f) Φ
-then_always (settled a) f Φ h = h a
-then_always (refused_for e) f Φ h = tt
+then_always (Ok a) f Φ h = h a
+then_always (Err e) f Φ h = tt
 
 string_new_law : (w : Worth) → WorthClean w → Whenever (string_new w) Clean
 unfolding string_new string_from
@@ -146,10 +147,10 @@ string_new_law wrong h = tt
 string_new_law (number q) h = tt
 string_new_law (string s) h = each_take Printable 16 s h
 
-stored_clean : (l : List (List ℕ)) (n : ℕ) (x : Settled (List ℕ)) → Each Clean l → Whenever x Clean → (f : List (List ℕ) → Variables) → ((k : List (List ℕ)) → Each Clean k → VariablesClean (f k)) → Whenever (and_then (as_variable l n x) (λ k. settled (f k))) VariablesClean
+stored_clean : (l : List (List ℕ)) (n : ℕ) (x : Settled (List ℕ)) → Each Clean l → Whenever x Clean → (f : List (List ℕ) → Variables) → ((k : List (List ℕ)) → Each Clean k → VariablesClean (f k)) → Whenever (and_then (as_variable l n x) (λ k. Ok (f k))) VariablesClean
 unfolding as_variable
-stored_clean l n (settled s) h c f g = g (set_numbered l n s) (C.numbered_each Clean l n s c h)
-stored_clean l n (refused_for e) h c f g = tt
+stored_clean l n (Ok s) h c f g = g (set_numbered l n s) (C.numbered_each Clean l n s c h)
+stored_clean l n (Err e) h c f g = tt
 
 module _ (v : Variables) (h : VariablesClean v) where
   set_of_law : (o : Operation) (t : Target) (w : Worth) → WorthClean w → Whenever (set_of v o t w) VariablesClean

@@ -2,35 +2,14 @@
 use mathlib.Core.Path.{◌≡◌, refl, ap}
 use mathlib.Core.Bool.{Bool, true, false, cond}
 use mathlib.Core.List.{List, [], ◌∷◌}
-use Prim.Native.Nat.{ℕ, zero, suc, ◌-◌, ◌≤◌, ◌<◌}
+use Prim.Native.Nat.{ℕ, zero, suc, ◌≤◌, ◌<◌}
 use native.Mathlib.Omega.{arith}
-use borrow.Author.Tests.{eq-eqb, ne_eqb, eqb-true, eqb-false, leb-true, leb-false}
+use borrow.Author.Tests.{eqb-true, eqb-false, leb-true, leb-false}
 use lib.Dec.{eqb, leb}
 use lib.ListN.{length, get_or}
 use Rattle.pages.specs.declared.heading.Heading.{Heading}
 use Rattle.pages.specs.Heading.{no_heading}
 use Rattle.pages.specs.Page.{highest_defined}
-
-pub highest_here : (hs : List Heading) (k : ℕ) → 0 < k → ((get_or hs (k - 1) no_heading).number ≡ 0 → ⊥) → highest_defined hs k ≡ k
-unfolding highest_defined
-highest_here hs zero h e = absurd (omega arith)
-highest_here hs (suc n) h e =
-    let z : suc n - 1 ≡ n = omega arith in
-    let e' : (get_or hs n no_heading).number ≡ 0 → ⊥ = rw z at e in
-    rw (ne_eqb (get_or hs n no_heading).number 0 e')
-
-pub highest_below : (hs : List Heading) (k : ℕ) → 0 < k → (get_or hs (k - 1) no_heading).number ≡ 0 → highest_defined hs k ≡ highest_defined hs (k - 1)
-unfolding highest_defined
-highest_below hs zero h e = absurd (omega arith)
-highest_below hs (suc n) h e =
-    let z : suc n - 1 ≡ n = omega arith in
-    let e' : (get_or hs n no_heading).number ≡ 0 = rw z at e in
-    rw (eq-eqb (get_or hs n no_heading).number 0 e', z)
-
-pub highest_none : (hs : List Heading) (k : ℕ) → k ≤ 0 → highest_defined hs k ≡ 0
-unfolding highest_defined
-highest_none hs zero h = refl
-highest_none hs (suc n) h = absurd (omega arith)
 
 pub highest_most : (hs : List Heading) (n : ℕ) → highest_defined hs n ≤ n
 unfolding highest_defined

@@ -91,21 +91,6 @@ module _ (t : List ℕ) (due : ℕ) (hs : List Heading) where
   pub lines_few : (p : Page) (d : Due) (n : ℕ) → p.row ≤ n → 11 ≤ n → p.row + length (top_due t due hs p ++ (d ∷ [])) ≤ n + 1
   lines_few p d n h k = lines_by p d (λ ds. p.row + length ds ≤ n + 1) (omega arith) (λ e. omega (arith, e, length-append (shown t due hs) (d ∷ []), shown_count, highest_most hs 9))
 
--- ---- how many come before the text line
-
-module _ (hs : List Heading) (p : Page) where
-  pub lead_not : (p.row ≡ 1 → ⊥) → 0 ≡ lead_of hs p
-  unfolding lead_of
-  lead_not h = rw (ne_eqb p.row 1 h)
-
-  pub lead_none : p.row ≡ 1 → highest_defined hs 9 ≡ 0 → 0 ≡ lead_of hs p
-  unfolding lead_of
-  lead_none h e = rw (eq-eqb p.row 1 h, eq-eqb (highest_defined hs 9) 0 e)
-
-  pub lead_some : (k : ℕ) → p.row ≡ 1 → highest_defined hs 9 ≡ k → 0 < k → k + 1 ≡ lead_of hs p
-  unfolding lead_of
-  lead_some k h e z = rw (eq-eqb p.row 1 h, e, ne_eqb k 0 (λ y. omega arith))
-
 -- ---- the k-th line
 
 head_due : (t : List ℕ) (due : ℕ) (h : Heading) → due_of t (heading_due due h) ≡ record { bytes = head_line t h; from = head_from h; number = head_number due h }

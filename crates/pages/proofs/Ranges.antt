@@ -1,7 +1,7 @@
 -- In a machine in range every field of a text has the bytes that document 01 defines: the asterisks of `or_stars` are not met.
+use Rattle.std.specs.Prelude.{Some}
 use mathlib.Core.Path.{◌≡◌}
 use mathlib.Core.List.{List, [], ◌∷◌}
-use mathlib.Core.Option.{some}
 use Prim.Native.Nat.{ℕ, ◌≤◌}
 use borrow.Author.Tests.{le-leb}
 use Rattle.meaning.specs.Tree.{done, bind}
@@ -20,16 +20,16 @@ use Rattle.values.specs.Worth.{Worth, missing, wrong, number, string}
 use Rattle.values.specs.Meanings.{argument_meaning}
 use Rattle.values.proofs.Ranges.{WorthWithin, MachineWithin, millionths_within, argument_within}
 use Rattle.pages.specs.declared.page.Page.{Page}
-use Rattle.pages.specs.Shown.{places_in, shown_value, or_stars, field_bytes}
+use Rattle.pages.specs.Shown.{shown_value, or_stars, field_bytes}
 use Rattle.pages.specs.Text.{field_values}
 use Rattle.pages.specs.Page.{on}
 use Rattle.pages.proofs.InRange.{number_shown}
 
 -- a field with this value has its bytes
 abbrev pub FieldShown : Field → Worth → Type 0
-FieldShown f w = field_of f.width (places_in f.places) (shown_value w) ≡ some (field_bytes f.width f.places w)
+FieldShown f w = field_of f.width f.places (shown_value w) ≡ Some (field_bytes f.width f.places w)
 
-bytes_are : (f : Field) (w : Worth) (s : List ℕ) → field_of f.width (places_in f.places) (shown_value w) ≡ some s → FieldShown f w
+bytes_are : (f : Field) (w : Worth) (s : List ℕ) → field_of f.width f.places (shown_value w) ≡ Some s → FieldShown f w
 unfolding field_bytes or_stars
 bytes_are f w s e = rw e
 

@@ -10,10 +10,7 @@ use lib.Seq.{drop-cons}
 use Rattle.meaning.specs.Answer.{Answer}
 use Rattle.meaning.specs.Tree.{done, bind}
 use Rattle.meaning.specs.Meaning.{Meaning}
-use Rattle.meaning.specs.declared.count.Counts.{Counts}
 use Rattle.meaning.specs.declared.question.Question.{Question}
-use Rattle.meaning.specs.declared.end.Halt.{Halt}
-use Rattle.meaning.specs.declared.end.Ended.TheVariants.{Finished, Halted}
 use Rattle.meaning.proofs.Doing.{then_does, then_over, does_done}
 use Rattle.meaning.proofs.Looping.{Leads, leads_start, leads_next, leads_over, leads_end}
 use Rattle.values.specs.declared.scene.Scene.{Scene}
@@ -22,16 +19,17 @@ use Rattle.values.specs.Source.{answers}
 use Rattle.texts.specs.Pieces.{or_no_pieces, pieces_of, field_count}
 use Rattle.texts.specs.Width.{total_width}
 use Rattle.texts.specs.Readers.Text.{pieces_within, text_pieces, fits_behind, text_fits}
-use Rattle.pages.specs.declared.text.Told.{Told}
-use Rattle.pages.specs.Inner.Pass.{Lent, machine_of, Sourced, Sayable, filled_to, Tells}
 use Rattle.pages.specs.declared.page.Page.{Page}
-use Rattle.pages.specs.declared.page.Turned.{Turned}
 use Rattle.pages.specs.declared.heading.Heading.{Heading}
-use Rattle.pages.specs.declared.step.Paged.{Paged}
 use Rattle.pages.specs.Page.{advanced_of, say_meaning, top_meaning, line_step}
 use Rattle.pages.specs.Inner.Listing.{Due, says_on, shown, text_due, lines_due, bytes_of, due_of, lines_on, lead_of, line_due}
-use Rattle.pages.specs.Inner.Paging.{scene_on, page_of, Turns, AllFit, fields_in, LinesReady, SaysLines, StepReady, Steps}
-use Rattle.pages.proofs.Listing.{lines_by, lines_few, says_same, top_says, lines_count, line_at}
+use Rattle.pages.proofs.Listing.{lines_by, lines_few, top_says, lines_count, line_at}
+use Rattle.std.specs.Prelude.{Result, Ok, Err}
+use Rattle.meaning.specs.declared.end.Stop.{Stop}
+use Rattle.values.specs.declared.log.Log.{Log}
+use Rattle.values.specs.Inner.Logged.{filled_to}
+use Rattle.pages.specs.Inner.Pass.{Lent, machine_of, Sourced, Sayable, Tells}
+use Rattle.pages.specs.Inner.Paging.{scene_on, Turns, AllFit, fields_in, LinesReady, SaysLines, StepReady, Steps}
 
 -- a blank line fits, and has no field
 pub blank_fits : text_fits [] 0 ≡ true
@@ -44,20 +42,20 @@ blank_fields = refl
 
 -- ---- where the loop stands: the rest of the lines, from a page and what is filled there
 
-pub record InLines (x : Lent) (s : Scene) (t : List ℕ) (hs : List Heading) (line : Heading) (lead : ℕ) (text₀ log₀ : List ℕ) (c₀ : Counts) (k : ℕ) (p : Page) (text log : List ℕ) (c : Counts) : Type 0 where
-  pub here : Sourced x (λ source. Leads source (says_on (machine_of x s source) (lines_on t hs line (page_of s)) (page_of s)) (filled_to text₀ log₀ c₀ s.page) (says_on (machine_of x s source) (drop k (lines_on t hs line (page_of s))) p) (filled_to text log c p.number))
-  pub fit : AllFit (drop k (lines_on t hs line (page_of s)))
-  pub few : c.asked + fields_in (drop k (lines_on t hs line (page_of s))) ≤ c₀.asked + fields_in (lines_on t hs line (page_of s))
-  pub row : p.row + length (drop k (lines_on t hs line (page_of s))) ≤ 62
-  pub ready : LinesReady x s t (lines_on t hs line (page_of s)) text₀ c₀
-  pub led : lead ≡ lead_of hs (page_of s)
+pub record InLines (x : Lent) (s : Scene) (p₀ : Page) (t : List ℕ) (hs : List Heading) (line : Heading) (lead : ℕ) (text₀ : List ℕ) (m₀ : ℕ) (log₀ : Log) (k : ℕ) (p : Page) (text : List ℕ) (m : ℕ) (log : Log) : Type 0 where
+  pub here : Sourced x (λ source. Leads source (says_on (machine_of x s source) (lines_on t hs line p₀) p₀) (filled_to text₀ m₀ log₀ p₀.number) (says_on (machine_of x s source) (drop k (lines_on t hs line p₀)) p) (filled_to text m log p.number))
+  pub fit : AllFit (drop k (lines_on t hs line p₀))
+  pub few : log.asked + fields_in (drop k (lines_on t hs line p₀)) ≤ log₀.asked + fields_in (lines_on t hs line p₀)
+  pub row : p.row + length (drop k (lines_on t hs line p₀)) ≤ 62
+  pub ready : LinesReady x s p₀ t (lines_on t hs line p₀) text₀ m₀ log₀
+  pub led : lead ≡ lead_of hs p₀
   pub nine : length hs ≤ 9
-  pub room : c.printed ≤ length text
+  pub room : m ≤ length text
   pub kept : length text ≡ length text₀
 
-pub lines_begin : (x : Lent) (s : Scene) (t : List ℕ) (hs : List Heading) (line : Heading) (lead : ℕ) (text log : List ℕ) (c : Counts) → LinesReady x s t (lines_on t hs line (page_of s)) text c → lead ≡ lead_of hs (page_of s) → length hs ≤ 9 → InLines x s t hs line lead text log c 0 (page_of s) text log c
-lines_begin x s t hs line lead text log c h e n = record {
-  here = λ b cs z. leads_start (answers x.store b) (says_on (machine_of x s (answers x.store b)) (lines_on t hs line (page_of s)) (page_of s)) (filled_to text log c s.page);
+pub lines_begin : (x : Lent) (s : Scene) (p : Page) (t : List ℕ) (hs : List Heading) (line : Heading) (lead : ℕ) (text : List ℕ) (m : ℕ) (log : Log) → LinesReady x s p t (lines_on t hs line p) text m log → lead ≡ lead_of hs p → length hs ≤ 9 → InLines x s p t hs line lead text m log 0 p text m log
+lines_begin x s p t hs line lead text m log h e n = record {
+  here = λ b cs z. leads_start (answers x.store b) (says_on (machine_of x s (answers x.store b)) (lines_on t hs line p) p) (filled_to text m log p.number);
   fit = h.fit;
   few = omega arith;
   row = h.row;
@@ -68,30 +66,30 @@ lines_begin x s t hs line lead text log c h e n = record {
   kept = refl;
 }
 
-module _ {x : Lent} {s : Scene} {t : List ℕ} {hs : List Heading} {line : Heading} {lead : ℕ} {text₀ log₀ : List ℕ} {c₀ : Counts} {k : ℕ} {p : Page} {text log : List ℕ} {c : Counts} (i : InLines x s t hs line lead text₀ log₀ c₀ k p text log c) where
+module _ {x : Lent} {s : Scene} {p₀ : Page} {t : List ℕ} {hs : List Heading} {line : Heading} {lead : ℕ} {text₀ : List ℕ} {m₀ : ℕ} {log₀ : Log} {k : ℕ} {p : Page} {text : List ℕ} {m : ℕ} {log : Log} (i : InLines x s p₀ t hs line lead text₀ m₀ log₀ k p text m log) where
   abbrev ds : List Due
-  ds = lines_on t hs line (page_of s)
+  ds = lines_on t hs line p₀
 
   count : length ds ≡ lead + 1
-  count = lines_count t hs line (page_of s) ∙ ap (λ (n : ℕ). n + 1) (sym i.led)
+  count = lines_count t hs line p₀ ∙ ap (λ (n : ℕ). n + 1) (sym i.led)
 
-  module _ (h : k ≤ lead) {next : Heading} (named : next ≡ line_due hs lead k line) where
+  module _ (h : k < lead + 1) {next : Heading} (named : next ≡ line_due hs lead k line) where
     left : drop k ds ≡ due_of t next ∷ drop (k + 1) ds
     left =
-        let e : get_or ds k (due_of t line) ≡ due_of t next = line_at t hs line (page_of s) i.nine k (due_of t line) (omega (arith, i.led)) ∙ ap (due_of t) (sym (rw i.led at named)) in
+        let e : get_or ds k (due_of t line) ≡ due_of t next = line_at t hs line p₀ i.nine k (due_of t line) (omega (arith, i.led)) ∙ ap (due_of t) (sym (rw i.led at named)) in
         rw add-one (drop-cons ds k (due_of t line) (omega (arith, count)) ∙ ap (λ (d : Due). d ∷ drop (suc k) ds) e)
 
     fit' : AllFit (due_of t next ∷ drop (k + 1) ds)
     fit' = rw left at i.fit
 
-    few' : c.asked + (field_count (pieces_of (bytes_of t next) next.from) + fields_in (drop (k + 1) ds)) ≤ c₀.asked + fields_in ds
+    few' : log.asked + (field_count (pieces_of (bytes_of t next) next.from) + fields_in (drop (k + 1) ds)) ≤ log₀.asked + fields_in ds
     few' = rw left at i.few
 
     pub line_row : p.row + 1 + length (drop (k + 1) ds) ≤ 62
     line_row = omega (arith, i.row, ap length left)
 
     module _ {y : Scene} {body : List ℕ} (hy : y ≡ scene_on s p next.number) (hb : body ≡ bytes_of t next) where
-      pub line_ready : Sayable x y.datasource body next.from c.asked × (c.printed ≤ length text)
+      pub line_ready : Sayable x y.datasource body next.from log.asked × (m ≤ length text)
       line_ready = rw (hy, hb) (
         record {
           fits = fit'.0;
@@ -109,29 +107,29 @@ module _ {x : Lent} {s : Scene} {t : List ℕ} {hs : List Heading} {line : Headi
       abbrev rest : (Question → Answer) → Page → Meaning Page
       rest source _ = says_on (machine_of x s source) (drop (k + 1) ds) (advanced_of p)
 
-      here' : Sourced x (λ source. Leads source (says_on (machine_of x s source) ds (page_of s)) (filled_to text₀ log₀ c₀ s.page) (bind (one source) (rest source)) (filled_to text log c p.number))
+      here' : Sourced x (λ source. Leads source (says_on (machine_of x s source) ds p₀) (filled_to text₀ m₀ log₀ p₀.number) (bind (one source) (rest source)) (filled_to text m log p.number))
       here' b cs z = rw left at (i.here b cs z)
 
-      module _ {text' log' : List ℕ} {r : Told} (d : Tells x y body next.from text log c text' log' r) where
-        told : Tells x (scene_on s p next.number) (bytes_of t next) next.from text log c text' log' r
-        told = rw (hy, hb) at d
+      module _ {text' : List ℕ} {m' : ℕ} {log' : Log} where
+        told : {r : Result (Unit {0}) Stop} → Tells x y body next.from text m log text' m' log' r → Tells x (scene_on s p next.number) (bytes_of t next) next.from text m log text' m' log' r
+        told d = rw (hy, hb) at d
 
-        pub line_same : length text' ≡ length text₀
-        line_same = d.kept ∙ i.kept
+        pub line_same : {r : Result (Unit {0}) Stop} → Tells x y body next.from text m log text' m' log' r → length text' ≡ length text₀
+        line_same d = d.kept ∙ i.kept
 
-        pub line_over : (a : Halt) (l : ℕ) → r.end ≡ Halted a l → SaysLines x s ds text₀ log₀ c₀ text' log' (record { end = r.end; page = p; counts = r.counts })
+        pub line_over : {e : Stop} → Tells x y body next.from text m log text' m' log' (Err e) → SaysLines x s p₀ ds text₀ m₀ log₀ p text' m' log' (Err e)
         unfolding say_meaning
-        line_over a l e = record {
-          does = λ b cs z. rw e (leads_over (one (answers x.store b)) (rest (answers x.store b)) (here' b cs z) (then_over (λ _. done (advanced_of p)) (rw e at (told.does b cs z p.number))));
+        line_over d = record {
+          does = λ b cs z. leads_over (one (answers x.store b)) (rest (answers x.store b)) (here' b cs z) (then_over (λ _. done (advanced_of p)) ((told d).does b cs z p.number));
           few = omega (arith, few', d.few, ap (λ (l : List ℕ). field_count (pieces_of l next.from)) hb);
-          kept = line_same;
+          kept = line_same d;
           room = omega (arith, d.room, i.kept);
         }
 
-        pub line_next : (p' : Page) → r.end ≡ Finished → p' ≡ advanced_of p → InLines x s t hs line lead text₀ log₀ c₀ (k + 1) p' text' log' r.counts
+        pub line_next : {u : Unit {0}} → Tells x y body next.from text m log text' m' log' (Ok u) → (p' : Page) → p' ≡ advanced_of p → InLines x s p₀ t hs line lead text₀ m₀ log₀ (k + 1) p' text' m' log'
         unfolding say_meaning
-        line_next p' e hp = rw hp (record {
-          here = λ b cs z. leads_next (one (answers x.store b)) (rest (answers x.store b)) (here' b cs z) (then_does (λ _. done (advanced_of p)) (rw e at (told.does b cs z p.number)) (does_done (answers x.store b) (filled_to text' log' r.counts p.number) (advanced_of p)));
+        line_next d p' hp = rw hp (record {
+          here = λ b cs z. leads_next (one (answers x.store b)) (rest (answers x.store b)) (here' b cs z) (then_does (λ _. done (advanced_of p)) ((told d).does b cs z p.number) (does_done (answers x.store b) (filled_to text' m' log' p.number) (advanced_of p)));
           fit = fit'.1;
           few = omega (arith, few', d.few, ap (λ (l : List ℕ). field_count (pieces_of l next.from)) hb);
           row = line_row;
@@ -139,10 +137,10 @@ module _ {x : Lent} {s : Scene} {t : List ℕ} {hs : List Heading} {line : Headi
           led = i.led;
           nine = i.nine;
           room = omega (arith, d.room, d.kept);
-          kept = line_same;
+          kept = line_same d;
         })
 
-  pub lines_said : lead < k → SaysLines x s ds text₀ log₀ c₀ text log (record { end = Finished; page = p; counts = c })
+  pub lines_said : lead + 1 ≤ k → SaysLines x s p₀ ds text₀ m₀ log₀ p text m log (Ok tt)
   lines_said h = record {
     does = λ b cs z. leads_end (rw (drop_of_length-le ds {i = k} (omega (arith, count))) at (i.here b cs z));
     few = omega (arith, i.few);
@@ -160,61 +158,57 @@ fields_last : (ds : List Due) (d : Due) → fields_in (ds ++ (d ∷ [])) ≡ fie
 fields_last [] d = omega arith
 fields_last (x ∷ ds) d = omega (arith, fields_last ds d)
 
-module _ (x : Lent) (s : Scene) (t : List ℕ) (hs : List Heading) (feeds : Bool) (line : Heading) (text log : List ℕ) (c : Counts) (h : StepReady x s t hs line text c) where
+module _ (x : Lent) (s : Scene) (p : Page) (t : List ℕ) (hs : List Heading) (feeds : Bool) (line : Heading) (text : List ℕ) (m : ℕ) (log : Log) (h : StepReady x s p t hs line text m log) where
   abbrev heads : List Due
   heads = shown t line.number hs
 
   abbrev then_lines : (Question → Answer) → Page → Meaning Page
   then_lines source p = bind (top_meaning (machine_of x s source) t line.number hs p) (λ q. say_meaning (machine_of x s source) (bytes_of t line) 0 line.number q)
 
-  module _ (text₁ : List ℕ) (r₁ : Turned) (d₁ : Turns line.number feeds (page_of s) text c.printed text₁ r₁) where
-    -- the break is printed
-    abbrev c₁ : Counts
-    c₁ = record { printed = r₁.printed; asked = c.asked; places = c.places }
+  module _ (p₁ : Page) (text₁ : List ℕ) (m₁ : ℕ) where
+    abbrev pub Turned : Result (Unit {0}) Stop → Type 0
+    Turned r = Turns line.number feeds p text m p₁ text₁ m₁ r
 
     -- the break didn't fit
-    pub step_over : (a : Halt) (k : ℕ) → r₁.end ≡ Halted a k → Steps x s t hs feeds line text log c text₁ log (record { end = r₁.end; page = r₁.page; counts = c₁ })
+    pub step_over : (e : Stop) → Turned (Err e) → Steps x s p t hs feeds line text m log p₁ text₁ m₁ log (Err e)
     unfolding line_step
-    step_over a k e = record {
-      does = λ b cs z. rw e (then_over (then_lines (answers x.store b)) (rw e at (d₁.does (answers x.store b) (questions log) c.asked c.places)));
+    step_over e d = record {
+      does = λ b cs z. then_over (then_lines (answers x.store b)) (d.does (answers x.store b) (questions log.words) log.asked log.places);
       few = omega arith;
-      kept = d₁.kept;
-      room = d₁.room;
+      kept = d.kept;
+      room = d.room;
     }
 
-    few : fields_in (lines_on t hs line r₁.page) ≤ fields_in heads + field_count (pieces_of (bytes_of t line) line.from)
-    few = lines_by t line.number hs r₁.page (due_of t line) (λ ds. fields_in ds ≤ fields_in heads + field_count (pieces_of (bytes_of t line) line.from)) (omega arith) (λ _. omega (arith, fields_last heads (due_of t line)))
+    few : fields_in (lines_on t hs line p₁) ≤ fields_in heads + field_count (pieces_of (bytes_of t line) line.from)
+    few = lines_by t line.number hs p₁ (due_of t line) (λ ds. fields_in ds ≤ fields_in heads + field_count (pieces_of (bytes_of t line) line.from)) (omega arith) (λ _. omega (arith, fields_last heads (due_of t line)))
 
-    module _ (y : Scene) (hy : y ≡ scene_on s r₁.page line.number) where
-      pub step_lines_ready : LinesReady x y t (lines_on t hs line (page_of y)) text₁ c₁
-      step_lines_ready = rw hy (record {
-        fit = lines_by t line.number hs r₁.page (due_of t line) AllFit (h.fits, tt) (λ _. fit_last heads (due_of t line) h.heads h.fits);
+    module _ (u : Unit {0}) (d₁ : Turned (Ok u)) where
+      pub step_lines_ready : LinesReady x s p₁ t (lines_on t hs line p₁) text₁ m₁ log
+      step_lines_ready = record {
+        fit = lines_by t line.number hs p₁ (due_of t line) AllFit (h.fits, tt) (λ _. fit_last heads (due_of t line) h.heads h.fits);
         logged = omega (arith, few, h.logged);
         short_template = h.short_template;
         short_store = h.short_store;
         datasource = h.datasource;
         room = omega (arith, d₁.room, d₁.kept);
-        row = lines_few t line.number hs r₁.page (due_of t line) 61 d₁.row (omega arith);
-      })
+        row = lines_few t line.number hs p₁ (due_of t line) 61 d₁.row (omega arith);
+      }
 
-      module _ (e₁ : r₁.end ≡ Finished) (text₂ log₂ : List ℕ) (r₂ : Paged) (d₂ : SaysLines x y (lines_on t hs line (page_of y)) text₁ log c₁ text₂ log₂ r₂) where
-        on_page : SaysLines x (scene_on s r₁.page line.number) (lines_on t hs line r₁.page) text₁ log c₁ text₂ log₂ r₂
-        on_page = rw hy at d₂
-
+      module _ (p₂ : Page) (text₂ : List ℕ) (m₂ : ℕ) (log₂ : Log) (r : Result (Unit {0}) Stop) (d₂ : SaysLines x s p₁ (lines_on t hs line p₁) text₁ m₁ log p₂ text₂ m₂ log₂ r) where
         text_due_law : due_of t line ≡ text_due line.number (bytes_of t line)
         text_due_law = λ i. record { bytes = bytes_of t line; from = h.first i; number = line.number }
 
-        said : SaysLines x (scene_on s r₁.page line.number) (lines_due t line.number hs (bytes_of t line) r₁.page) text₁ log c₁ text₂ log₂ r₂
-        said = rw text_due_law at on_page
+        said : SaysLines x s p₁ (lines_due t line.number hs (bytes_of t line) p₁) text₁ m₁ log p₂ text₂ m₂ log₂ r
+        said = rw text_due_law at d₂
 
         pub step_same : length text₂ ≡ length text
         step_same = d₂.kept ∙ d₁.kept
 
-        pub steps : Steps x s t hs feeds line text log c text₂ log₂ r₂
+        pub steps : Steps x s p t hs feeds line text m log p₂ text₂ m₂ log₂ r
         unfolding line_step
         steps = record {
-          does = λ b cs z. then_does (then_lines (answers x.store b)) (rw e₁ at (d₁.does (answers x.store b) (questions log) c.asked c.places)) (rw (top_says (machine_of x s (answers x.store b)) t line.number (bytes_of t line) hs r₁.page, ← says_same (machine_of x s (answers x.store b)) r₁.page (lines_due t line.number hs (bytes_of t line) r₁.page) r₁.page) (said.does b cs z));
-          few = omega (arith, on_page.few, few);
+          does = λ b cs z. then_does (then_lines (answers x.store b)) (d₁.does (answers x.store b) (questions log.words) log.asked log.places) (rw (top_says (machine_of x s (answers x.store b)) t line.number (bytes_of t line) hs p₁) (said.does b cs z));
+          few = omega (arith, d₂.few, few);
           kept = step_same;
           room = omega (arith, d₂.room, d₁.kept);
         }

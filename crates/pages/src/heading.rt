@@ -17,20 +17,15 @@ pub struct Heading {
     pub number: u32,
 }
 
-fn wide(n: usize) -> u64
-    ensures { result ≡ n }
-{
-    n as u64
-}
-
 pub fn packed(heading: Heading) -> u64
     requires { Small heading }
     ensures { heading_in result ≡ heading }
 {
-    let line = wide(heading.start) * 256 + wide(heading.length);
-    (line * 256 + wide(heading.from)) * 65536 + heading.number as u64
+    let line = heading.start as u64 * 256 + heading.length as u64;
+    (line * 256 + heading.from as u64) * 65536 + heading.number as u64
 }
 
+#[tactic(auto, unfolding(crate::specs::Inner::Packed::heading_in))]
 fn unpacked(word: u64) -> Heading
     ensures { result ≡ heading_in word }
 {

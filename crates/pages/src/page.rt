@@ -3,7 +3,7 @@ ghost use Rattle.std.specs.Prelude.{◌≡◌, ◌≤◌, ◌<◌};
 ghost use Rattle.pages.specs.Page.{new_page, broken_of, advanced_of};
 ghost use Rattle.pages.specs.Inner.Paging.{TurnReady, Breaks, Turns};
 
-use meaning::end::{Ended, Halt};
+use meaning::end::Stop;
 use meaning::refusal::Overflow;
 
 // PAGENUM and LINENUM, which is the next line.
@@ -44,53 +44,41 @@ impl Page {
     }
 }
 
-#[derive(Clone, Copy)]
-pub struct Turned {
-    pub end: Ended,
-    pub page: Page,
-    pub printed: usize,
-}
-
 // "A break writes 0x0C (nothing under $NOFF)"
-pub fn break_page(page: Page, feeds: bool, number: u32, text: &mut [u8], printed: usize) -> Turned
-    requires { TurnReady page text.old printed }
-    ensures { Breaks number feeds page text.old printed text.new result }
+pub fn break_page(
+    page: &mut Page,
+    feeds: bool,
+    number: u32,
+    text: &mut [u8],
+    printed: &mut usize,
+) -> Result<(), Stop>
+    requires { TurnReady page.old text.old printed.old }
+    ensures { Breaks number feeds page.old text.old printed.old page.new text.new printed.new result }
 {
     if feeds {
-        if printed < text.len() {
-            text[printed] = 12;
-            let next = page.broken();
-            return Turned {
-                end: Ended::Finished,
-                page: next,
-                printed: printed + 1,
-            };
+        if text.len() <= *printed {
+            return Err(Stop::cut(Overflow::Output, number));
         }
-        return Turned {
-            end: Ended::Halted(Halt::Cut(Overflow::Output), number),
-            page,
-            printed,
-        };
+        text[*printed] = 12;
+        *printed += 1;
     }
-    let next = page.broken();
-    Turned {
-        end: Ended::Finished,
-        page: next,
-        printed,
-    }
+    *page = page.broken();
+    Ok(())
 }
 
 // "Before a text line, LINENUM 61 causes a break".
-pub fn turn(page: Page, feeds: bool, number: u32, text: &mut [u8], printed: usize) -> Turned
-    requires { TurnReady page text.old printed }
-    ensures { Turns number feeds page text.old printed text.new result }
+pub fn turn(
+    page: &mut Page,
+    feeds: bool,
+    number: u32,
+    text: &mut [u8],
+    printed: &mut usize,
+) -> Result<(), Stop>
+    requires { TurnReady page.old text.old printed.old }
+    ensures { Turns number feeds page.old text.old printed.old page.new text.new printed.new result }
 {
     if page.row <= Page::LIMIT {
-        return Turned {
-            end: Ended::Finished,
-            page,
-            printed,
-        };
+        return Ok(());
     }
     break_page(page, feeds, number, text, printed)
 }

@@ -4,34 +4,33 @@ ghost use Rattle.values.specs.Inner.State.{headings_in};
 ghost use Rattle.pages.specs.Inner.Packed.{headings_of};
 ghost use Rattle.pages.specs.Inner.Pass.{lent};
 ghost use Rattle.pages.specs.Inner.Listing.{lead_of, line_due, lines_on};
-ghost use Rattle.pages.specs.Inner.Paging.{page_of, scene_on, LinesReady, SaysLines, StepReady, Steps};
+ghost use Rattle.pages.specs.Inner.Paging.{scene_on, LinesReady, SaysLines, StepReady, Steps};
 
 use crate::heading::Heading;
 use crate::page::Page;
 use crate::{heading, page, text};
-use meaning::count::Counts;
-use meaning::end::Ended;
+use meaning::end::Stop;
 use scan::bytes;
+use values::log::Log;
 use values::registers::{Numbers, Words};
 use values::scene::Scene;
 
 // How many lines come before a text line: on a page that has no line yet the headings up to the highest defined, and the blank
 // line below them.
+#[tactic(auto, using(crate::proofs::Highest::highest_most), unfolding(crate::specs::Page::highest_defined, crate::specs::Inner::Listing::lead_of))]
 fn leading(words: &Words, page: Page) -> usize
     ensures { (result ≡ lead_of (headings_of (headings_in words.now)) page) × (result ≤ 10) }
 {
     if page.row != 1 {
         return 0;
     }
-    let mut k = 9;
-    while 0 < k {
-        let heading = heading::heading_at(words, k - 1);
-        if heading.number != 0 {
-            return k + 1;
+    let mut highest = 0;
+    for k in 0..9 {
+        if heading::heading_at(words, k).number != 0 {
+            highest = k + 1;
         }
-        k -= 1;
     }
-    0
+    if highest == 0 { 0 } else { highest + 1 }
 }
 
 // The k-th line due, where so many come before the text line. An undefined heading is blank, as the one above the highest is.
@@ -51,13 +50,6 @@ fn line_due(words: &Words, lead: usize, k: usize, line: Heading) -> Heading
         };
     }
     heading
-}
-
-#[derive(Clone, Copy)]
-pub struct Paged {
-    pub end: Ended,
-    pub page: Page,
-    pub counts: Counts,
 }
 
 // What a line is executed in on a page, where it names the line `number`.
@@ -81,46 +73,27 @@ fn say_lines<'a>(
     numbers: &'a Numbers,
     strings: &'a [[u8; 16]; 99],
     words: &'a Words,
-    log: &mut [u64; 512],
+    log: &mut Log,
     text: &mut [u8],
+    printed: &mut usize,
+    page: &mut Page,
     scene: Scene,
     line: Heading,
-    counts: Counts,
-) -> Paged
-    requires { LinesReady (lent store.now index.now numbers.now strings.now words.now) scene template.now (lines_on template.now (headings_of (headings_in words.now)) line (page_of scene)) text.old counts }
-    ensures { SaysLines (lent store.now index.now numbers.now strings.now words.now) scene (lines_on template.now (headings_of (headings_in words.now)) line (page_of scene)) text.old log.old counts text.new log.new result }
+) -> Result<(), Stop>
+    requires { LinesReady (lent store.now index.now numbers.now strings.now words.now) scene page.old template.now (lines_on template.now (headings_of (headings_in words.now)) line page.old) text.old printed.old log.old }
+    ensures { SaysLines (lent store.now index.now numbers.now strings.now words.now) scene page.old (lines_on template.now (headings_of (headings_in words.now)) line page.old) text.old printed.old log.old page.new text.new printed.new log.new result }
 {
-    let mut top = Page {
-        number: scene.page,
-        row: scene.row,
-    };
-    let lead = leading(words, top);
-    let mut k = 0;
-    let mut filled = counts;
-    while k <= lead {
+    let lead = leading(words, *page);
+    for k in 0..lead + 1 {
         let next = line_due(words, lead, k, line);
         let body = bytes::part(template, next.start, next.length);
-        let here = scene_on(scene, top, next.number);
-        let told = text::text_line(
-            body, next.from, store, index, numbers, strings, words, log, text, here, filled,
-        );
-        let end = told.end;
-        filled = told.counts;
-        let Ended::Finished = end else {
-            return Paged {
-                end,
-                page: top,
-                counts: filled,
-            };
-        };
-        top = top.advanced();
-        k += 1;
+        let here = scene_on(scene, *page, next.number);
+        text::text_line(
+            body, next.from, store, index, numbers, strings, words, log, text, printed, here,
+        )?;
+        *page = page.advanced();
     }
-    Paged {
-        end: Ended::Finished,
-        page: top,
-        counts: filled,
-    }
+    Ok(())
 }
 
 // A text line with what comes before it: a break, then the lines due on the page.
@@ -131,37 +104,19 @@ pub fn step<'a>(
     numbers: &'a Numbers,
     strings: &'a [[u8; 16]; 99],
     words: &'a Words,
-    log: &mut [u64; 512],
+    log: &mut Log,
     text: &mut [u8],
+    printed: &mut usize,
+    page: &mut Page,
     scene: Scene,
     feeds: bool,
     line: Heading,
-    counts: Counts,
-) -> Paged
-    requires { StepReady (lent store.now index.now numbers.now strings.now words.now) scene template.now (headings_of (headings_in words.now)) line text.old counts }
-    ensures { Steps (lent store.now index.now numbers.now strings.now words.now) scene template.now (headings_of (headings_in words.now)) feeds line text.old log.old counts text.new log.new result }
+) -> Result<(), Stop>
+    requires { StepReady (lent store.now index.now numbers.now strings.now words.now) scene page.old template.now (headings_of (headings_in words.now)) line text.old printed.old log.old }
+    ensures { Steps (lent store.now index.now numbers.now strings.now words.now) scene page.old template.now (headings_of (headings_in words.now)) feeds line text.old printed.old log.old page.new text.new printed.new log.new result }
 {
-    let page = Page {
-        number: scene.page,
-        row: scene.row,
-    };
-    let turned = page::turn(page, feeds, line.number, text, counts.printed);
-    let end = turned.end;
-    let top = turned.page;
-    let filled = Counts {
-        printed: turned.printed,
-        asked: counts.asked,
-        places: counts.places,
-    };
-    let Ended::Finished = end else {
-        return Paged {
-            end,
-            page: top,
-            counts: filled,
-        };
-    };
-    let here = scene_on(scene, top, line.number);
+    page::turn(page, feeds, line.number, text, printed)?;
     say_lines(
-        template, store, index, numbers, strings, words, log, text, here, line, filled,
+        template, store, index, numbers, strings, words, log, text, printed, page, scene, line,
     )
 }

@@ -1,4 +1,7 @@
 -- A report asks only questions within their limits: `ask` would refuse none of its read list with 15.
+use Rattle.meaning.specs.declared.refusal.Refusal.{Refusal}
+use Rattle.template.specs.declared.Extent.{Extent}
+use Rattle.std.specs.Prelude.{Result, Ok, Err}
 use mathlib.Core.Path.{◌≡◌, refl}
 use mathlib.Core.Bool.{Bool, true, false, cond}
 use mathlib.Core.List.{List}
@@ -7,8 +10,6 @@ use native.Mathlib.Omega.{arith}
 use borrow.Author.Tests.{ltb-true}
 use lib.Dec.{ltb}
 use lib.ListN.{length}
-use Rattle.template.specs.declared.Checked.{Checked}
-use Rattle.template.specs.declared.Checked.TheVariants.{Accepted, Refused}
 use Rattle.template.specs.Order.{template_checked}
 use Rattle.template.proofs.Accepted.{accepted_runs}
 use Rattle.cells.specs.Store.{cells_held, holds_cells}
@@ -57,9 +58,9 @@ pub questions_allowed : (t name b : List ℕ) (n places room : ℕ) → EachAllo
 unfolding report_of checked_outcome
 questions_allowed t name b n places room = by (holds_cells (cells_held b n))
   where
-    checked : (k : Checked) → template_checked t name ≡ k → EachAllowed (checked_outcome t (answers b n) places room k)
-    checked (Accepted r) e = asks_run AnswerWithin Allowed (answers b n) (answers_within b n) places room (run_meaning t r) (run_asks 50000 t r.until 1 (start_of r) 0 (accepted_runs t name r e).inside (omega arith) (start_on t name r e) (start_in_range r))
-    checked (Refused e l) i = tt
+    checked : (k : Result Extent (Refusal × ℕ)) → template_checked t name ≡ k → EachAllowed (checked_outcome t (answers b n) places room k)
+    checked (Ok r) e = asks_run AnswerWithin Allowed (answers b n) (answers_within b n) places room (run_meaning t r) (run_asks 50000 t r.until 1 (start_of r) 0 (accepted_runs t name r e).inside (omega arith) (start_on t name r e) (start_in_range r))
+    checked (Err (e, l)) i = tt
 
     by : (f : Bool) → EachAllowed (cond f (checked_outcome t (answers b n) places room (template_checked t name)) (refused_report BadStore 0))
     by true = checked (template_checked t name) refl

@@ -11,10 +11,10 @@ use lib.ListN.{length, get_or, set, take, drop, length-set}
 use lib.Seq.{sets}
 use Rattle.meaning.specs.declared.question.Question.{Question}
 use Rattle.values.specs.Inner.Word.{unpacked, questions}
-use Rattle.report.specs.declared.state.Log.{Log}
+use Rattle.report.specs.declared.state.Batch.{Batch}
 
 -- with i questions of the log added, zs is the list: what the rest adds to it is what the whole adds to ys
-pub record Added (ys : List Question) (l : Log) (i : ℕ) (zs : List Question) : Type 0 where
+pub record Added (ys : List Question) (l : Batch) (i : ℕ) (zs : List Question) : Type 0 where
   pub rest : sets zs (l.at + i) (take (l.n - i) (drop i (questions l.words))) ≡ sets ys l.at (take l.n (questions l.words))
   pub same : length zs ≡ length ys
   pub most : i ≤ l.n
@@ -37,7 +37,7 @@ plus_next p i = omega arith
 next : (i : ℕ) → i + 1 ≡ suc i
 next i = omega arith
 
-module _ (ys : List Question) (l : Log) where
+module _ (ys : List Question) (l : Batch) where
   abbrev qs : List Question
   qs = questions l.words
 

@@ -1,17 +1,14 @@
 -- The answers of `begin`: the call is refused, or the run may start.
+use Rattle.std.specs.Prelude.{Option, Some, None, Result, Ok, Err}
 use mathlib.Core.Path.{◌≡◌, refl, sym, ◌∙◌, subst}
 use mathlib.Core.Bool.{false≢true}
 use mathlib.Core.List.{List}
 use Prim.Native.Nat.{ℕ, ◌≤◌}
 use lib.ListN.{length}
 use Rattle.template.specs.declared.Extent.{Extent}
-use Rattle.template.specs.declared.Checked.{Checked}
-use Rattle.template.specs.declared.Checked.TheVariants.{Accepted, Refused}
 use Rattle.template.specs.Order.{template_checked}
 use Rattle.cells.specs.Store.{cells_held, holds_cells}
 use Rattle.cells.specs.Inner.Index.{Indexes}
-use Rattle.cells.specs.declared.index.Indexed.{Indexed}
-use Rattle.cells.specs.declared.index.Indexed.TheVariants.{Count, BadStore}
 use Rattle.cells.proofs.Replies.{not_held}
 use Rattle.meaning.specs.Event.{joined}
 use Rattle.meaning.specs.declared.refusal.Refusal.{Refusal}
@@ -23,7 +20,7 @@ use Rattle.report.specs.Inner.Begun.{Begun}
 use Rattle.report.proofs.Starting.{starts_at, none_remembered}
 use Rattle.report.proofs.Stored.{Serving, part_kept}
 
-module _ (t name b : List ℕ) (n places : ℕ) (p p' : List ℕ) (x : Indexed) (y : Indexes p (cells_held b n) p' x) (r : Stretch) where
+module _ (t name b : List ℕ) (n places : ℕ) (p p' : List ℕ) (x : Option ℕ) (y : Indexes p (cells_held b n) p' x) (r : Stretch) where
   refused_begun : (e : Refusal) (l : ℕ) → ((room : ℕ) → report_of t name b n places room ≡ refused_report e l) → r ≡ refused_at e l → Begun t name b n places p' r
   unfolding refused_at joined
   refused_begun e l i j = subst (Begun t name b n places p') (sym j) begun
@@ -49,20 +46,20 @@ module _ (t name b : List ℕ) (n places : ℕ) (p p' : List ℕ) (x : Indexed) 
       }
 
   -- 1
-  pub bad_store : x ≡ BadStore → r ≡ refused_at refusal.BadStore 0 → Begun t name b n places p' r
+  pub bad_store : x ≡ None → r ≡ refused_at refusal.BadStore 0 → Begun t name b n places p' r
   unfolding report_of holds_cells
   bad_store e j = refused_begun refusal.BadStore 0 (λ room. rw (not_held b n p p' x y e)) j
 
-  module _ (count : ℕ) (e : x ≡ Count count) (l : 5461 ≤ length p) (k : Checked) (c : k ≡ template_checked t name) where
+  module _ (count : ℕ) (e : x ≡ Some count) (l : 5461 ≤ length p) (k : Result Extent (Refusal × ℕ)) (c : k ≡ template_checked t name) where
     indexed : Serving b n p' count
     indexed = part_kept b n p p' x y count e l
 
     -- 2 to 6
-    pub template_refused : (f : Refusal) (line : ℕ) → k ≡ Refused f line → r ≡ refused_at f line → Begun t name b n places p' r
+    pub template_refused : (f : Refusal) (line : ℕ) → k ≡ Err (f, line) → r ≡ refused_at f line → Begun t name b n places p' r
     unfolding report_of holds_cells checked_outcome
     template_refused f line i j = refused_begun f line (λ room. rw (indexed.holds, sym c ∙ i)) j
 
-    pub may_start : (s : Extent) → k ≡ Accepted s → r ≡ started_at s n count places → Begun t name b n places p' r
+    pub may_start : (s : Extent) → k ≡ Ok s → r ≡ started_at s n count places → Begun t name b n places p' r
     unfolding started_at start_saved start_flow
     may_start s i j = subst (Begun t name b n places p') (sym j) begun
       where

@@ -11,12 +11,10 @@ use Rattle.cells.specs.Store.{holds_cells}
 use Rattle.meaning.specs.Answer.{Answer}
 use Rattle.meaning.specs.Tree.{End, finished, run}
 use Rattle.meaning.specs.Inner.Place.{Place, at, Does}
-use Rattle.meaning.specs.Number.{number_of, line_named, end_of}
+use Rattle.meaning.specs.Number.{number_of, line_named, ended_in}
 use Rattle.meaning.specs.Meaning.{Meaning}
 use Rattle.meaning.specs.declared.question.Question.{Question}
 use Rattle.meaning.specs.declared.refusal.Refusal.{Refusal}
-use Rattle.meaning.specs.declared.end.Ended.{Ended}
-use Rattle.meaning.specs.declared.end.Ended.TheVariants.{Finished, Halted}
 use Rattle.meaning.proofs.Doing.{text_kept}
 use Rattle.meaning.proofs.Looping.{Leads, leads_start, leads_next}
 use Rattle.meaning.proofs.Moving.{asked_most, moved}
@@ -34,6 +32,8 @@ use Rattle.report.proofs.Splitting.{run_split}
 use Rattle.template.proofs.Accepted.{accepted_runs}
 use Rattle.report.proofs.Sounding.{start_standing}
 use Rattle.report.proofs.Stored.{part_held, part_answers}
+use Rattle.meaning.specs.declared.end.Stop.{Stop}
+use Rattle.std.specs.Prelude.{Result, Ok, Err}
 
 -- between two stretches: what the rest does from here, the whole does from the start
 pub record Going (t name b : List ℕ) (n : ℕ) (T₀ : List ℕ) (R₀ : List Question) (v : Saved) (rows : List (List ℕ)) (index T : List ℕ) (R : List Question) : Type 0 where
@@ -59,20 +59,20 @@ empty : length (questions (replicate 512 0)) ≡ 512
 empty = length-map (replicate 512 0) unpacked ∙ length-replicate {A = ℕ} 512 0
 
 -- the number and the line don't hang on what a finished run yields
-end_number : (e : Ended) (s : State) → number_of (end_of (tt {0}) e) ≡ number_of (end_of s e)
-end_number Finished s = refl
-end_number (Halted h l) s = refl
+end_number : (e : Result (Unit {0}) Stop) (s : State) → number_of (ended_in (λ x. x) e) ≡ number_of (ended_in (λ _. s) e)
+end_number (Ok x) s = refl
+end_number (Err h) s = refl
 
-end_line : (e : Ended) (s : State) → line_named (end_of (tt {0}) e) ≡ line_named (end_of s e)
-end_line Finished s = refl
-end_line (Halted h l) s = refl
+end_line : (e : Result (Unit {0}) Stop) (s : State) → line_named (ended_in (λ x. x) e) ≡ line_named (ended_in (λ _. s) e)
+end_line (Ok x) s = refl
+end_line (Err h) s = refl
 
 report_same : {k k' l l' p p' b b' q q' : ℕ} → k ≡ k' → l ≡ l' → p ≡ p' → b ≡ b' → q ≡ q' → ◌≡◌ {A = Report} (record { number = k; line = l; pages = p; bytes = b; questions = q }) (record { number = k'; line = l'; pages = p'; bytes = b'; questions = q' })
 report_same x y z v w = rw (x, y, z, v, w)
 
 -- what a run from the start left behind
-handed : (source : Question → Answer) (tree : Meaning State) (T : List ℕ) (R : List Question) (T' : List ℕ) (R' : List Question) (r : Report) (s : State) (e : Ended) → r.number ≡ number_of (end_of (tt {0}) e) → r.line ≡ line_named (end_of (tt {0}) e)
-    → Does source tree (at T 0 R 0 (length R) 1) (at T' r.bytes R' r.questions (length R) r.pages) (end_of s e) → HandsBack (ran_to (run source (length R) (length T) tree)) T R T' R' r
+handed : (source : Question → Answer) (tree : Meaning State) (T : List ℕ) (R : List Question) (T' : List ℕ) (R' : List Question) (r : Report) (s : State) (e : Result (Unit {0}) Stop) → r.number ≡ number_of (ended_in (λ x. x) e) → r.line ≡ line_named (ended_in (λ x. x) e)
+    → Does source tree (at T 0 R 0 (length R) 1) (at T' r.bytes R' r.questions (length R) r.pages) (ended_in (λ _. s) e) → HandsBack (ran_to (run source (length R) (length T) tree)) T R T' R' r
 handed source tree T R T' R' r s e i j d =
     let y = rw (sub-zero (length R), sub-zero (length T)) at d.did in
     record {
@@ -218,8 +218,8 @@ module _ (t name b : List ℕ) (n : ℕ) (T₀ : List ℕ) (R₀ : List Question
             let y = x.over e in
             rw (g.outcome, reads_are)
             (handed source g.whole T₀ R₀ T' (sets R v.asked (take r.log.n (questions r.log.words))) r.report y.last y.ended y.number y.line
-            (subst (λ (k : ℕ). Does source g.whole P₀ (at T' r.report.bytes (sets R v.asked (take r.log.n (questions r.log.words))) k (length R₀) r.report.pages) (end_of y.last y.ended)) (sym y.questions)
-            (g.leads.leads _ _ (behind (run_from v.left t v.end (state_in v rows b)) r.report.bytes r.report.pages (end_of y.last y.ended) y.does))))
+            (subst (λ (k : ℕ). Does source g.whole P₀ (at T' r.report.bytes (sets R v.asked (take r.log.n (questions r.log.words))) k (length R₀) r.report.pages) (ended_in (λ _. y.last) y.ended)) (sym y.questions)
+            (g.leads.leads _ _ (behind (run_from v.left t v.end (state_in v rows b)) r.report.bytes r.report.pages (ended_in (λ _. y.last) y.ended) y.does))))
 
         pub goes_on : Reached t name b n T₀ R₀ r rows' index' T' R'
         goes_on = record { text_same = text_kept_on; reads_same = reads_kept_on; going = going_on; over = finished_with }

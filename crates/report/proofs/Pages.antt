@@ -1,4 +1,6 @@
 -- No page of a report holds more than 60 lines, and the pages that it reports are those of its events, and PAGENUM at the end.
+use Rattle.meaning.specs.declared.refusal.Refusal.{Refusal}
+use Rattle.std.specs.Prelude.{Result, Ok, Err}
 use mathlib.Core.Path.{◌≡◌, refl, sym, subst}
 use mathlib.Core.Bool.{Bool, true, false, cond}
 use mathlib.Core.List.{List}
@@ -8,8 +10,6 @@ use borrow.Author.Tests.{ltb-true}
 use lib.Dec.{ltb}
 use lib.ListN.{length}
 use Rattle.template.specs.declared.Extent.{Extent}
-use Rattle.template.specs.declared.Checked.{Checked}
-use Rattle.template.specs.declared.Checked.TheVariants.{Accepted, Refused}
 use Rattle.template.specs.Order.{template_checked}
 use Rattle.template.proofs.Accepted.{accepted_runs, Early, refused_early}
 use Rattle.cells.specs.Store.{cells_held, holds_cells}
@@ -58,9 +58,9 @@ pub pages_hold_60 : (t name b : List ℕ) (n places room : ℕ) → Sixty (repor
 unfolding report_of checked_outcome pages_of page_from later_pages
 pages_hold_60 t name b n places room = by (holds_cells (cells_held b n))
   where
-    checked : (k : Checked) → template_checked t name ≡ k → Sixty (checked_outcome t (answers b n) places room k)
-    checked (Accepted r) e = keeps_pages 60 (answers b n) places room (run_meaning t r) Any (run_keeps 50000 t r.until 1 (start_of r) 0 (accepted_runs t name r e).inside (start_on t name r e))
-    checked (Refused e l) i = (omega arith, tt)
+    checked : (k : Result Extent (Refusal × ℕ)) → template_checked t name ≡ k → Sixty (checked_outcome t (answers b n) places room k)
+    checked (Ok r) e = keeps_pages 60 (answers b n) places room (run_meaning t r) Any (run_keeps 50000 t r.until 1 (start_of r) 0 (accepted_runs t name r e).inside (start_on t name r e))
+    checked (Err (e, l)) i = (omega arith, tt)
 
     by : (f : Bool) → Sixty (cond f (checked_outcome t (answers b n) places room (template_checked t name)) (refused_report BadStore 0))
     by true = checked (template_checked t name) refl
@@ -74,9 +74,9 @@ pub pages_reported : (t name b : List ℕ) (n places room : ℕ) → Paged (repo
 unfolding report_of checked_outcome
 pages_reported t name b n places room = by (holds_cells (cells_held b n))
   where
-    checked : (k : Checked) → Early k → Paged (checked_outcome t (answers b n) places room k)
-    checked (Accepted r) e h = sym (page_count (run (answers b n) places room (run_meaning t r)).events)
-    checked (Refused e l) i h = absurd (h (omega (arith, i.0)) i.1)
+    checked : (k : Result Extent (Refusal × ℕ)) → Early k → Paged (checked_outcome t (answers b n) places room k)
+    checked (Ok r) e h = sym (page_count (run (answers b n) places room (run_meaning t r)).events)
+    checked (Err (e, l)) i h = absurd (h (omega (arith, i.0)) i.1)
 
     by : (f : Bool) → Paged (cond f (checked_outcome t (answers b n) places room (template_checked t name)) (refused_report BadStore 0))
     by true h = checked (template_checked t name) (refused_early t name) h

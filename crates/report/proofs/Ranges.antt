@@ -1,4 +1,5 @@
 -- Every state that a run reaches is in range, with any source whose answers lie within their limits, so with any store.
+use Rattle.std.specs.Prelude.{Ok}
 use mathlib.Core.Path.{◌≡◌, refl}
 use mathlib.Core.Bool.{Bool, true, false, cond}
 use mathlib.Core.List.{List}
@@ -8,7 +9,6 @@ use borrow.Author.Tests.{ltb-true}
 use lib.Dec.{ltb}
 use lib.ListN.{length}
 use Rattle.template.specs.declared.Extent.{Extent}
-use Rattle.template.specs.declared.Checked.TheVariants.{Accepted}
 use Rattle.template.specs.Order.{template_checked}
 use Rattle.template.proofs.Accepted.{accepted_runs}
 use Rattle.meaning.specs.Answer.{Answer}
@@ -59,7 +59,7 @@ stretch_in_range (suc k) t end g s c h b i r = by (ltb s.position.at end) refl (
 pub start_in_range : (r : Extent) → InRange (start_of r)
 start_in_range r = range_cleared (start_of r) tt (record { least = omega arith; most = omega arith })
 
-module _ (t name : List ℕ) (r : Extent) (e : template_checked t name ≡ Accepted r) where
+module _ (t name : List ℕ) (r : Extent) (e : template_checked t name ≡ Ok r) where
   -- The state after any number of lines of an accepted template's run, whatever source answers it.
   pub run_in_range : (source : Question → Answer) → ((q : Question) → AnswerWithin (source q)) → (places room k : ℕ) → k ≤ 50000 → (s : State) → (run source places room (stretch k t r.until (start_of r))).end ≡ finished s → Ranged s
   run_in_range source every places room k h s f =

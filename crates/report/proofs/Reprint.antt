@@ -1,12 +1,13 @@
 -- Demand 3 for reports: the same run on the same answers.
+use Rattle.meaning.specs.declared.refusal.Refusal.{Refusal}
+use Rattle.template.specs.declared.Extent.{Extent}
+use Rattle.std.specs.Prelude.{Result, Ok, Err}
 use mathlib.Core.Path.{◌≡◌, refl, sym, ap, ◌∙◌, subst}
 use mathlib.Core.Bool.{Bool, true, false, cond}
 use mathlib.Core.List.{List}
 use Prim.Native.Nat.{ℕ, ◌≤◌}
 use native.Mathlib.Omega.{arith}
 use lib.ListN.{length, take}
-use Rattle.template.specs.declared.Checked.{Checked}
-use Rattle.template.specs.declared.Checked.TheVariants.{Accepted, Refused}
 use Rattle.template.specs.Order.{template_checked}
 use Rattle.history.specs.LentStore as history
 use Rattle.history.specs.LentStore.{in_form, answer_in, AsBefore}
@@ -37,10 +38,10 @@ unfolding report_of checked_outcome
 reprint t name places room es m h = by (in_form m) (in_form (after_changes es m)) (same_form es m) h
   where
     -- checks 2 to 6 don't look at the store
-    checked : (k : Checked) → AsBefore m (after_changes es m) (checked_outcome t (answer_in m) places room k).questions
+    checked : (k : Result Extent (Refusal × ℕ)) → AsBefore m (after_changes es m) (checked_outcome t (answer_in m) places room k).questions
         → checked_outcome t (answer_in (after_changes es m)) places room k ≡ checked_outcome t (answer_in m) places room k
-    checked (Accepted r) h = ap ran_to (sym (same_run es m places room (run_meaning t r) h))
-    checked (Refused e l) h = refl
+    checked (Ok r) h = ap ran_to (sym (same_run es m places room (run_meaning t r) h))
+    checked (Err (e, l)) h = refl
 
     by : (f f' : Bool) → f' ≡ f → AsBefore m (after_changes es m) (cond f (checked_outcome t (answer_in m) places room (template_checked t name)) (refused_report BadStore 0)).questions
         → cond f' (checked_outcome t (answer_in (after_changes es m)) places room (template_checked t name)) (refused_report BadStore 0) ≡ cond f (checked_outcome t (answer_in m) places room (template_checked t name)) (refused_report BadStore 0)
@@ -58,9 +59,9 @@ pub report_fits : (t name b : List ℕ) (n places room : ℕ) → Fits (report_o
 unfolding report_of checked_outcome joined
 report_fits t name b n places room = by (in_form (record { buffer = b; length = n }))
   where
-    checked : (k : Checked) → Fits (checked_outcome t (answers b n) places room k) places room
-    checked (Accepted r) = record { asked = asked_fits (answers b n) places room (run_meaning t r); printed = text_fits_law (answers b n) places room (run_meaning t r) }
-    checked (Refused e l) = record { asked = omega arith; printed = omega arith }
+    checked : (k : Result Extent (Refusal × ℕ)) → Fits (checked_outcome t (answers b n) places room k) places room
+    checked (Ok r) = record { asked = asked_fits (answers b n) places room (run_meaning t r); printed = text_fits_law (answers b n) places room (run_meaning t r) }
+    checked (Err (e, l)) = record { asked = omega arith; printed = omega arith }
 
     by : (f : Bool) → Fits (cond f (checked_outcome t (answers b n) places room (template_checked t name)) (refused_report BadStore 0)) places room
     by true = checked (template_checked t name)

@@ -1,11 +1,11 @@
 -- What holds between lines holds before the first line of an accepted template's run.
+use Rattle.std.specs.Prelude.{Ok}
 use mathlib.Core.Path.{◌≡◌, refl}
 use mathlib.Core.List.{List}
 use Prim.Native.Nat.{ℕ}
 use native.Mathlib.Omega.{arith}
 use lib.ListN.{length-replicate}
 use Rattle.template.specs.declared.Extent.{Extent}
-use Rattle.template.specs.declared.Checked.TheVariants.{Accepted}
 use Rattle.template.specs.Order.{template_checked}
 use Rattle.template.proofs.Accepted.{accepted_runs}
 use Rattle.pages.specs.Heading.{no_heading}
@@ -16,7 +16,7 @@ use Rattle.report.specs.Report.{start_of}
 use Rattle.report.specs.Inner.Stretch.{Standing}
 
 -- The run of an accepted template starts so, on an empty page.
-pub start_on : (t name : List ℕ) (r : Extent) → template_checked t name ≡ Accepted r → On t 1 (start_of r) 0
+pub start_on : (t name : List ℕ) (r : Extent) → template_checked t name ≡ Ok r → On t 1 (start_of r) 0
 start_on t name r e =
     let k = accepted_runs t name r e in
     record {
@@ -34,5 +34,5 @@ start_on t name r e =
       next = refl;
     }
 
-pub start_standing : (t name : List ℕ) (r : Extent) → template_checked t name ≡ Accepted r → Standing t 50000 (start_of r)
+pub start_standing : (t name : List ℕ) (r : Extent) → template_checked t name ≡ Ok r → Standing t 50000 (start_of r)
 start_standing t name r h = record { most = omega arith; sound = (start_on t name r h).sound }

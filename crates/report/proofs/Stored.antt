@@ -1,7 +1,7 @@
 -- The store is the first n bytes of its buffer: the cells, the answers and the index are those of that part by itself.
+use Rattle.std.specs.Prelude.{Some, Option}
 use mathlib.Core.Path.{◌≡◌, ap, ◌∙◌}
 use mathlib.Core.List.{List}
-use mathlib.Core.Option.{Option, some}
 use Prim.Native.Nat.{ℕ, ◌≤◌, ◌<◌}
 use native.Mathlib.Omega.{arith}
 use borrow.Author.Tests.{le-leb}
@@ -11,8 +11,6 @@ use Rattle.cells.specs.Cell.{Cell}
 use Rattle.cells.specs.Store.{cells_held}
 use Rattle.cells.specs.Asking.{replied, ask_of}
 use Rattle.cells.specs.Inner.Index as I
-use Rattle.cells.specs.declared.index.Indexed.{Indexed}
-use Rattle.cells.specs.declared.index.Indexed.TheVariants.{Count}
 use Rattle.cells.proofs.Locating.{held_some}
 use Rattle.cells.proofs.Replies.{index_ready}
 use Rattle.meaning.specs.Answer.{Answer}
@@ -39,9 +37,9 @@ pub record Serving (b : List ℕ) (n : ℕ) (index : List ℕ) (count : ℕ) : T
   pub stored : n ≤ length b
   pub short : n ≤ 65536
   pub cells : List Cell
-  pub holds : cells_held b n ≡ some cells
+  pub holds : cells_held b n ≡ Some cells
 
-pub part_kept : (b : List ℕ) (n : ℕ) (p p' : List ℕ) (r : Indexed) → I.Indexes p (cells_held b n) p' r → (count : ℕ) → r ≡ Count count → 5461 ≤ length p → Serving b n p' count
+pub part_kept : (b : List ℕ) (n : ℕ) (p p' : List ℕ) (r : Option ℕ) → I.Indexes p (cells_held b n) p' r → (count : ℕ) → r ≡ Some count → 5461 ≤ length p → Serving b n p' count
 part_kept b n p p' r i count e l =
     let g = index_ready b n p p' r i count e l in
     let x = held_some b n g.0 g.1.holds in

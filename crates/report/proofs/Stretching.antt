@@ -10,25 +10,20 @@ use lib.IntN.{ℤ}
 use lib.ListN.{length, take, drop, replicate, length-take, length-drop}
 use lib.Seq.{length-take-le}
 use Rattle.meaning.specs.Answer.{Answer}
-use Rattle.meaning.specs.Tree.{done, stop, bind, End, finished}
+use Rattle.meaning.specs.Tree.{done, stop, bind, End, finished, halted, refused}
 use Rattle.meaning.specs.Inner.Place.{Place, at, Does}
 use Rattle.meaning.specs.Rule.{page_limit}
-use Rattle.meaning.specs.Number.{end_of}
+use Rattle.meaning.specs.Number.{cause_of, ended_in, stopped}
 use Rattle.meaning.specs.Meaning.{Meaning}
 use Rattle.meaning.specs.declared.question.Question.{Question}
 use Rattle.meaning.specs.declared.refusal.Refusal.{Refusal}
 use Rattle.meaning.specs.declared.refusal.Refusal.TheVariants.{TooManyLines}
-use Rattle.meaning.specs.declared.end.Halt.{Halt}
-use Rattle.meaning.specs.declared.end.Halt.TheVariants.{Refused}
-use Rattle.meaning.specs.declared.end.Ended.{Ended}
-use Rattle.meaning.specs.declared.end.Ended.TheVariants.{Finished, Halted}
 use Rattle.meaning.proofs.Doing.{then_does, then_over, does_done, does_stop, room_kept, left_kept, text_kept}
 use Rattle.meaning.proofs.Looping.{Leads, leads_start, leads_next, leads_end}
 use Rattle.meaning.proofs.Keeping.{yields}
 use Rattle.values.specs.Inner.Word.{questions}
 use Rattle.values.specs.Inner.State.{bank, tables_in, Held, held}
 use Rattle.control.specs.declared.state.Flow.{Flow}
-use Rattle.control.specs.declared.state.Lined.{Lined}
 use Rattle.control.specs.State.{State}
 use Rattle.control.specs.Line.{line_meaning}
 use Rattle.control.specs.Inner.Executing.{source_of, Kept, state_at, LineReady, Executes}
@@ -41,6 +36,11 @@ use Rattle.report.specs.Inner.Start.{over_at, full_at}
 use Rattle.report.specs.Inner.Begun.{held_in}
 use Rattle.report.specs.Inner.Stretch.{stretch, store_of, state_in, Standing, RunReady, fresh, Ran}
 use Rattle.report.proofs.Splitting.{run_split}
+use Rattle.meaning.specs.declared.end.Stop.{Stop}
+use Rattle.meaning.specs.declared.end.Halt.TheVariants.{Refused}
+use Rattle.values.specs.declared.log.Log.{Log}
+use Rattle.values.specs.Inner.Logged.{filled_to}
+use Rattle.std.specs.Prelude.{Result, Ok, Err}
 
 module _ (t : List ℕ) (end : ℕ) where
   -- ---- the clauses
@@ -81,8 +81,9 @@ saved_in v numbers words f left printed logged =
     }
 
 -- from what v says, the lines so far led here
-pub record Going (t b : List ℕ) (v : Saved) (rows : List (List ℕ)) (T₀ : List ℕ) (h : Held) (f : Flow) (T Q : List ℕ) (left printed logged : ℕ) : Type 0 where
-  pub leads : (j : ℕ) → Leads (source_of (store_of v b)) (stretch (v.left - left + j) t v.end (state_in v rows b)) (fresh T₀ v) (stretch j t v.end (state_at (store_of v b) h f)) (at T printed (questions Q) logged (v.places - v.asked) f.page.number)
+pub record Going (t b : List ℕ) (v : Saved) (rows : List (List ℕ)) (T₀ : List ℕ) (h : Held) (f : Flow) (T : List ℕ) (log : Log) (left printed : ℕ) : Type 0 where
+  pub leads : (j : ℕ) → Leads (source_of (store_of v b)) (stretch (v.left - left + j) t v.end (state_in v rows b)) (fresh T₀ v) (stretch j t v.end (state_at (store_of v b) h f)) (at T printed (questions log.words) log.asked (v.places - v.asked) f.page.number)
+  pub lent : log.places ≡ v.places - v.asked
   pub standing : Standing t left (state_at (store_of v b) h f)
   pub rows_held : length h.rows ≡ 99
   pub table_words : length (tables_in h.words) ≡ 20
@@ -90,9 +91,9 @@ pub record Going (t b : List ℕ) (v : Saved) (rows : List (List ℕ)) (T₀ : L
   pub text_same : length T ≡ length T₀
   pub room : printed ≤ length T
   pub spent : left ≤ v.left
-  pub logged_most : logged ≤ 512
-  pub places_left_law : logged ≤ v.places - v.asked
-  pub begun : 0 < logged → left < v.left
+  pub logged_most : log.asked ≤ 512
+  pub places_left_law : log.asked ≤ v.places - v.asked
+  pub begun : 0 < log.asked → left < v.left
 
 words_tables : (words : List ℕ) → length words ≡ 212 → length (tables_in words) ≡ 20
 unfolding bank
@@ -119,9 +120,10 @@ module _ (t b index T : List ℕ) (rows : List (List ℕ)) (s : Stretch) (r : Ru
   cells_is : cells ≡ take v.count index
   cells_is = ap (λ (n : ℕ). take n index) (sub-zero v.count)
 
-  pub going_start : length v.words ≡ 212 → Going t b v rows T (held_in v rows) v.flow T (replicate 512 0) v.left v.printed 0
+  pub going_start : length v.words ≡ 212 → Going t b v rows T (held_in v rows) v.flow T (record { words = replicate 512 0; asked = 0; places = v.places - v.asked }) v.left v.printed
   going_start e = record {
     leads = λ j. let z : v.left - v.left + j ≡ j = omega arith in rw z (leads_start source (stretch j t v.end (state_in v rows b)) (fresh T v));
+    lent = refl;
     standing = r.standing;
     rows_held = r.rows_held;
     table_words = words_tables v.words e;
@@ -134,12 +136,12 @@ module _ (t b index T : List ℕ) (rows : List (List ℕ)) (s : Stretch) (r : Ru
     begun = λ z. absurd (omega arith);
   }
 
-  module _ (h : Held) (f : Flow) (T₁ Q₁ : List ℕ) (left printed logged : ℕ) (g : Going t b v rows T h f T₁ Q₁ left printed logged) where
+  module _ (h : Held) (f : Flow) (T₁ : List ℕ) (log : Log) (left printed : ℕ) (g : Going t b v rows T h f T₁ log left printed) where
     abbrev here : Place Question
-    here = at T₁ printed (questions Q₁) logged (v.places - v.asked) f.page.number
+    here = at T₁ printed (questions log.words) log.asked (v.places - v.asked) f.page.number
 
     -- the questions fit the read list
-    pub asked_fit : v.asked + logged ≤ v.places
+    pub asked_fit : v.asked + log.asked ≤ v.places
     asked_fit = omega (arith, g.places_left_law, r.asked)
 
     -- the stretch so far
@@ -154,9 +156,9 @@ module _ (t b index T : List ℕ) (rows : List (List ℕ)) (s : Stretch) (r : Ru
         subst (λ (tree : Meaning State). Does source tree (fresh T v) P' e) (sym (ap (λ (k : ℕ). run_from k t v.end (state_in v rows b)) z ∙ run_split t v.end (v.left - left) left (state_in v rows b)))
         (then_does (run_from left t v.end) so_far d)
 
-    module _ (f' : Flow) (T' : List ℕ) (rows' : List (List ℕ)) (Q' : List ℕ) (printed' logged' : ℕ) (last : State) (e : Ended) (x : Stretch) (few : logged' ≤ 512) (i : x ≡ over_at e f'.page.number printed' v.asked Q' logged') where
+    module _ (f' : Flow) (T' : List ℕ) (rows' : List (List ℕ)) (Q' : List ℕ) (printed' logged' : ℕ) (last : State) (e : Result (Unit {0}) Stop) (x : Stretch) (few : logged' ≤ 512) (i : x ≡ over_at e f'.page.number printed' v.asked Q' logged') where
       -- the run is over
-      ran_over : Does source (run_from v.left t v.end (state_in v rows b)) (fresh T v) (at T' printed' (questions Q') logged' (v.places - v.asked) f'.page.number) (end_of last e) → Ran t b index T rows s T' rows' x
+      ran_over : Does source (run_from v.left t v.end (state_in v rows b)) (fresh T v) (at T' printed' (questions Q') logged' (v.places - v.asked) f'.page.number) (ended_in (λ _. last) e) → Ran t b index T rows s T' rows' x
       unfolding over_at
       ran_over d = subst (Ran t b index T rows s T' rows') (sym i) (record {
         few = few;
@@ -173,19 +175,19 @@ module _ (t b index T : List ℕ) (rows : List (List ℕ)) (s : Stretch) (r : Ru
 
     module _ (x : Stretch) where
       -- no line is due
-      pub run_ends : v.end ≤ f.at → x ≡ over_at Finished f.page.number printed v.asked Q₁ logged → Ran t b index T rows s T₁ h.rows x
+      pub run_ends : v.end ≤ f.at → x ≡ over_at (Ok tt) f.page.number printed v.asked log.words log.asked → Ran t b index T rows s T₁ h.rows x
       run_ends k i =
-          ran_over f T₁ h.rows Q₁ printed logged (state_at (store_of v b) h f) Finished x g.logged_most i
+          ran_over f T₁ h.rows log.words printed log.asked (state_at (store_of v b) h f) (Ok tt) x g.logged_most i
           (finish here (finished (state_at (store_of v b) h f)) (rw (run_done t v.end left (state_at (store_of v b) h f) k) (does_done source here (state_at (store_of v b) h f))))
 
       -- 7: "50,000 lines were executed and another is due, which is named."
-      pub run_exceeds : left ≤ 0 → f.at < v.end → x ≡ over_at (Halted (Refused TooManyLines) f.line) f.page.number printed v.asked Q₁ logged → Ran t b index T rows s T₁ h.rows x
-      run_exceeds z k i =
-          ran_over f T₁ h.rows Q₁ printed logged (state_at (store_of v b) h f) (Halted (Refused TooManyLines) f.line) x g.logged_most i
-          (finish here (end_of (state_at (store_of v b) h f) (Halted (Refused TooManyLines) f.line)) (rw (run_late t v.end left (state_at (store_of v b) h f) z k) (does_stop source here TooManyLines f.line)))
+      pub run_exceeds : (e : Stop) → e ≡ stopped (Refused TooManyLines) f.line → left ≤ 0 → f.at < v.end → x ≡ over_at (Err e) f.page.number printed v.asked log.words log.asked → Ran t b index T rows s T₁ h.rows x
+      run_exceeds e q z k i =
+          ran_over f T₁ h.rows log.words printed log.asked (state_at (store_of v b) h f) (Err e) x g.logged_most i
+          (rw q (finish here (halted (refused TooManyLines) f.line) (rw (run_late t v.end left (state_at (store_of v b) h f) z k) (does_stop source here TooManyLines f.line))))
 
       -- the log is full
-      pub run_full : (numbers : List ℤ) (words : List ℕ) → h ≡ held numbers h.rows words → 180 < logged → x ≡ full_at v.asked Q₁ logged (saved_in v numbers words f left printed logged) → Ran t b index T rows s T₁ h.rows x
+      pub run_full : (numbers : List ℤ) (words : List ℕ) → h ≡ held numbers h.rows words → 180 < log.asked → x ≡ full_at v.asked log.words log.asked (saved_in v numbers words f left printed log.asked) → Ran t b index T rows s T₁ h.rows x
       unfolding full_at
       run_full numbers words q k i = subst (Ran t b index T rows s T₁ h.rows) (sym i) (record {
         few = g.logged_most;
@@ -212,12 +214,12 @@ module _ (t b index T : List ℕ) (rows : List (List ℕ)) (s : Stretch) (r : Ru
         over = λ y. absurd (false≢true (sym y));
       })
 
-    module _ (z : 0 < left) (k : f.at < v.end) (few : logged ≤ 180) where
+    module _ (z : 0 < left) (k : f.at < v.end) (few : log.asked ≤ 180) where
       within : f.at < length t
       within = omega (arith, k, r.inside)
 
-      pub line_ready : LineReady part cells t h f T₁ printed logged
-      line_ready = subst (λ (q : List ℕ). LineReady q cells t h f T₁ printed logged) (sym part_is) (record {
+      pub line_ready : LineReady part cells t h f T₁ printed log
+      line_ready = subst (λ (q : List ℕ). LineReady q cells t h f T₁ printed log) (sym part_is) (record {
         kept = subst (Kept (store_of v b)) (sym cells_is) r.kept;
         stored = omega (arith, length-take-le v.len b r.stored, r.short);
         sound = sound_more 50001 (omega (arith, g.standing.most)) g.standing.sound;
@@ -229,59 +231,72 @@ module _ (t b index T : List ℕ) (rows : List (List ℕ)) (s : Stretch) (r : Ru
         places = omega (arith, few);
       })
 
-      module _ (h' : Held) (T₂ Q₂ : List ℕ) (o : Lined) (d' : (Executes 332 (line_meaning t (state_at part h f)) part h f T₁ printed Q₁ logged (v.places - v.asked) h' T₂ Q₂ o) × Remembered t h'.words) where
-        d : Executes 332 (line_meaning t (state_at (store_of v b) h f)) (store_of v b) h f T₁ printed Q₁ logged (v.places - v.asked) h' T₂ Q₂ o
-        d = subst (λ (q : List ℕ). Executes 332 (line_meaning t (state_at q h f)) q h f T₁ printed Q₁ logged (v.places - v.asked) h' T₂ Q₂ o) part_is d'.0
+      module _ (h' : Held) (f' : Flow) (T₂ : List ℕ) (printed' : ℕ) (log' : Log) where
+        abbrev Came : Result (Unit {0}) Stop → Type 0
+        Came o = (Executes 332 (line_meaning t (state_at part h f)) part h f T₁ printed log h' f' T₂ printed' log' o) × Remembered t h'.words
 
         abbrev there : Place Question
-        there = at T₂ o.printed (questions Q₂) o.asked (v.places - v.asked) o.flow.page.number
+        there = at T₂ printed' (questions log'.words) log'.asked (v.places - v.asked) f'.page.number
 
-        logged_next : o.asked ≤ 512
-        logged_next = omega (arith, d.few, few)
+        module _ (o : Result (Unit {0}) Stop) (d' : Came o) where
+          d : Executes 332 (line_meaning t (state_at (store_of v b) h f)) (store_of v b) h f T₁ printed log h' f' T₂ printed' log' o
+          d = subst (λ (q : List ℕ). Executes 332 (line_meaning t (state_at q h f)) q h f T₁ printed log h' f' T₂ printed' log' o) part_is d'.0
 
-        pub places_next : o.asked ≤ v.places - v.asked
-        places_next = left_kept d.does g.places_left_law
+          pub lent_next : log'.places ≡ v.places - v.asked
+          lent_next = d.does.did.places ∙ g.lent
 
-        pub asked_next : v.asked + o.asked ≤ v.places
-        asked_next = omega (arith, places_next, r.asked)
+          did : Does source (line_meaning t (state_at (store_of v b) h f)) here there (ended_in (λ _. state_at (store_of v b) h' f') o)
+          did =
+              subst (λ (k : ℕ). Does source (line_meaning t (state_at (store_of v b) h f)) here (at T₂ printed' (questions log'.words) log'.asked k f'.page.number) (ended_in (λ _. state_at (store_of v b) h' f') o)) lent_next
+              (subst (λ (k : ℕ). Does source (line_meaning t (state_at (store_of v b) h f)) (at T₁ printed (questions log.words) log.asked k f.page.number) (filled_to T₂ printed' log' f'.page.number) (ended_in (λ _. state_at (store_of v b) h' f') o)) g.lent d.does)
 
-        pub text_next : length T₂ ≡ length T
-        text_next = text_kept d.does ∙ g.text_same
+          logged_next : log'.asked ≤ 512
+          logged_next = omega (arith, d.few, few)
 
-        -- the line ended the run
-        pub run_halts : (c : Halt) (l : ℕ) → o.end ≡ Halted c l → (x : Stretch) → x ≡ over_at o.end o.flow.page.number o.printed v.asked Q₂ o.asked → Ran t b index T rows s T₂ h'.rows x
-        run_halts c l y x i =
-            ran_over o.flow T₂ h'.rows Q₂ o.printed o.asked (state_at (store_of v b) h' o.flow) o.end x logged_next i
-            (finish there (end_of (state_at (store_of v b) h' o.flow) o.end) (rw (run_more t v.end left (state_at (store_of v b) h f) z k, y) (then_over (run_from (left - 1) t v.end) (rw y at d.does))))
+          pub places_next : log'.asked ≤ v.places - v.asked
+          places_next = left_kept did g.places_left_law
 
-        module _ (y : o.end ≡ Finished) where
-          line_done : Does source (line_meaning t (state_at (store_of v b) h f)) here there (finished (state_at (store_of v b) h' o.flow))
-          line_done = rw y at d.does
+          pub asked_next : v.asked + log'.asked ≤ v.places
+          asked_next = omega (arith, places_next, r.asked)
+
+          pub text_next : length T₂ ≡ length T
+          text_next = text_kept did ∙ g.text_same
+
+        -- the line stopped the run
+        pub run_halts : (e : Stop) → Came (Err e) → (x : Stretch) → x ≡ over_at (Err e) f'.page.number printed' v.asked log'.words log'.asked → Ran t b index T rows s T₂ h'.rows x
+        run_halts e d' x i =
+            ran_over f' T₂ h'.rows log'.words printed' log'.asked (state_at (store_of v b) h' f') (Err e) x (logged_next (Err e) d') i
+            (finish there (halted (cause_of e.halt) e.line) (rw (run_more t v.end left (state_at (store_of v b) h f) z k) (then_over (run_from (left - 1) t v.end) (did (Err e) d'))))
+
+        module _ (u : Unit {0}) (d' : Came (Ok u)) where
+          line_done : Does source (line_meaning t (state_at (store_of v b) h f)) here there (finished (state_at (store_of v b) h' f'))
+          line_done = did (Ok u) d'
 
           on_now : On t (50001 - left) (state_at (store_of v b) h f) (f.page.row - 1)
           on_now = record { sound = g.standing.sound; next = omega (arith, g.standing.sound.first_row) }
 
-          on_next_law : (c : ℕ) × On t (50001 - left + 1) (state_at (store_of v b) h' o.flow) c
+          on_next_law : (c : ℕ) × On t (50001 - left + 1) (state_at (store_of v b) h' f') c
           on_next_law = yields (page_limit 60) (f.page.row - 1) (On t (50001 - left + 1)) line_done (line_keeps on_now within)
 
-          stands : Standing t (left - 1) (state_at (store_of v b) h' o.flow)
+          stands : Standing t (left - 1) (state_at (store_of v b) h' f')
           stands =
               let w : 50001 - left + 1 ≡ 50001 - (left - 1) = omega (arith, z, g.standing.most) in
               record { most = omega (arith, g.standing.most); sound = rw w at on_next_law.1.sound }
 
-          pub going_next : Going t b v rows T h' o.flow T₂ Q₂ (left - 1) o.printed o.asked
+          pub going_next : Going t b v rows T h' f' T₂ log' (left - 1) printed'
           going_next = record {
             leads = λ j.
                 let w : v.left - left + suc j ≡ v.left - (left - 1) + j = omega (arith, z, g.spent) in
                 leads_next (line_meaning t (state_at (store_of v b) h f)) (stretch j t v.end) (rw (w, stretch_more t v.end j (state_at (store_of v b) h f) k) at (g.leads (suc j))) line_done;
+            lent = lent_next (Ok u) d';
             standing = stands;
-            rows_held = d.rows.0 ∙ g.rows_held;
-            table_words = d.rows.1 ∙ g.table_words;
+            rows_held = (d (Ok u) d').rows.0 ∙ g.rows_held;
+            table_words = (d (Ok u) d').rows.1 ∙ g.table_words;
             remembered = d'.1;
-            text_same = text_next;
+            text_same = text_next (Ok u) d';
             room = room_kept line_done g.room;
             spent = omega (arith, g.spent);
-            logged_most = logged_next;
-            places_left_law = places_next;
+            logged_most = logged_next (Ok u) d';
+            places_left_law = places_next (Ok u) d';
             begun = λ _. omega (arith, z, g.spent);
           }

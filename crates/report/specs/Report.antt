@@ -1,8 +1,6 @@
 -- A run, and a report: number, line, pages, text and questions.
-use Rattle.std.specs.Prelude.{cond, List, [], ℕ, zero, suc, ◌+◌, ltb, length}
+use Rattle.std.specs.Prelude.{cond, List, [], ℕ, zero, suc, ◌+◌, ltb, length, Result, Ok, Err}
 use Rattle.template.specs.declared.Extent.{Extent}
-use Rattle.template.specs.declared.Checked.{Checked}
-use Rattle.template.specs.declared.Checked.TheVariants.{Accepted, Refused}
 use Rattle.template.specs.Order.{template_checked}
 use Rattle.cells.specs.Store.{cells_held, holds_cells}
 use Rattle.meaning.specs.Answer.{Answer}
@@ -64,9 +62,9 @@ abbrev pub ran_to : {A : Type 0} → tree.Run Question Refusal ℕ A → Outcome
 ran_to x = record { number = number_of x.end; line = line_named x.end; pages = 1 + breaks x.events; events = x.events; questions = x.asked }
 
 -- checks 2 to 6, then the run
-unfoldable pub checked_outcome : List ℕ → (Question → Answer) → ℕ → ℕ → Checked → Outcome
-checked_outcome t source places room (Accepted r) = ran_to (run source places room (run_meaning t r))
-checked_outcome t source places room (Refused e l) = refused_report e l
+unfoldable pub checked_outcome : List ℕ → (Question → Answer) → ℕ → ℕ → Result Extent (Refusal × ℕ) → Outcome
+checked_outcome t source places room (Ok r) = ran_to (run source places room (run_meaning t r))
+checked_outcome t source places room (Err (e, l)) = refused_report e l
 
 -- the report of template t and the caller's section name on the first n bytes of b, with so many places on the read list and
 -- so many bytes of text; check 1 comes first

@@ -51,7 +51,7 @@ use Rattle.commands.specs.Setting.{decimal_result, new_from, integer_result, as_
 use Rattle.commands.specs.Testing.{is_missing, of_numbers, of_strings, compared, test_meaning, zero_test, zero_judged, zero_meaning, judged}
 use Rattle.texts.specs.Pieces.{or_no_pieces, pieces_of}
 use Rattle.pages.specs.Text.{text_meaning}
-use Rattle.pages.specs.Shown.{or_stars, places_in, shown_value, field_bytes}
+use Rattle.pages.specs.Shown.{or_stars, shown_value, field_bytes}
 use Rattle.pages.specs.Page.{say_meaning, highest_defined, top_meaning, break_meaning, turn_meaning, line_step}
 use Rattle.control.specs.Line.{breaking, breaking_for, new_page_meaning, table_begun, table_counted, branched, form_meaning, line_meaning}
 use Rattle.report.specs.Report.{run_from, checked_outcome, report_of, Outcome, text_in, report_in}
@@ -120,5 +120,5 @@ rows =
     ∷ []
 
 pub rows_hold : map (λ (r : Row). r.computed) rows ≡ map (λ (r : Row). r.expected) rows
-unfolding rows above rising ordered cellsBefore cell_run cells cells_held within breaks meaningRun begun begin_meaning exceeds counting counted end_meaning loop checked absolute_of numbersInMillionths operands decimal_product divided_by decimal_quotient integer_product integer_quotient ranged absolute filtered_number filtered_string filtered question_kind upper alike operand_meaning argument_meaning numbered integer_from integer_meaning result_of millionths_of quantity_from decimal_from string_from set_numbered decimal_result new_from integer_result as_variable string_new set_of set_meaning cut_to or_skip way_past among_tables among_tests at_else role_of skip_from skipped belongs span lines_within lines_of byte_at all_allowed scanBegins stands_at scanFirstOf shape_words word_shape has_form shape_in shape_of is_formed or_no_pieces pieces_of text_meaning textsBefore places_at textsPlacesOf width_next textsFieldOf field_at placed piece_at pieces_within text_pieces width_of total_width fits_behind text_fits admits filtered_at filters argument_of argument_at value_from digits_at number_at argumentsInMillionths fraction_at unsigned_at literal_at numbered_of numbered_at whole_at names named_at number_or string_at operand_at left_in negative fieldsPlacesOf minus right_in fraction fieldsUnsigned rounded_field shown width_allowed fieldsFieldOf count_within digit_count digits rounded rounded_to or_stars places_in shown_value field_bytes say_meaning highest_defined top_meaning break_meaning turn_meaning line_step breaking breaking_for new_page_meaning table_begun table_counted branched form_meaning line_meaning opposed is_missing of_numbers of_strings compared test_meaning zero_test zero_judged zero_meaning bare_at optional_at single_at behind_space compare_at string_target target_of set_at name_at section_at commands parse_line run_from checked_outcome report_of holds_cells first_fault line_allowed bytes_check form_check name_end has_name came_before name_step name_check nest_end nest_step nest_check name_of or_else walk accepted_run section_checked unless_fault names_checked nesting_checked forms_checked template_checked end_at selects section_from section_end selection_from selected all_closed in_section section_begun table_ended tables_open test_ended test_turned tests_open behind joined lines_joined judged
+unfolding rows above rising ordered cellsBefore cell_run cells cells_held within breaks meaningRun begun begin_meaning exceeds counting counted end_meaning loop checked absolute_of numbersInMillionths operands decimal_product divided_by decimal_quotient integer_product integer_quotient ranged absolute filtered_number filtered_string filtered question_kind upper alike operand_meaning argument_meaning numbered integer_from integer_meaning result_of millionths_of quantity_from decimal_from string_from set_numbered decimal_result new_from integer_result as_variable string_new set_of set_meaning cut_to or_skip way_past among_tables among_tests at_else role_of skip_from skipped belongs span lines_within lines_of byte_at all_allowed scanBegins stands_at scanFirstOf shape_words word_shape has_form shape_in shape_of is_formed or_no_pieces pieces_of text_meaning textsBefore places_at textsPlacesOf width_next textsFieldOf field_at placed piece_at pieces_within text_pieces width_of total_width fits_behind text_fits admits filtered_at filters argument_of argument_at value_from digits_at number_at argumentsInMillionths fraction_at unsigned_at literal_at numbered_of numbered_at whole_at names named_at number_or string_at operand_at left_in negative fieldsPlacesOf minus right_in fraction fieldsUnsigned rounded_field shown width_allowed fieldsFieldOf count_within digit_count digits rounded rounded_to or_stars shown_value field_bytes say_meaning highest_defined top_meaning break_meaning turn_meaning line_step breaking breaking_for new_page_meaning table_begun table_counted branched form_meaning line_meaning opposed is_missing of_numbers of_strings compared test_meaning zero_test zero_judged zero_meaning bare_at optional_at single_at behind_space compare_at string_target target_of set_at name_at section_at commands parse_line run_from checked_outcome report_of holds_cells first_fault line_allowed bytes_check form_check name_end has_name came_before name_step name_check nest_end nest_step nest_check name_of or_else walk accepted_run section_checked unless_fault names_checked nesting_checked forms_checked template_checked end_at selects section_from section_end selection_from selected all_closed in_section section_begun table_ended tables_open test_ended test_turned tests_open behind joined lines_joined judged
 rows_hold = refl

@@ -2,35 +2,31 @@
 ghost use Rattle.std.specs.Prelude.{◌≡◌, ◌+◌, ◌<◌, ◌^◌};
 ghost use Rattle.report.specs.Inner.Start.{over_at, full_at};
 
-use crate::state::{Log, Saved, Stretch};
+use crate::state::{Batch, Saved, Stretch};
 use crate::{Report, start};
-use meaning::end::Ended;
+use meaning::end;
+use meaning::end::Stop;
+use values::log::Log;
 
 // The run is over: how it ended, and what it left.
-pub fn over(
-    end: Ended,
-    page: u32,
-    printed: usize,
-    at: usize,
-    words: &[u64; 512],
-    logged: usize,
-) -> Stretch
-    requires { at + logged < 2 ^ 64 }
-    ensures { result ≡ over_at end page printed at words.now logged }
+pub fn over(end: Result<(), Stop>, page: u32, printed: usize, at: usize, log: &Log) -> Stretch
+    requires { at + log.now.asked < 2 ^ 64 }
+    ensures { result ≡ over_at end page printed at log.now.words log.now.asked }
 {
     let saved = start::nothing();
-    let words = *words;
+    let words = log.words;
+    let logged = log.asked;
     let questions = at + logged;
     Stretch {
         more: false,
-        log: Log {
+        log: Batch {
             at,
             n: logged,
             words,
         },
         report: Report {
-            number: end.number(),
-            line: end.line(),
+            number: end::number(end),
+            line: end::line(end),
             pages: page,
             bytes: printed,
             questions,
@@ -40,13 +36,14 @@ pub fn over(
 }
 
 // The log is full: its questions stand on the read list from a place on, and the run goes on as saved.
-pub fn full(at: usize, words: &[u64; 512], logged: usize, saved: Saved) -> Stretch
-    ensures { result ≡ full_at at words.now logged saved }
+pub fn full(at: usize, log: &Log, saved: Saved) -> Stretch
+    ensures { result ≡ full_at at log.now.words log.now.asked saved }
 {
-    let words = *words;
+    let words = log.words;
+    let logged = log.asked;
     Stretch {
         more: true,
-        log: Log {
+        log: Batch {
             at,
             n: logged,
             words,

@@ -18,6 +18,7 @@ pub fn report<'a>(
     let mut index = [0u16; 5461];
     let mut strings = start::no_strings();
     let mut s = start::begin(template, section, store, len, &mut index, reads.len());
+    // A stretch says itself whether there is another.
     while s.more {
         s = stretch::run(template, store, &mut index, text, &mut strings, s);
         reads::append(reads, s.log);

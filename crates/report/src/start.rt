@@ -4,19 +4,18 @@ ghost use Rattle.report.specs.Inner.Start.{no_log, start_flow, start_saved, noth
 ghost use Rattle.report.specs.Inner.Begun.{Begun};
 
 use crate::Report;
-use crate::state::{Log, Saved, Stretch};
+use crate::state::{Batch, Saved, Stretch};
 use cells::index;
-use cells::index::Indexed;
 use control::state::Flow;
 use meaning::refusal::Refusal;
 use pages::page::Page;
-use template::{Checked, Extent};
+use template::Extent;
 
 // A log without questions.
-fn no_log() -> Log
+fn no_log() -> Batch
     ensures { result ≡ no_log }
 {
-    Log {
+    Batch {
         at: 0,
         n: 0,
         words: [0; 512],
@@ -127,12 +126,12 @@ pub fn begin<'a>(
     requires { 5461 ≤ length index.old }
     ensures { Begun template.now section.now store.now len places index.new result }
 {
-    let Indexed::Count(count) = index::build(store, len, index) else {
+    let Some(count) = index::build(store, len, index) else {
         return refused(Refusal::BadStore, 0);
     };
     let checked = template::check(template, section);
     match checked {
-        Checked::Refused(refusal, line) => refused(refusal, line),
-        Checked::Accepted(run) => started(run, len, count, places),
+        Err((refusal, line)) => refused(refusal, line),
+        Ok(run) => started(run, len, count, places),
     }
 }

@@ -3,9 +3,9 @@ use crate::Report;
 use control::state::Flow;
 use values::registers::{Numbers, Words};
 
-// The questions of a stretch, each as one number, and the place of the first of them on the read list.
+// The questions of a stretch, each as one number, how many they are, and the place of the first of them on the read list.
 #[derive(Clone, Copy)]
-pub struct Log {
+pub struct Batch {
     pub at: usize,
     pub n: usize,
     pub words: [u64; 512],
@@ -31,7 +31,7 @@ pub struct Saved {
 #[derive(Clone, Copy)]
 pub struct Stretch {
     pub more: bool,
-    pub log: Log,
+    pub log: Batch,
     pub report: Report,
     pub saved: Saved,
 }

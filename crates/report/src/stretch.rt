@@ -5,9 +5,9 @@ ghost use Rattle.report.specs.Inner.Stretch.{RunReady, Ran};
 use crate::ends;
 use crate::state::{Saved, Stretch};
 use executed_line::line;
-use meaning::count::Counts;
-use meaning::end::{Ended, Halt};
+use meaning::end::Stop;
 use meaning::refusal::Refusal;
+use values::log::Log;
 
 // From a stretch on: lines are executed while the log has places for all questions that a line may ask.
 pub fn run<'a, 'b, 'c>(
@@ -29,27 +29,23 @@ pub fn run<'a, 'b, 'c>(
     let whole = &index[..];
     let cells = &whole[0..count];
     let asked = saved.asked;
-    let places = saved.places - asked;
     let mut numbers = saved.numbers;
     let mut words = saved.words;
     let mut flow = saved.flow;
     let mut left = saved.left;
     let mut printed = saved.printed;
-    let mut log = [0u64; 512];
-    let mut logged = 0usize;
+    let mut log = Log {
+        words: [0; 512],
+        asked: 0,
+        places: saved.places - asked,
+    };
+    // Counted down and not up: what is left goes into the next stretch.
     while 0 < left {
         let at = flow.at;
         if end <= at {
-            return ends::over(
-                Ended::Finished,
-                flow.page.number,
-                printed,
-                asked,
-                &log,
-                logged,
-            );
+            return ends::over(Ok(()), flow.page.number, printed, asked, &log);
         }
-        if 180 < logged {
+        if 180 < log.asked {
             let next = Saved {
                 flow,
                 left,
@@ -57,19 +53,14 @@ pub fn run<'a, 'b, 'c>(
                 len,
                 count,
                 printed,
-                asked: asked + logged,
+                asked: asked + log.asked,
                 places: saved.places,
                 numbers,
                 words,
             };
-            return ends::full(asked, &log, logged, next);
+            return ends::full(asked, &log, next);
         }
-        let counts = Counts {
-            printed,
-            asked: logged,
-            places,
-        };
-        let lined = line::line(
+        let ended = line::line(
             template,
             part,
             cells,
@@ -77,36 +68,21 @@ pub fn run<'a, 'b, 'c>(
             strings,
             &mut words,
             text,
+            &mut printed,
             &mut log,
-            counts,
-            flow,
+            &mut flow,
         );
-        flow = lined.flow;
-        printed = lined.printed;
-        logged = lined.asked;
-        let ended = lined.end;
-        let Ended::Finished = ended else {
-            return ends::over(ended, flow.page.number, printed, asked, &log, logged);
-        };
-        left -= 1;
+        match ended {
+            Ok(()) => left -= 1,
+            Err(stop) => {
+                return ends::over(Err(stop), flow.page.number, printed, asked, &log);
+            }
+        }
     }
     let due = flow.at;
     if due < end {
-        return ends::over(
-            Ended::Halted(Halt::Refused(Refusal::TooManyLines), flow.line),
-            flow.page.number,
-            printed,
-            asked,
-            &log,
-            logged,
-        );
+        let stop = Stop::refused(Refusal::TooManyLines, flow.line);
+        return ends::over(Err(stop), flow.page.number, printed, asked, &log);
     }
-    ends::over(
-        Ended::Finished,
-        flow.page.number,
-        printed,
-        asked,
-        &log,
-        logged,
-    )
+    ends::over(Ok(()), flow.page.number, printed, asked, &log)
 }

@@ -1,12 +1,13 @@
 -- Laws of digits, and of the loop that reads them.
-use mathlib.Core.Path.{◌≡◌, refl, ap}
+use Rattle.std.specs.Char.{is_ascii_digit}
+use mathlib.Core.Path.{◌≡◌, refl, ap, sym, ◌∙◌}
 use mathlib.Core.Bool.{Bool, true, false, cond, ◌&&◌, false≢true}
 use mathlib.Core.List.{List, [], ◌∷◌}
 use Prim.Native.Nat.{ℕ, suc, ◌+◌, ◌-◌, ◌*◌, ◌^◌, ◌<◌, ◌≤◌}
 use native.Mathlib.Nat.{pow-suc, pow-le-pow_right, lt_of_lt_of_le}
 use native.Mathlib.Numerals.{add-one}
 use native.Mathlib.Omega.{arith}
-use borrow.Author.Tests.{leb-true, ltb-false, le-ltb}
+use borrow.Author.Tests.{leb-true, ltb-true, ltb-false, le-ltb}
 use lib.Dec.{leb, ltb}
 use lib.ListN.{length, get_or, take, drop, length-take}
 use Rattle.scan.specs.declared.run.Class.TheVariants.{Digit}
@@ -24,6 +25,11 @@ digit_range b false q e f t = absurd (false≢true t)
 pub digit_bounds : (b : ℕ) → belongs Digit b ≡ true → (48 ≤ b) × (b ≤ 57)
 unfolding belongs
 digit_bounds b t = digit_range b (leb 48 b) (leb b 57) refl refl t
+
+-- Rust's test of a digit is the class's
+pub digit_told : (b : ℕ) {t u : Bool} → t ≡ is_ascii_digit b → t ≡ u → belongs Digit b ≡ u
+unfolding belongs
+digit_told b e q = sym e ∙ q
 
 module _ (l : List ℕ) (i v : ℕ) where
   pub value_end : length l ≤ i → value_from v (span Digit (drop i l)) ≡ v
@@ -54,11 +60,16 @@ digits_within l at most d e h =
     rw q (run_within Digit l at (cond (ltb 10 most) 10 most) (rw q at k))
 
 -- there are no more digits than allowed
-pub digits_count : (l : List ℕ) (at most : ℕ) (d : Digits) → d ≡ digits_at l at most → most ≤ 10 → d.count ≤ most
+pub digits_count : (l : List ℕ) (at most : ℕ) (d : Digits) → d ≡ digits_at l at most → d.count ≤ most
 unfolding digits_at
-digits_count l at most d e h =
-    let q : (digits_at l at most).count ≤ most = rw (le-ltb 10 most h) (omega (arith, length_span Digit (take most (drop at l)), length-take most (drop at l))) in
-    rw (ap (λ (x : Digits). x.count) e) q
+digits_count l at most d e =
+    let n = cond (ltb 10 most) 10 most in
+    let q : d.count ≡ (digits_at l at most).count = ap (λ (x : Digits). x.count) e in
+    omega (arith, q, length_span Digit (take n (drop at l)), length-take n (drop at l), few most (ltb 10 most) refl)
+  where
+    few : (m : ℕ) (t : Bool) → ltb 10 m ≡ t → cond (ltb 10 m) 10 m ≤ m
+    few m true q = rw q (omega (arith, ltb-true 10 m q))
+    few m false q = rw q (omega arith)
 
 -- a value of k digits with the digits of s behind it
 value_below : (s : List ℕ) (v k : ℕ) → v < 10 ^ k → value_from v (span Digit s) < 10 ^ (k + length s)

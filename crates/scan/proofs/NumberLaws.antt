@@ -1,4 +1,5 @@
 -- A number that was read lies from 1 to its limit, and ends behind its start.
+use Rattle.std.specs.Prelude.{Option, Some, None}
 use mathlib.Core.Path.{◌≡◌, refl, ◌∙◌, ap, subst}
 use mathlib.Core.Bool.{Bool, true, false, cond}
 use mathlib.Core.List.{List, [], ◌∷◌}
@@ -9,8 +10,6 @@ use borrow.Author.Tests.{leb-true, eqb-false}
 use lib.Dec.{leb, eqb}
 use lib.ListN.{length, get_or, take, drop}
 use lib.Seq.{get_or-take, get_or-drop}
-use Rattle.scan.specs.declared.digits.Numeral.{Numeral}
-use Rattle.scan.specs.declared.digits.Numeral.TheVariants.{Value, NoNumeral}
 use Rattle.scan.specs.declared.run.Class.TheVariants.{Digit}
 use Rattle.scan.specs.Run.{belongs, span}
 use Rattle.scan.specs.Line.{byte_at}
@@ -39,9 +38,9 @@ pub record Counts (limit at n next : ℕ) : Type 0 where
   pub most : n ≤ limit
   pub onward : at < next
 
-abbrev pub Within : ℕ → ℕ → Numeral → Type 0
-Within limit at (Value n next) = Counts limit at n next
-Within limit at NoNumeral = Unit {0}
+abbrev pub Within : ℕ → ℕ → Option (ℕ × ℕ) → Type 0
+Within limit at (Some (n, next)) = Counts limit at n next
+Within limit at None = Unit {0}
 
 pub number_within : (l : List ℕ) (at limit : ℕ) → Within limit at (number_at l at limit)
 unfolding number_at digits_at byte_at
@@ -50,7 +49,7 @@ number_within l at limit = go (eqb (get_or l at 0) 48) refl (eqb (length (span D
     front : get_or (take 5 (drop at l)) 0 0 ≡ get_or l at 0
     front = get_or-take 5 (drop at l) 0 0 (omega arith) ∙ get_or-drop at l 0 0 ∙ ap (λ k. get_or l k 0) (add-zero at)
 
-    go : (a : Bool) → eqb (get_or l at 0) 48 ≡ a → (b : Bool) → eqb (length (span Digit (take 5 (drop at l)))) 0 ≡ b → (c : Bool) → leb (value_of (span Digit (take 5 (drop at l)))) limit ≡ c → Within limit at (cond a NoNumeral (cond b NoNumeral (cond c (Value (value_of (span Digit (take 5 (drop at l)))) (at + length (span Digit (take 5 (drop at l))))) NoNumeral)))
+    go : (a : Bool) → eqb (get_or l at 0) 48 ≡ a → (b : Bool) → eqb (length (span Digit (take 5 (drop at l)))) 0 ≡ b → (c : Bool) → leb (value_of (span Digit (take 5 (drop at l)))) limit ≡ c → Within limit at (cond a None (cond b None (cond c (Some (value_of (span Digit (take 5 (drop at l))), at + length (span Digit (take 5 (drop at l))))) None)))
     go true x b y c z = tt
     go false x true y c z = tt
     go false x false y false z = tt

@@ -1,12 +1,17 @@
 -- Laws of runs of bytes of a class, and of the loop that counts them.
 use mathlib.Core.Path.{◌≡◌, refl, ap}
-use mathlib.Core.Bool.{Bool, true, false}
+use mathlib.Core.Bool.{Bool, true, false, not, cond}
 use mathlib.Core.List.{List, [], ◌∷◌}
-use Prim.Native.Nat.{ℕ, zero, suc, ◌+◌, ◌-◌, ◌<◌, ◌≤◌, zero-le}
+use Prim.Native.Nat.{ℕ, zero, suc, ◌+◌, ◌<◌, ◌≤◌, zero-le}
 use native.Mathlib.Numerals.{add-one}
 use native.Mathlib.Omega.{arith}
 use lib.ListN.{length, get_or, take, drop, drop_of_length-le, length-take, length-drop}
 use lib.Seq.{drop-cons, take-nil}
+use lib.Dec.{ltb}
+use Rattle.std.specs.Prelude.{Option, Some, None}
+use Rattle.std.specs.List.{position_or_len}
+use Rattle.std.specs.Option.{unwrap_or}
+use borrow.Author.Tests.{ltb-false}
 use Rattle.scan.specs.declared.run.Class.{Class}
 use Rattle.scan.specs.Run.{belongs, span}
 use Rattle.scan.specs.Line.{byte_at}
@@ -34,6 +39,20 @@ module _ (class : Class) (l : List ℕ) (i : ℕ) where
   pub counted_more : i + length (span class (drop i l)) ≡ length (span class l) → i < length l → belongs class (get_or l i 0) ≡ true → i + 1 + length (span class (drop (i + 1) l)) ≡ length (span class l)
   counted_more inv h e = omega (arith, ap length (span_more h e))
 
+-- whether a byte ends a run
+abbrev pub refuses : Class → ℕ → Bool
+refuses class b = not (belongs class b)
+
+-- the place of the first byte that ends a run is the run's length
+place_counts : (class : Class) (s : List ℕ) → position_or_len (refuses class) s ≡ length (span class s)
+unfolding span
+place_counts class [] = refl
+place_counts class (b ∷ s) = go (belongs class b) refl (place_counts class s)
+  where
+    go : (t : Bool) → belongs class b ≡ t → position_or_len (refuses class) s ≡ length (span class s) → position_or_len (refuses class) (b ∷ s) ≡ length (span class (b ∷ s))
+    go true e h = rw e (omega (arith, h))
+    go false e h = rw e
+
 -- a run is the front of its list
 span_front : (class : Class) (s : List ℕ) → (length (span class s) ≤ length s) × (take (length (span class s)) s ≡ span class s)
 unfolding span
@@ -49,6 +68,14 @@ length_span class s = (span_front class s).0
 
 pub take_span : (class : Class) (s : List ℕ) → take (length (span class s)) s ≡ span class s
 take_span class s = (span_front class s).1
+
+-- what was found of it, or the length where nothing ends the run
+pub counted : (class : Class) (s : List ℕ) (r : Option ℕ) → r ≡ cond (ltb (position_or_len (refuses class) s) (length s)) (Some (position_or_len (refuses class) s)) None → unwrap_or r (length s) ≡ length (span class s)
+counted class s r e = rw (e, place_counts class s) (go (ltb (length (span class s)) (length s)) refl)
+  where
+    go : (t : Bool) → ltb (length (span class s)) (length s) ≡ t → unwrap_or (cond t (Some (length (span class s))) None) (length s) ≡ length (span class s)
+    go true q = refl
+    go false q = omega (arith, ltb-false _ _ q, length_span class s)
 
 -- a part of a line from its end on is empty
 pub window_end : (l : List ℕ) (n at : ℕ) → length l ≤ at → take n (drop at l) ≡ []
@@ -69,8 +96,3 @@ in_line (a ∷ l) (suc i) h = omega (arith, in_line l i h)
 pub byte_within : (l : List ℕ) (i b v : ℕ) → b ≡ byte_at l i → b ≡ v → 0 < v → i < length l
 unfolding byte_at
 byte_within l i b v e q h = in_line l i (omega arith)
-
--- a run in a part of a line is no longer than the line from there on
-pub run_room : (class : Class) (l s : List ℕ) (at n k : ℕ) → k ≡ length (span class s) → s ≡ take n (drop at l) → k ≤ length l - at
-run_room class l s at n k e q =
-    omega (arith, length_span class s, ap length q, length-take n (drop at l), length-drop at l)

@@ -1,5 +1,5 @@
 // The bytes and lines of a template.
-ghost use Rattle.std.specs.Prelude.{◌≡◌, length};
+ghost use Rattle.std.specs.Prelude.{◌≡◌, ◌<◌, length, drop};
 ghost use Rattle.scan.specs.Line.{line_of, byte_at, window};
 ghost use Rattle.scan.specs.Inner.Bytes.{first_refused};
 
@@ -14,6 +14,7 @@ pub fn first_refused(template: &[u8]) -> usize
 }
 
 // The line that this part of a template starts with, without its line end.
+#[tactic(auto, using(crate::proofs::RunLaws::take_span))]
 pub fn line_of<'a>(rest: &'a [u8]) -> &'a [u8]
     ensures { result.now ≡ line_of rest.now }
 {
@@ -22,26 +23,25 @@ pub fn line_of<'a>(rest: &'a [u8]) -> &'a [u8]
 }
 
 // The byte at a place, or 0 behind the end.
+#[tactic(auto, unfolding(crate::specs::Line::byte_at))]
 pub fn byte(line: &[u8], at: usize) -> u8
-    ensures { result ≡ byte_at line.now at }
+    ensures value { result ≡ byte_at line.now at }
+    ensures inside { 0 < result → at < length line.now }
 {
-    if at < line.len() {
-        return line[at];
-    }
-    0
+    line.get(at).copied().unwrap_or(0)
+}
+
+// What stands from a place on, nothing behind the end.
+pub fn rest<'a>(line: &'a [u8], at: usize) -> &'a [u8]
+    ensures { result.now ≡ drop at line.now }
+{
+    line.get(at..).unwrap_or(&[])
 }
 
 // At most `most` bytes from a place on.
 pub fn part<'a>(line: &'a [u8], at: usize, most: usize) -> &'a [u8]
     ensures { result.now ≡ window line.now at most }
 {
-    let length = line.len();
-    if length <= at {
-        return &line[length..];
-    }
-    if length - at <= most {
-        return &line[at..];
-    }
-    let end = at + most;
-    &line[at..end]
+    let behind = rest(line, at);
+    &behind[..most.min(behind.len())]
 }

@@ -1,9 +1,8 @@
 // Digits and numbers in a line.
-ghost use Rattle.std.specs.Prelude.{◌≡◌, ◌≤◌, length};
+ghost use Rattle.std.specs.Prelude.{◌≡◌, ◌+◌, ◌^◌, ◌<◌, ◌≤◌, length};
 ghost use Rattle.scan.specs.Readers.Digits.{digits_of, digits_at, number_at};
 
-use crate::run::Class;
-use crate::{bytes, run};
+use crate::bytes;
 
 #[derive(Clone, Copy)]
 pub struct Digits {
@@ -16,49 +15,40 @@ fn digits_of(s: &[u8]) -> Digits
     requires { length s.now ≤ 10 }
     ensures { result ≡ digits_of s.now }
 {
-    let mut count: usize = 0;
-    let mut value: usize = 0;
-    while count < s.len() {
-        let b = s[count];
-        if !run::belongs_to(Class::Digit, b) {
+    let mut value = 0;
+    for (count, b) in s.iter().enumerate() {
+        if !b.is_ascii_digit() {
             return Digits { count, value };
         }
-        value = value * 10 + (b - 48) as usize;
-        count += 1;
+        value = value * 10 + usize::from(b - b'0');
     }
-    Digits { count, value }
+    Digits {
+        count: s.len(),
+        value,
+    }
 }
 
 // The digits at a place, at most `most` and at most ten, which no form exceeds.
+#[tactic(auto, unfolding(crate::specs::Readers::Digits::digits_at))]
 pub fn digits_at(line: &[u8], at: usize, most: usize) -> Digits
-    ensures { result ≡ digits_at line.now at most }
+    ensures value { result ≡ digits_at line.now at most }
+    ensures inside { 0 < result.count → at + result.count ≤ length line.now }
+    ensures few { result.count ≤ most }
+    ensures small { result.value < 10 ^ 10 }
 {
-    if 10 < most {
-        return digits_of(bytes::part(line, at, 10));
-    }
-    digits_of(bytes::part(line, at, most))
+    digits_of(bytes::part(line, at, most.min(10)))
 }
 
-// A number from 1 to a limit, without leading zeros, and the place behind it.
-#[derive(Clone, Copy)]
-pub enum Numeral {
-    Value(usize, usize),
-    NoNumeral,
-}
-
-pub fn number_at(line: &[u8], at: usize, limit: usize) -> Numeral
+#[tactic(auto, unfolding(crate::specs::Readers::Digits::number_at))]
+pub fn number_at(line: &[u8], at: usize, limit: usize) -> Option<(usize, usize)>
     ensures { result ≡ number_at line.now at limit }
 {
-    let first = bytes::byte(line, at);
-    if first == b'0' {
-        return Numeral::NoNumeral;
+    if bytes::byte(line, at) == b'0' {
+        return None;
     }
     let digits = digits_at(line, at, 5);
-    if digits.count == 0 {
-        return Numeral::NoNumeral;
+    if digits.count == 0 || digits.value > limit {
+        return None;
     }
-    if digits.value <= limit {
-        return Numeral::Value(digits.value, at + digits.count);
-    }
-    Numeral::NoNumeral
+    Some((digits.value, at + digits.count))
 }

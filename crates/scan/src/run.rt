@@ -1,5 +1,5 @@
 // Classes of bytes, and runs of bytes of one class.
-ghost use Rattle.std.specs.Prelude.{◌≡◌, length};
+ghost use Rattle.std.specs.Prelude.{◌≡◌, ◌≤◌, length};
 ghost use Rattle.scan.specs.Run.{in_range, belongs, span};
 
 #[derive(Clone, Copy)]
@@ -17,54 +17,27 @@ pub enum Class {
     Unbraced,
 }
 
-fn between(b: u8, low: u8, high: u8) -> bool
-    ensures { result ≡ in_range b low high }
-{
-    if b < low {
-        return false;
-    }
-    b <= high
-}
-
+#[tactic(auto, unfolding(crate::specs::Run::belongs))]
 pub fn belongs_to(class: Class, b: u8) -> bool
     ensures { result ≡ belongs class b }
 {
     match class {
-        Class::Allowed => {
-            if b == 10 {
-                return true;
-            }
-            between(b, 32, 126)
-        }
-        Class::InLine => b != 10,
+        Class::Allowed => b == b'\n' || (32..=126).contains(&b),
+        Class::InLine => b != b'\n',
         Class::InString => b != b'"',
-        Class::InName => {
-            if between(b, b'A', b'Z') {
-                return true;
-            }
-            between(b, b'0', b'9')
-        }
-        Class::Digit => between(b, b'0', b'9'),
-        Class::Unbraced => {
-            if b == b'{' {
-                return false;
-            }
-            b != b'}'
-        }
+        Class::InName => b.is_ascii_uppercase() || b.is_ascii_digit(),
+        Class::Digit => b.is_ascii_digit(),
+        Class::Unbraced => b != b'{' && b != b'}',
     }
 }
 
 // How many bytes at the front belong to a class.
+#[tactic(auto, using(crate::proofs::RunLaws::length_span))]
 pub fn count(s: &[u8], class: Class) -> usize
-    ensures { result ≡ length (span class s.now) }
+    ensures value { result ≡ length (span class s.now) }
+    ensures within { result ≤ length s.now }
 {
-    let mut i = 0;
-    while i < s.len() {
-        let b = s[i];
-        if !belongs_to(class, b) {
-            return i;
-        }
-        i += 1;
-    }
-    i
+    s.iter()
+        .position(|b| !belongs_to(class, *b))
+        .unwrap_or(s.len())
 }

@@ -1,17 +1,10 @@
 // What the program reads: a file by its name, and the section's name. Where it can't be read, a message says why.
-ghost use Rattle.std.specs.Prelude.{◌≡◌, IfOk};
+ghost use Rattle.std.specs.Prelude.{◌≡◌, IfSome, IsOkAnd};
 ghost use Rattle.std.specs.Io.{ReadsAtMost};
 ghost use Rattle.sheet.specs.Inner.Prefix.{IsPrefixLen};
 
 use std::rt::Files;
 use std::{fs, io};
-
-// Whether all was read, and how many bytes of the buffer it fills.
-#[derive(Clone, Copy)]
-pub struct Read {
-    pub whole: bool,
-    pub bytes: usize,
-}
 
 // The system's words for an error, without the number that std writes behind them.
 fn words(text: &str) -> &str {
@@ -32,14 +25,16 @@ fn say<R: Eprint + AllocGlobal>(rt: &R, what: &str, why: io::Error) -> io::Resul
     }
 }
 
-// Nothing more can be done where the message can't be written either.
-fn failed<R: Eprint + AllocGlobal>(rt: &R, what: &str, why: io::Error) -> Read
-    ensures { result.bytes ≡ 0 }
+// What was read, or a message that says why nothing was. Nothing more can be done where the message can't be written either.
+fn told<R: Eprint + AllocGlobal>(rt: &R, what: &str, read: io::Result<usize>) -> Option<usize>
+    ensures { IfSome result (λ n. IsOkAnd read (λ m. m ≡ n)) }
 {
-    let _ = say(rt, what, why);
-    Read {
-        whole: false,
-        bytes: 0,
+    match read {
+        Ok(n) => Some(n),
+        Err(why) => {
+            let _ = say(rt, what, why);
+            None
+        }
     }
 }
 
@@ -48,6 +43,7 @@ fn fill<F: io::Read>(from: &mut F, buf: &mut [u8]) -> io::Result<usize>
     ensures { ReadsAtMost result buf.new }
 {
     let mut n = 0;
+    // A read may give less than it was asked for.
     while n < buf.len() {
         let more = from.read(&mut buf[n..])?;
         if more == 0 {
@@ -58,43 +54,26 @@ fn fill<F: io::Read>(from: &mut F, buf: &mut [u8]) -> io::Result<usize>
     Ok(n)
 }
 
-// What an open file holds, up to the buffer's end.
-fn contents<R: Files + Eprint + AllocGlobal>(
-    rt: &R,
-    file: R::File,
-    path: &str,
-    buf: &mut [u8],
-) -> Read
-    ensures { IsPrefixLen result.bytes buf.new }
+// What a file holds, up to the buffer's end.
+fn contents<R: Files + AllocGlobal>(rt: &R, path: &str, buf: &mut [u8]) -> io::Result<usize>
+    ensures { ReadsAtMost result buf.new }
 {
-    let mut file = file;
-    match fill(&mut file, buf) {
-        Ok(n) => Read {
-            whole: true,
-            bytes: n,
-        },
-        Err(e) => failed(rt, path, e),
-    }
+    let mut file = fs::open(rt, path)?;
+    fill(&mut file, buf)
 }
 
-// A file, up to the buffer's end.
-pub fn load<R: Files + Eprint + AllocGlobal>(rt: &R, path: &str, buf: &mut [u8]) -> Read
-    ensures { IsPrefixLen result.bytes buf.new }
+// How many bytes of the buffer a file fills; none where it can't be read.
+pub fn load<R: Files + Eprint + AllocGlobal>(rt: &R, path: &str, buf: &mut [u8]) -> Option<usize>
+    ensures { IfSome result (λ n. IsPrefixLen n buf.new) }
 {
-    match fs::open(rt, path) {
-        Ok(file) => contents(rt, file, path, buf),
-        Err(e) => failed(rt, path, e),
-    }
+    told(rt, path, contents(rt, path, buf))
 }
 
 // The next byte, if there is one.
 fn take_byte<F: io::Read>(from: &mut F) -> io::Result<Option<u8>> {
     let mut byte = [0u8; 1];
     let got = from.read(&mut byte)?;
-    if got == 0 {
-        return Ok(None);
-    }
-    Ok(Some(byte[0]))
+    Ok(if got == 0 { None } else { Some(byte[0]) })
 }
 
 // The bytes up to 0x0A or the end: what the buffer holds of them is all that is read.
@@ -102,11 +81,11 @@ fn line<F: io::Read>(from: &mut F, buf: &mut [u8]) -> io::Result<usize>
     ensures { ReadsAtMost result buf.new }
 {
     let mut n = 0;
-    while n < buf.len() {
+    for slot in buf.iter_mut() {
         match take_byte(from)? {
             Some(0x0A) | None => break,
-            Some(b) => {
-                buf[n] = b;
+            Some(byte) => {
+                *slot = byte;
                 n += 1;
             }
         }
@@ -114,16 +93,9 @@ fn line<F: io::Read>(from: &mut F, buf: &mut [u8]) -> io::Result<usize>
     Ok(n)
 }
 
-// The section's name, "up to 0x0A or its end".
-pub fn name<R: Input + Eprint + AllocGlobal>(rt: &R, buf: &mut [u8]) -> Read
-    ensures { IsPrefixLen result.bytes buf.new }
+// The section's name, "up to 0x0A or its end"; none where it can't be read.
+pub fn name<R: Input + Eprint + AllocGlobal>(rt: &R, buf: &mut [u8]) -> Option<usize>
+    ensures { IfSome result (λ n. IsPrefixLen n buf.new) }
 {
-    let mut input = rt.reader();
-    match line(&mut input, buf) {
-        Ok(n) => Read {
-            whole: true,
-            bytes: n,
-        },
-        Err(e) => failed(rt, "standard input", e),
-    }
+    told(rt, "standard input", line(&mut rt.reader(), buf))
 }

@@ -10,11 +10,13 @@ use std::io;
 
 // The closing line.
 fn close(rt: &impl Print, made: Report) -> io::Result<()> {
-    let number = made.number;
-    let line = made.line;
-    let pages = made.pages;
-    let bytes = made.bytes;
-    let questions = made.questions;
+    let Report {
+        number,
+        line,
+        pages,
+        bytes,
+        questions,
+    } = made;
     println!(rt; "{number} {line} {pages} {bytes} {questions}")
 }
 
@@ -26,7 +28,7 @@ fn print<'a>(
     store: &'a [u8],
 ) -> io::Result<()> {
     let mut text = [0u8; 65536];
-    let made = printing::sheet(template, section, store, store.len(), &mut text);
+    let made = printing::sheet(template, section, store, &mut text);
     let n = made.bytes;
     rt.write_all(&text[..n])?;
     close(rt, made)
@@ -36,22 +38,16 @@ fn print<'a>(
 // wrong as a longer one, and so is a store of 65,537.
 fn main(rt: HostRuntime) -> io::Result<()> {
     let mut name = [0u8; 8];
-    let named = file::name(&rt, &mut name);
-    if !named.whole {
+    let Some(named) = file::name(&rt, &mut name) else {
         return Ok(());
-    }
+    };
     let mut template = [0u8; 32769];
-    let lines = file::load(&rt, "template", &mut template);
-    if !lines.whole {
+    let Some(lines) = file::load(&rt, "template", &mut template) else {
         return Ok(());
-    }
+    };
     let mut store = [0u8; 65537];
-    let cells = file::load(&rt, "store", &mut store);
-    if !cells.whole {
+    let Some(cells) = file::load(&rt, "store", &mut store) else {
         return Ok(());
-    }
-    let a = named.bytes;
-    let b = lines.bytes;
-    let c = cells.bytes;
-    print(&rt, &template[..b], &name[..a], &store[..c])
+    };
+    print(&rt, &template[..lines], &name[..named], &store[..cells])
 }

@@ -1,4 +1,5 @@
 -- What a call for C hands back, from what the call below it hands back.
+use Rattle.std.specs.Prelude.{Result, Ok, Err}
 use mathlib.Core.Path.{◌≡◌, refl, ap, ◌∙◌, subst}
 use mathlib.Core.List.{List}
 use Prim.Native.Nat.{ℕ}
@@ -10,8 +11,6 @@ use Rattle.cells.specs.declared.Asked.{Asked}
 use Rattle.cells.specs.Cell.{integer_kind, decimal_kind, string_kind}
 use Rattle.meaning.specs.declared.refusal.Refusal.{Refusal}
 use Rattle.template.specs.declared.Extent.{Extent}
-use Rattle.template.specs.declared.Checked.{Checked}
-use Rattle.template.specs.declared.Checked.TheVariants.{Accepted, Refused}
 use Rattle.station.specs.Checks.{ToldCheck}
 use Rattle.store.specs.declared.Edited.{Edited}
 use Rattle.store.specs.Edit.{Edit, edit}
@@ -57,8 +56,8 @@ told_edit s e q = record {
 
 -- ---- checks
 
-pub check_accepted : {x y : Checked} {run : Extent} {s : ℕ} → y ≡ x → y ≡ Accepted run → s ≡ run.line → ToldCheck x 0 s 0
+pub check_accepted : {x y : (Result Extent (Refusal × ℕ))} {run : Extent} {s : ℕ} → y ≡ x → y ≡ Ok run → s ≡ run.line → ToldCheck x 0 s 0
 check_accepted e h q = record { number = rw (← e, h); line = rw (← e, h); start = rw (← e, h) q }
 
-pub check_refused : {x y : Checked} {e : Refusal} {l r : ℕ} → y ≡ x → y ≡ Refused e l → r ≡ refusal_number e → ToldCheck x l 0 r
+pub check_refused : {x y : (Result Extent (Refusal × ℕ))} {e : Refusal} {l r : ℕ} → y ≡ x → y ≡ Err (e, l) → r ≡ refusal_number e → ToldCheck x l 0 r
 check_refused p h q = record { number = rw (← p, h) q; line = rw (← p, h); start = rw (← p, h) }

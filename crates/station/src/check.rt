@@ -5,7 +5,6 @@ ghost use Rattle.template.specs.Order.{template_checked};
 ghost use Rattle.station.specs.Checks.{ToldCheck};
 
 use meaning::refusal::Refusal;
-use template::Checked;
 
 fn refusal_number(refusal: Refusal) -> u32
     ensures { result ≡ refusal_number refusal }
@@ -18,12 +17,12 @@ pub fn station_check(text: &[u8], section: &[u8], line: &mut u32, start: &mut u3
 {
     let checked = template::check(text, section);
     match checked {
-        Checked::Accepted(run) => {
+        Ok(run) => {
             *line = 0;
             *start = run.line;
             0
         }
-        Checked::Refused(refusal, at) => {
+        Err((refusal, at)) => {
             *line = at;
             *start = 0;
             refusal_number(refusal)

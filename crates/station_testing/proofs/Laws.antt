@@ -1,24 +1,18 @@
 -- What a call for tests hands back, from what the call below it hands back.
+use Rattle.numbers.specs.declared.ArithmeticError.{ArithmeticError}
+use Rattle.std.specs.Prelude.{Some, None, Option, Result, Ok}
 use mathlib.Core.Path.{◌≡◌, refl, ap, ap₂, ◌∙◌, subst}
 use mathlib.Core.Bool.{Bool, true, false, cond}
 use mathlib.Core.List.{List, ◌++◌}
-use mathlib.Core.Option.{Option, none, some}
-use Prim.Native.Nat.{ℕ, ◌+◌, ◌-◌, ◌≤◌, ◌<◌}
+use Prim.Native.Nat.{ℕ, ◌+◌, ◌≤◌, ◌<◌}
 use native.Mathlib.Omega.{arith}
 use borrow.Author.Tests.{lt-ltb, le-ltb, ltb-false}
 use lib.Dec.{ltb}
 use lib.IntN.{ℤ}
 use lib.ListN.{length, get_or, take, drop, get_or-append}
 use lib.Seq.{sets, sets-eq, length-sets, take_at}
-use Rattle.numbers.specs.declared.Number.{Number}
-use Rattle.numbers.specs.declared.Number.TheVariants.{Computed}
-use Rattle.numbers.specs.Result.{Result, result_in}
-use Rattle.numbers.specs.declared.Rounded.{Rounded}
-use Rattle.numbers.specs.declared.Rounded.TheVariants.{Units, OutOfRange}
 use Rattle.meaning.specs.declared.question.Question.{Question}
 use Rattle.cells.specs.declared.Answered.{Answered}
-use Rattle.cells.specs.declared.index.Indexed.{Indexed}
-use Rattle.cells.specs.declared.index.Indexed.TheVariants.{Count, BadStore}
 use Rattle.cells.specs.Cell.{Cell}
 use Rattle.cells.specs.Store.{cells_held}
 use Rattle.cells.specs.Inner.Index.{Indexes, Answers, Ready, offsets}
@@ -30,16 +24,16 @@ use Rattle.station_testing.specs.Codes.{ToldResult, ToldUnits}
 use Rattle.station_testing.specs.Index.{Listing, listing, listed, ToldLookUp}
 use Rattle.station_testing.specs.Jumps.{ToldSkip}
 
-pub told_of : {o o' : Result} {v v' : ℤ} {r : ℕ} → o ≡ o' → ToldResult o v v' r → ToldResult o' v v' r
+pub told_of : {o o' : Result ℤ ArithmeticError} {v v' : ℤ} {r : ℕ} → o ≡ o' → ToldResult o v v' r → ToldResult o' v v' r
 told_of e t = rw e at t
 
-pub told_value : {n : Number} {z v v' : ℤ} → n ≡ Computed z → v' ≡ z → ToldResult (result_in n) v v' 0
+pub told_value : {o : Result ℤ ArithmeticError} {z v v' : ℤ} → o ≡ Ok z → v' ≡ z → ToldResult o v v' 0
 told_value e h = record { number = rw e; value = rw e h }
 
-pub units_none : {o : Rounded} {n : ℕ} → o ≡ OutOfRange → ToldUnits o n n false
+pub units_none : {o : (Option ℕ)} {n : ℕ} → o ≡ None → ToldUnits o n n false
 units_none e = record { told = rw e; units = rw e }
 
-pub units_some : {o : Rounded} {u n : ℕ} → o ≡ Units u → ToldUnits o n u true
+pub units_some : {o : (Option ℕ)} {u n : ℕ} → o ≡ Some u → ToldUnits o n u true
 units_some e = record { told = rw e; units = rw e }
 
 pub told_skip : {x : Skip} (s : Skip) → s ≡ x → ToldSkip x s.bytes s.lines
@@ -48,31 +42,31 @@ told_skip s e = record { bytes = ap (λ (y : Skip). y.bytes) e; lines = ap (λ (
 -- ---- the index
 
 -- an index of 5,461 places was built
-module _ (b : List ℕ) (len : ℕ) (p p' : List ℕ) (r : Indexed) (x : Indexes p (cells_held b len) p' r) where
-  pub index_few : (k : ℕ) → r ≡ Count k → 5461 ≤ length p → k ≤ length p'
+module _ (b : List ℕ) (len : ℕ) (p p' : List ℕ) (r : Option ℕ) (x : Indexes p (cells_held b len) p' r) where
+  pub index_few : (k : ℕ) → r ≡ Some k → 5461 ≤ length p → k ≤ length p'
   index_few k e l = (index_ready b len p p' r x k e l).1.room
 
   -- n and i are the count and the places that were lent
   module _ (n : ℕ) (i : List ℕ) where
-    pub index_refused : r ≡ BadStore → listing 1 n i ≡ listed i n (cells_held b len)
+    pub index_refused : r ≡ None → listing 1 n i ≡ listed i n (cells_held b len)
     unfolding listed
     index_refused e = rw (not_held b len p p' r x e)
 
-    module _ (k : ℕ) (e : r ≡ Count k) where
+    module _ (k : ℕ) (e : r ≡ Some k) where
       pub index_short : length i < k → listing 16 n i ≡ listed i n (cells_held b len)
       unfolding listed
       index_short h =
           let f = built b len p p' r x k e in
           rw (f.held, lt-ltb (length i) (length f.cells) (omega (arith, f.tally)))
 
-      pub index_listed : 5461 ≤ length p → k ≤ length i → (j : List ℕ) → j ≡ sets i 0 (take (k - 0) (drop 0 p')) → listing 0 k j ≡ listed i n (cells_held b len)
+      pub index_listed : 5461 ≤ length p → k ≤ length i → (j : List ℕ) → j ≡ sets i 0 (take k p') → listing 0 k j ≡ listed i n (cells_held b len)
       unfolding listed
       index_listed l h j s =
           let f = built b len p p' r x k e in
           let o : List ℕ = offsets 0 f.cells in
           let m : length o ≡ length f.cells = length_offsets f.cells 0 in
           let w : 0 + length o ≤ length p = omega (arith, m, f.tally, index_few k e l, ap length f.filled, length-sets p 0 o) in
-          let t : take (k - 0) (drop 0 p') ≡ o = ap (take (k - 0)) (f.filled ∙ sets-eq o p 0 w) ∙ take_at o (drop (0 + length o) p) (k - 0) (omega (arith, m, f.tally)) in
+          let t : take k p' ≡ o = ap (take k) (f.filled ∙ sets-eq o p 0 w) ∙ take_at o (drop (0 + length o) p) k (omega (arith, m, f.tally)) in
           rw (f.held, le-ltb (length i) (length f.cells) (omega (arith, f.tally))) (ap₂ (listing 0) f.tally (s ∙ ap (sets i 0) t))
 
 -- ---- a question over an index
@@ -86,8 +80,8 @@ unfolding listed
 listed_ready b len n n' i j e = go (cells_held b len) refl e
   where
     go : (o : Option (List Cell)) → cells_held b len ≡ o → listing 0 n' j ≡ listed i n o → (cs : List Cell) × Ready b len j n' cs
-    go none h e = let z : ◌≡◌ {A = ℕ} 0 1 = ap (λ (x : Listing). x.number) e in absurd (omega arith)
-    go (some cs) h e = (cs, fits (ltb (length i) (length cs)) refl e)
+    go None h e = let z : ◌≡◌ {A = ℕ} 0 1 = ap (λ (x : Listing). x.number) e in absurd (omega arith)
+    go (Some cs) h e = (cs, fits (ltb (length i) (length cs)) refl e)
       where
         o : List ℕ
         o = offsets 0 cs

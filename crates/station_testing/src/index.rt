@@ -1,37 +1,24 @@
 // The index of a store, and questions over it.
-ghost use Rattle.std.specs.Prelude.{◌≡◌, ◌≤◌, length};
-ghost use Rattle.std.proofs.lemmas.List.Edits.{sets};
+ghost use Rattle.std.specs.Prelude.{◌≡◌};
 ghost use Rattle.cells.specs.Store.{cells_held};
 ghost use Rattle.station.specs.Answers.{question_of};
 ghost use Rattle.station_testing.specs.Index.{listing, listed, ToldLookUp};
 
-use cells::index::Indexed;
 use meaning::question::Question;
 use station::question;
-
-fn copy_in(starts: &mut [u16], found: &[u16])
-    requires { length found.now ≤ length starts.old }
-    ensures { starts.new ≡ sets starts.old 0 found.now }
-{
-    let mut j = 0;
-    while j < found.len() {
-        starts[j] = found[j];
-        j += 1;
-    }
-}
 
 // The places of the cells, and how many there are; 1 where the store is out of form, 16 where there are too few places.
 pub fn station_index(buffer: &[u8], length: usize, starts: &mut [u16], count: &mut usize) -> u32
     ensures { listing result count.new starts.new ≡ listed starts.old count.old (cells_held buffer.now length) }
 {
     let mut found = [0u16; 5461];
-    let Indexed::Count(n) = cells::index::build(buffer, length, &mut found) else {
+    let Some(n) = cells::index::build(buffer, length, &mut found) else {
         return 1;
     };
     if starts.len() < n {
         return 16;
     }
-    copy_in(starts, &found[0..n]);
+    starts[..n].copy_from_slice(&found[..n]);
     *count = n;
     0
 }

@@ -5,16 +5,15 @@ ghost use Rattle.station_testing.specs.Jumps.{sought_of, ToldSkip};
 
 use template::seek::Sought;
 
+#[tactic(auto, unfolding(crate::specs::Jumps::sought_of))]
 fn sought_of(code: u32) -> Sought
     ensures { result ≡ sought_of code }
 {
-    if code == 0 {
-        return Sought::Branch;
+    match code {
+        0 => Sought::Branch,
+        1 => Sought::TestEnd,
+        _ => Sought::TableEnd,
     }
-    if code == 1 {
-        return Sought::TestEnd;
-    }
-    Sought::TableEnd
 }
 
 // How many bytes and lines of a part of a template are passed over.

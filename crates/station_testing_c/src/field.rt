@@ -1,6 +1,5 @@
 // Fields, with a number given by its kind's byte.
-ghost use Rattle.std.specs.Prelude.{false};
-ghost use Rattle.std.proofs.Math.Option.{none, some};
+ghost use Rattle.std.specs.Prelude.{false, Some, None};
 ghost use Rattle.fields.specs.Field.{field_of};
 ghost use Rattle.fields.specs.Inner.Putting.{Put};
 ghost use Rattle.meaning.specs.Answer as G;
@@ -16,7 +15,7 @@ pub extern "C" fn station_number_field(
     kind: u8,
     n: i64,
 ) -> bool
-    ensures { Put buffer.old at (field_of width (places_said said places) (some (G.number (quantity_of kind n)))) buffer.new result }
+    ensures { Put buffer.old at (field_of width (places_said said places) (Some (G.number (quantity_of kind n)))) buffer.new result }
 {
     station_testing::field::station_number_field(buffer, at, width, said, places, kind, n)
 }
@@ -28,14 +27,14 @@ pub extern "C" fn station_string_field(
     width: usize,
     bytes: &[u8],
 ) -> bool
-    ensures { Put buffer.old at (field_of width (places_said false 0) (some (G.string bytes.now))) buffer.new result }
+    ensures { Put buffer.old at (field_of width (places_said false 0) (Some (G.string bytes.now))) buffer.new result }
 {
     station_testing::field::station_string_field(buffer, at, width, bytes)
 }
 
 #[unsafe(no_mangle)]
 pub extern "C" fn station_missing_field(buffer: &mut [u8], at: usize, width: usize) -> bool
-    ensures { Put buffer.old at (field_of width (places_said false 0) none) buffer.new result }
+    ensures { Put buffer.old at (field_of width (places_said false 0) None) buffer.new result }
 {
     station_testing::field::station_missing_field(buffer, at, width)
 }

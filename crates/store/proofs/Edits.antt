@@ -1,24 +1,21 @@
 -- What put and remove hand back, from the index, the request and the slot.
+use Rattle.std.specs.Prelude.{Some, None, Option}
+use Rattle.std.specs.Option.{unwrap_or}
 use mathlib.Core.Path.{◌≡◌, refl, sym, ap, ap₂, ◌∙◌, subst}
 use mathlib.Core.Bool.{Bool, true, false, cond, ◌&&◌}
 use mathlib.Core.List.{List, [], ◌∷◌, ◌++◌, append_assoc}
-use mathlib.Core.Option.{Option, none, some}
-use Prim.Native.Nat.{ℕ, ◌+◌, ◌-◌, ◌≤◌, ◌<◌}
+use Prim.Native.Nat.{ℕ, ◌+◌, ◌-◌, ◌≤◌, ◌<◌, min}
 use native.Mathlib.Omega.{arith}
-use borrow.Author.Tests.{le-leb, lt-leb}
-use lib.Dec.{leb}
+use borrow.Author.Tests.{le-leb, lt-leb, ltb-true, ltb-false}
+use lib.Dec.{leb, ltb}
 use lib.ListN.{length, take, drop, replicate, length-append, length-drop}
 use lib.Seq.{sets, length-take-le}
 use Rattle.meaning.specs.declared.refusal.Refusal.TheVariants as F
 use Rattle.meaning.specs.declared.end.Ended.TheVariants.{Finished}
-use Rattle.cells.specs.declared.index.Indexed.{Indexed}
-use Rattle.cells.specs.declared.index.Indexed.TheVariants.{Count, BadStore}
-use Rattle.cells.specs.declared.request.Request.{Request}
-use Rattle.cells.specs.declared.request.Request.TheVariants as R
 use Rattle.cells.specs.Cell.{Key, Cell, key_as_number, key_number, cell_bytes, whole_cell, whole_key}
 use Rattle.cells.specs.Store.{encode, cells_held}
 use Rattle.cells.specs.Asking.{lookup}
-use Rattle.cells.specs.Inner.Index.{Indexes}
+use Rattle.cells.specs.Inner.Index.{Indexes, Ready}
 use Rattle.cells.specs.Inner.Request.{requested, requested_key, CellAsked, KeyAsked}
 use Rattle.cells.proofs.Walking.{encode_append}
 use Rattle.cells.proofs.Locating.{HeldAs, held_some}
@@ -30,28 +27,28 @@ use Rattle.store.specs.Inner.Slot.{replaced, Stretch, SlotOf}
 
 -- ---- what the request tells
 
-apart : {k : ℕ} → R.Bad ≡ R.Key k → ⊥
+apart : {k : ℕ} → None ≡ Some k → ⊥
 apart e = let z : ◌≡◌ {A = ℕ} 0 1 = cc in omega arith
 
-bad_cell : (o : Option Cell) → R.Bad ≡ requested o → o ≡ none
+bad_cell : (o : Option Cell) → None ≡ requested o → o ≡ None
 unfolding requested
-bad_cell none e = refl
-bad_cell (some c) e = absurd (apart e)
+bad_cell None e = refl
+bad_cell (Some c) e = absurd (apart e)
 
-good_cell : (k : ℕ) (o : Option Cell) → R.Key k ≡ requested o → (c : Cell) × (o ≡ some c) × (k ≡ key_number c)
+good_cell : (k : ℕ) (o : Option Cell) → Some k ≡ requested o → (c : Cell) × (o ≡ Some c) × (k ≡ key_number c)
 unfolding requested
-good_cell k none e = absurd (apart (sym e))
-good_cell k (some c) e = (c, refl, cc)
+good_cell k None e = absurd (apart (sym e))
+good_cell k (Some c) e = (c, refl, cc)
 
-bad_key : (o : Option Key) → R.Bad ≡ requested_key o → o ≡ none
+bad_key : (o : Option Key) → None ≡ requested_key o → o ≡ None
 unfolding requested_key
-bad_key none e = refl
-bad_key (some k) e = absurd (apart e)
+bad_key None e = refl
+bad_key (Some k) e = absurd (apart e)
 
-good_key : (n : ℕ) (o : Option Key) → R.Key n ≡ requested_key o → (k : Key) × (o ≡ some k) × (n ≡ key_as_number k)
+good_key : (n : ℕ) (o : Option Key) → Some n ≡ requested_key o → (k : Key) × (o ≡ Some k) × (n ≡ key_as_number k)
 unfolding requested_key
-good_key n none e = absurd (apart (sym e))
-good_key n (some k) e = (k, refl, cc)
+good_key n None e = absurd (apart (sym e))
+good_key n (Some k) e = (k, refl, cc)
 
 -- ---- the bytes of the new store
 
@@ -92,8 +89,8 @@ encode_without k cs = encode_append (lower k cs) (higher k cs)
 pub record Putting (b : List ℕ) (n : ℕ) (s : List ℕ) (at size : ℕ) : Type 0 where
   pub cells : List Cell
   pub cell : Cell
-  pub holds : cells_held b n ≡ some cells
-  pub whole : whole_cell s ≡ some cell
+  pub holds : cells_held b n ≡ Some cells
+  pub whole : whole_cell s ≡ Some cell
   pub inside : at + size ≤ n
   pub short : length s ≤ 25
   pub most : n ≤ 65536
@@ -101,33 +98,33 @@ pub record Putting (b : List ℕ) (n : ℕ) (s : List ℕ) (at size : ℕ) : Typ
   pub size_is : length (encode (with cell cells)) ≡ n - size + length s
   pub bytes : replaced b n at size s ≡ sets b 0 (encode (with cell cells) ++ replicate (n - length (encode (with cell cells))) 0)
 
-module _ (b : List ℕ) (n : ℕ) (p p' : List ℕ) (r : Indexed) (i : Indexes p (cells_held b n) p' r) (s : List ℕ) where
-  pub put_bad_store : r ≡ BadStore → refused_edit b n F.BadStore ≡ put_of b n s
+module _ (b : List ℕ) (n : ℕ) (p p' : List ℕ) (r : Option ℕ) (i : Indexes p (cells_held b n) p' r) (s : List ℕ) where
+  pub put_bad_store : r ≡ None → refused_edit b n F.BadStore ≡ put_of b n s
   unfolding put_of checked_edit
   put_bad_store e = rw (not_held b n p p' r i e)
 
-  pub remove_bad_store : r ≡ BadStore → refused_edit b n F.BadStore ≡ remove_of b n s
+  pub remove_bad_store : r ≡ None → refused_edit b n F.BadStore ≡ remove_of b n s
   unfolding remove_of checked_edit
   remove_bad_store e = rw (not_held b n p p' r i e)
 
-  module _ (count : ℕ) (e : r ≡ Count count) (q : Request) where
-    pub put_bad_request : CellAsked s (whole_cell s) q → q ≡ R.Bad → refused_edit b n F.BadRequest ≡ put_of b n s
+  module _ (count : ℕ) (e : r ≡ Some count) (q : Option ℕ) where
+    pub put_bad_request : CellAsked s (whole_cell s) q → q ≡ None → refused_edit b n F.BadRequest ≡ put_of b n s
     unfolding put_of checked_edit put_on written_by
     put_bad_request a u = rw ((built b n p p' r i count e).held, bad_cell (whole_cell s) (sym u ∙ a.told))
 
-    pub remove_bad_request : KeyAsked (whole_key s) q → q ≡ R.Bad → refused_edit b n F.BadRequest ≡ remove_of b n s
+    pub remove_bad_request : KeyAsked (whole_key s) q → q ≡ None → refused_edit b n F.BadRequest ≡ remove_of b n s
     unfolding remove_of checked_edit remove_on written_by
     remove_bad_request a u = rw ((built b n p p' r i count e).held, bad_key (whole_key s) (sym u ∙ a.told))
 
-    module _ (l : 5461 ≤ length p) (k : ℕ) (u : q ≡ R.Key k) (t : Slot) (o : SlotOf b n p' count k t) where
-      pub putting : CellAsked s (whole_cell s) q → Putting b n s t.at t.size
+    module _ (l : 5461 ≤ length p) (k : ℕ) (u : q ≡ Some k) (t : Slot) (o : SlotOf b n p' count k t) where
+      pub putting : CellAsked s (whole_cell s) q → Putting b n s t.at (unwrap_or t.size 0)
       putting a =
           let g = index_ready b n p p' r i count e l in
           let c = good_cell k (whole_cell s) (sym u ∙ a.told) in
           let h = held_some b n g.0 g.1.holds in
           let w = whole_some s c.0 c.1 in
-          let f : Stretch b n g.0 (key_number c.0) t.at t.size = subst (λ (x : ℕ). Stretch b n g.0 x t.at t.size) c.2 (o.stretch g.0 g.1) in
-          let m = between b n g.0 (key_number c.0) t.at t.size f h s (with c.0 g.0) (encode_with c.0 g.0 ∙ ap (λ (x : List ℕ). encode (lower (key_number c.0) g.0) ++ (x ++ encode (higher (key_number c.0) g.0))) (sym w.bytes)) in
+          let f : Stretch b n g.0 (key_number c.0) t.at (unwrap_or t.size 0) = subst (λ (x : ℕ). Stretch b n g.0 x t.at (unwrap_or t.size 0)) c.2 (o.stretch g.0 g.1) in
+          let m = between b n g.0 (key_number c.0) t.at (unwrap_or t.size 0) f h s (with c.0 g.0) (encode_with c.0 g.0 ∙ ap (λ (x : List ℕ). encode (lower (key_number c.0) g.0) ++ (x ++ encode (higher (key_number c.0) g.0))) (sym w.bytes)) in
           record {
             cells = g.0;
             cell = c.0;
@@ -141,43 +138,54 @@ module _ (b : List ℕ) (n : ℕ) (p p' : List ℕ) (r : Indexed) (i : Indexes p
             bytes = m.1;
           }
 
-      pub remove_none : KeyAsked (whole_key s) q → t.size < 1 → refused_edit b n F.NoCell ≡ remove_of b n s
+      pub remove_none : KeyAsked (whole_key s) q → t.size ≡ None → refused_edit b n F.NoCell ≡ remove_of b n s
       unfolding remove_of checked_edit remove_on taken_out written_by
       remove_none a z =
           let g = index_ready b n p p' r i count e l in
           let c = good_key k (whole_key s) (sym u ∙ a.told) in
           let f = o.stretch g.0 g.1 in
-          let y : lookup (key_as_number c.0) g.0 ≡ none = ap (λ (x : ℕ). lookup x g.0) (sym c.2) ∙ f.missing (omega arith) in
+          let y : lookup (key_as_number c.0) g.0 ≡ None = ap (λ (x : ℕ). lookup x g.0) (sym c.2) ∙ f.missing (ap (λ (x : Option ℕ). unwrap_or x 0) z) in
           rw (g.1.holds, c.1, y)
 
-      pub slot_inside : (t.at + t.size ≤ n) × (n ≤ length b)
-      slot_inside =
-          let g = index_ready b n p p' r i count e l in
-          ((o.stretch g.0 g.1).inside, (held_some b n g.0 g.1.holds).inside)
+      module _ (size : ℕ) (z : t.size ≡ Some size) where
+        stretch : (cs : List Cell) → Ready b n p' count cs → Stretch b n cs k t.at size
+        stretch cs d = subst (λ (x : ℕ). Stretch b n cs k t.at x) (ap (λ (x : Option ℕ). unwrap_or x 0) z) (o.stretch cs d)
 
-      pub remove_done : KeyAsked (whole_key s) q → 1 ≤ t.size → (b' : List ℕ) → b' ≡ replaced b n t.at t.size [] → record { end = Finished; length = n - t.size; buffer = b' } ≡ remove_of b n s
-      unfolding remove_of checked_edit remove_on taken_out written_by written
-      remove_done a z b' y =
-          let g = index_ready b n p p' r i count e l in
-          let c = good_key k (whole_key s) (sym u ∙ a.told) in
-          let f : Stretch b n g.0 (key_as_number c.0) t.at t.size = subst (λ (x : ℕ). Stretch b n g.0 x t.at t.size) c.2 (o.stretch g.0 g.1) in
-          let v = f.found z in
-          let m = between b n g.0 (key_as_number c.0) t.at t.size f (held_some b n g.0 g.1.holds) [] (without (key_as_number c.0) g.0) (encode_without (key_as_number c.0) g.0) in
-          let x : n - t.size ≡ length (encode (without (key_as_number c.0) g.0)) = omega (arith, m.0) in
-          rw (g.1.holds, c.1, v.1) (λ j. record { end = Finished; length = x j; buffer = (y ∙ m.1) j })
+        pub slot_inside : (t.at + size ≤ n) × (n ≤ length b)
+        slot_inside =
+            let g = index_ready b n p p' r i count e l in
+            ((stretch g.0 g.1).inside, (held_some b n g.0 g.1.holds).inside)
+
+        pub remove_done : KeyAsked (whole_key s) q → (b' : List ℕ) → b' ≡ replaced b n t.at size [] → record { end = Finished; length = n - size; buffer = b' } ≡ remove_of b n s
+        unfolding remove_of checked_edit remove_on taken_out written_by written
+        remove_done a b' y =
+            let g = index_ready b n p p' r i count e l in
+            let c = good_key k (whole_key s) (sym u ∙ a.told) in
+            let f : Stretch b n g.0 (key_as_number c.0) t.at size = subst (λ (x : ℕ). Stretch b n g.0 x t.at size) c.2 (stretch g.0 g.1) in
+            let v = f.found (o.sized g.0 g.1 size z) in
+            let m = between b n g.0 (key_as_number c.0) t.at size f (held_some b n g.0 g.1.holds) [] (without (key_as_number c.0) g.0) (encode_without (key_as_number c.0) g.0) in
+            let x : n - size ≡ length (encode (without (key_as_number c.0) g.0)) = omega (arith, m.0) in
+            rw (g.1.holds, c.1, v.1) (λ j. record { end = Finished; length = x j; buffer = (y ∙ m.1) j })
 
 module _ (b : List ℕ) (n : ℕ) (s : List ℕ) (at size : ℕ) (w : Putting b n s at size) where
-  pub put_full : length b < n - size + length s → refused_edit b n F.StoreFull ≡ put_of b n s
+  put_past : length b < n - size + length s → refused_edit b n F.StoreFull ≡ put_of b n s
   unfolding put_of checked_edit put_on fits written_by
-  put_full h = rw (w.holds, w.whole, w.size_is, lt-leb (n - size + length s) (length b) h)
+  put_past h = rw (w.holds, w.whole, w.size_is, lt-leb (n - size + length s) (length b) h)
 
-  pub put_over : 65536 < n - size + length s → refused_edit b n F.StoreFull ≡ put_of b n s
+  put_over : 65536 < n - size + length s → refused_edit b n F.StoreFull ≡ put_of b n s
   unfolding put_of checked_edit put_on fits written_by
   put_over h = rw (w.holds, w.whole, w.size_is, lt-leb (n - size + length s) 65536 h) (go (leb (n - size + length s) (length b)))
     where
       go : (t : Bool) → refused_edit b n F.StoreFull ≡ written_out b n (cond (t && false) (done_on (with w.cell w.cells)) (refused_on F.StoreFull w.cells))
       go true = refl
       go false = refl
+
+  pub put_full : (room : ℕ) → room ≡ min (length b) 65536 → room < n - size + length s → refused_edit b n F.StoreFull ≡ put_of b n s
+  put_full room e h = go (ltb (length b) (n - size + length s)) refl
+    where
+      go : (t : Bool) → ltb (length b) (n - size + length s) ≡ t → refused_edit b n F.StoreFull ≡ put_of b n s
+      go true k = put_past (ltb-true _ _ k)
+      go false k = put_over (omega (arith, ltb-false _ _ k))
 
   pub put_done : n - size + length s ≤ length b → n - size + length s ≤ 65536 → (b' : List ℕ) → b' ≡ replaced b n at size s → record { end = Finished; length = n - size + length s; buffer = b' } ≡ put_of b n s
   unfolding put_of checked_edit put_on fits written_by written

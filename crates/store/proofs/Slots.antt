@@ -1,4 +1,5 @@
 -- The cells with lower and with higher keys, by the position that halving finds.
+use Rattle.std.specs.Prelude.{Some, None}
 use mathlib.Core.Path.{◌≡◌, refl, sym, ap, ap₂, ◌∙◌}
 use mathlib.Core.Bool.{Bool, true, false, cond, false≢true}
 use mathlib.Core.List.{List, [], ◌∷◌, ◌++◌, append-nil, append_assoc}
@@ -123,9 +124,9 @@ module _ (cs xs : List Cell) (c : Cell) (ys : List Cell) (s : cs ≡ xs ++ (c �
 -- ---- the answers of `locate`
 
 module _ (b : List ℕ) (n : ℕ) (index : List ℕ) (count k p : ℕ) (q : Position b index count k p) where
-  pub slot_past : count ≤ p → SlotOf b n index count k (record { at = n; size = 0 })
+  pub slot_past : count ≤ p → SlotOf b n index count k (record { at = n; size = None })
   unfolding encode
-  slot_past h = record { stretch = go }
+  slot_past h = record { stretch = go; sized = λ cs r size e. absurd (let z : ◌≡◌ {A = ℕ} 0 1 = cc in omega arith) }
     where
       go : (cs : List Cell) → Ready b n index count cs → Stretch b n cs k n 0
       go cs r =
@@ -158,9 +159,14 @@ module _ (b : List ℕ) (n : ℕ) (index : List ℕ) (count k p : ℕ) (q : Posi
           all_lower k here.picked.left
           (λ i l. omega (arith, key_left cs here.picked.left here.picked.cell here.picked.right here.picked.split i l, lower_keys b n index count cs r k p (q.first (sorted b n index count cs r)) i (omega (arith, here.picked.place))))
 
-    pub slot_found : t ≡ true → (size : ℕ) → SizeAt b at size → SlotOf b n index count k (record { at = at; size = size })
-    slot_found e size z = record { stretch = go }
+    pub slot_found : t ≡ true → (size : ℕ) → SizeAt b at size → SlotOf b n index count k (record { at = at; size = Some size })
+    slot_found e size z = record { stretch = go; sized = λ cs r m q. let w : size ≡ m = cc in omega (arith, some cs r) }
       where
+        some : (cs : List Cell) → Ready b n index count cs → 1 ≤ size
+        some cs r =
+            let l = here cs r in
+            omega (arith, z.size l.picked.cell l.rest l.allowed (ap (λ (i : ℕ). drop i b) pl ∙ l.bytes), cell_some l.picked.cell)
+
         go : (cs : List Cell) → Ready b n index count cs → Stretch b n cs k at size
         go cs r =
             let l = here cs r in
@@ -184,8 +190,8 @@ module _ (b : List ℕ) (n : ℕ) (index : List ℕ) (count k p : ℕ) (q : Posi
               found = λ v. (c, lookup_here k cs x c y s (λ i u g. omega (arith, lower_keys b n index count cs r k p (q.first (sorted b n index count cs r)) i (omega (arith, l.picked.place)))) m);
             }
 
-    pub slot_free : t ≡ false → SlotOf b n index count k (record { at = at; size = 0 })
-    slot_free e = record { stretch = go }
+    pub slot_free : t ≡ false → SlotOf b n index count k (record { at = at; size = None })
+    slot_free e = record { stretch = go; sized = λ cs r size e. absurd (let z : ◌≡◌ {A = ℕ} 0 1 = cc in omega arith) }
       where
         go : (cs : List Cell) → Ready b n index count cs → Stretch b n cs k at 0
         go cs r =

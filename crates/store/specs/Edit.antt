@@ -1,6 +1,5 @@
 -- "Put adds or replaces the cell of a key, whichever kind it had. Remove takes it out."
-use Rattle.std.specs.Prelude.{Bool, cond, ◌&&◌, List, [], ◌∷◌, ◌++◌, ℕ, ◌-◌, leb, ltb, length, replicate}
-use Rattle.std.proofs.Math.Option.{Option, none, some}
+use Rattle.std.specs.Prelude.{Bool, cond, ◌&&◌, List, [], ◌∷◌, ◌++◌, ℕ, ◌-◌, leb, ltb, length, replicate, Option, Some, None, Result, Ok, Err}
 use Rattle.std.proofs.lemmas.List.Edits.{sets}
 use Rattle.meaning.specs.declared.refusal.Refusal.{Refusal}
 use Rattle.meaning.specs.declared.refusal.Refusal.TheVariants.{BadStore, BadRequest, StoreFull, NoCell}
@@ -44,18 +43,18 @@ fits size cs = leb (length (encode cs)) size && leb (length (encode cs)) capacit
 
 -- 15, then 16
 unfoldable pub put_on : ℕ → Option Cell → List Cell → CellEdit
-put_on size none cs = refused_on BadRequest cs
-put_on size (some c) cs = cond (fits size (with c cs)) (done_on (with c cs)) (refused_on StoreFull cs)
+put_on size None cs = refused_on BadRequest cs
+put_on size (Some c) cs = cond (fits size (with c cs)) (done_on (with c cs)) (refused_on StoreFull cs)
 
 -- 17: "The key to remove has no cell."
 unfoldable pub taken_out : ℕ → List Cell → Option Cell → CellEdit
-taken_out k cs none = refused_on NoCell cs
-taken_out k cs (some c) = done_on (without k cs)
+taken_out k cs None = refused_on NoCell cs
+taken_out k cs (Some c) = done_on (without k cs)
 
 -- 15, then 17
 unfoldable pub remove_on : Option Key → List Cell → CellEdit
-remove_on none cs = refused_on BadRequest cs
-remove_on (some k) cs = taken_out (key_as_number k) cs (lookup (key_as_number k) cs)
+remove_on None cs = refused_on BadRequest cs
+remove_on (Some k) cs = taken_out (key_as_number k) cs (lookup (key_as_number k) cs)
 
 -- What an edit hands back: how it ended, the length, and the buffer.
 pub record Edit : Type 0 where
@@ -86,8 +85,8 @@ written_out b n x = written_by b n x.left x.end
 
 -- 1, before the others: "Ask, put and remove check 1, 15, 16, 17."
 unfoldable pub checked_edit : List ℕ → ℕ → (List Cell → CellEdit) → Option (List Cell) → Edit
-checked_edit b n f none = refused_edit b n BadStore
-checked_edit b n f (some cs) = written_out b n (f cs)
+checked_edit b n f None = refused_edit b n BadStore
+checked_edit b n f (Some cs) = written_out b n (f cs)
 
 -- put and remove, on a buffer and a length, with the bytes of a cell or a key
 unfoldable pub put_of : List ℕ → ℕ → List ℕ → Edit
@@ -95,6 +94,11 @@ put_of b n s = checked_edit b n (put_on (length b) (whole_cell s)) (cells_held b
 
 unfoldable pub remove_of : List ℕ → ℕ → List ℕ → Edit
 remove_of b n s = checked_edit b n (remove_on (whole_key s)) (cells_held b n)
+
+-- what a call hands back: the new length, or the old one with the refusal
+unfoldable pub edited_as : ℕ → Result ℕ Refusal → Edited
+edited_as n (Ok m) = record { length = m; end = Finished }
+edited_as n (Err e) = record { length = n; end = refused_with e }
 
 -- what a call handed back, as an edit
 abbrev pub edit : Edited → List ℕ → Edit

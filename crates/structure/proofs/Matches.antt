@@ -1,8 +1,8 @@
 -- The search by depth finds the match: where checks 2 to 4 accept, behind a test, an $ELSE or a $BT.
+use Rattle.std.specs.Prelude.{Option, Some}
 use mathlib.Core.Path.{◌≡◌, refl, sym, ap, ◌∙◌, subst}
 use mathlib.Core.Bool.{Bool, true, false, cond}
 use mathlib.Core.List.{List, ◌∷◌}
-use mathlib.Core.Option.{some, some-injective}
 use Prim.Native.Nat.{ℕ, zero, suc, ◌+◌, ◌≤◌, ◌<◌, min}
 use native.Mathlib.Omega.{arith}
 use borrow.Author.Tests.{le-ltb, ltb-true, ltb-false}
@@ -12,7 +12,6 @@ use Rattle.scan.specs.Line.{line_at, next_line}
 use Rattle.nesting.specs.Nest.{Mark, test, else_part}
 use Rattle.template.specs.declared.seek.Sought.{Sought}
 use Rattle.template.specs.declared.seek.Sought.TheVariants.{Branch, TestEnd, TableEnd}
-use Rattle.template.specs.declared.seek.Way.{Way}
 use Rattle.template.specs.declared.seek.Skip.{Skip}
 use Rattle.template.specs.Lines.{lines_of}
 use Rattle.template.specs.Checks.{nest_step}
@@ -54,7 +53,7 @@ record Meets (q : Sought) (M W : List Mark) (ls : List (List ℕ)) (b m : ℕ) (
   lines_are : k.lines ≡ m + lines
 
 module _ (q : Sought) {M : List Mark} where
-  behind_line : {w : Way} {W X : List Mark} (l : List ℕ) (ls : List (List ℕ)) (b m : ℕ) → Went q M w X → nest_step W l ≡ some X → ((a d : ℕ) → Over (top_of q) M a d X → Meets q M X ls (b + length l + 1) (suc m) (skip_from q (depth_of q a d) (b + length l + 1) (suc m) ls)) → Meets q M W (l ∷ ls) b m (or_skip w (λ k. skip_from q k (b + length l + 1) (suc m) ls) (record { bytes = b + length l + 1; lines = suc m }))
+  behind_line : {w : (Option ℕ)} {W X : List Mark} (l : List ℕ) (ls : List (List ℕ)) (b m : ℕ) → Went q M w X → nest_step W l ≡ Some X → ((a d : ℕ) → Over (top_of q) M a d X → Meets q M X ls (b + length l + 1) (suc m) (skip_from q (depth_of q a d) (b + length l + 1) (suc m) ls)) → Meets q M W (l ∷ ls) b m (or_skip w (λ k. skip_from q k (b + length l + 1) (suc m) ls) (record { bytes = b + length l + 1; lines = suc m }))
   unfolding or_skip
   behind_line {W = W} {X = X} l ls b m (on {a} {b = d} v) e more =
       let i = more a d v in
@@ -116,11 +115,14 @@ skipped_is_match {t} {M} {at} c q o =
         by true e = record { bytes = k.bytes; matched = m; passed = omega (arith, ltb-true (length (drop at t)) k.bytes e) }
         by false e = record { bytes = k.bytes; matched = m; passed = omega (arith, ltb-false (length (drop at t)) k.bytes e) }
 
+same_marks : {x y : List Mark} → Some x ≡ Some y → x ≡ y
+same_marks e = cc
+
 -- There is one match at most.
 pub matched_one : {q : Sought} {M W : List Mark} {ls : List (List ℕ)} {b k b' k' : ℕ} → MatchedBy q M W ls b k → MatchedBy q M W ls b' k' → (b ≡ b') × (k ≡ k')
 matched_one (this W X l ls e a) (this W' X' l' ls' e' a') = (refl, refl)
-matched_one {q} {M} (this W X l ls e a) (later W' X' l' ls' b k e' n m) = absurd (n (subst (Around M q) (some-injective _ _ (sym e ∙ e')) a))
-matched_one {q} {M} (later W X l ls b k e n m) (this W' X' l' ls' e' a') = absurd (n (subst (Around M q) (some-injective _ _ (sym e' ∙ e)) a'))
+matched_one {q} {M} (this W X l ls e a) (later W' X' l' ls' b k e' n m) = absurd (n (subst (Around M q) (same_marks (sym e ∙ e')) a))
+matched_one {q} {M} (later W X l ls b k e n m) (this W' X' l' ls' e' a') = absurd (n (subst (Around M q) (same_marks (sym e' ∙ e)) a'))
 matched_one {q} {M} (later W X l ls b k e n m) (later W' X' l' ls' b' k' e' n' m') =
-    let i = matched_one m (subst (λ (Y : List Mark). MatchedBy q M Y ls b' k') (some-injective _ _ (sym e' ∙ e)) m') in
+    let i = matched_one m (subst (λ (Y : List Mark). MatchedBy q M Y ls b' k') (same_marks (sym e' ∙ e)) m') in
     (ap (λ (x : ℕ). length l + 1 + x) i.0, ap (λ (x : ℕ). 1 + x) i.1)

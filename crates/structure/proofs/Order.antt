@@ -1,11 +1,10 @@
 -- The checks of a template are those with the names in the forms of the lines, whatever the template: where check 5 is reached,
 -- check 3 has accepted.
+use Rattle.std.specs.Prelude.{Option, Some, None}
 use mathlib.Core.Path.{◌≡◌, refl, ap}
 use mathlib.Core.List.{List, []}
 use Prim.Native.Nat.{ℕ}
 use Rattle.meaning.specs.declared.refusal.Refusal.TheVariants.{BadTemplate, BadLine, BadNesting, RepeatedSection}
-use Rattle.template.specs.declared.Verdict.{Verdict}
-use Rattle.template.specs.declared.Verdict.TheVariants.{Fine, Fault}
 use Rattle.template.specs.Lines.{lines_of}
 use Rattle.template.specs.Verdicts.{bytes_check}
 use Rattle.template.specs.Checks.{form_check, nest_check}
@@ -19,6 +18,6 @@ pub checked_in_order_law : (t caller : List ℕ) → template_checked t caller �
 unfolding template_checked forms_checked nesting_checked names_checked section_checked checked_in_order unless_fault
 checked_in_order_law t caller = ap (unless_fault BadTemplate (bytes_check t)) (by (form_check t) refl)
   where
-    by : (v : Verdict) → form_check t ≡ v → unless_fault BadLine v (nesting_checked t caller) ≡ unless_fault BadLine v (unless_fault BadNesting (nest_check t) (unless_fault RepeatedSection (repeated_from 1 [] (lines_of t)) (accepted_run (chosen_run t caller))))
-    by Fine e = rw (names_by_form t e, run_by_form caller t e)
-    by (Fault n) e = refl
+    by : (v : Option ℕ) → form_check t ≡ v → unless_fault BadLine v (nesting_checked t caller) ≡ unless_fault BadLine v (unless_fault BadNesting (nest_check t) (unless_fault RepeatedSection (repeated_from 1 [] (lines_of t)) (accepted_run (chosen_run t caller))))
+    by None e = rw (names_by_form t e, run_by_form caller t e)
+    by (Some n) e = refl

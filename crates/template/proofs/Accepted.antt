@@ -1,4 +1,5 @@
 -- What is known of an accepted template and its run, and of why a template is refused.
+use Rattle.std.specs.Prelude.{Option, Some, None, Result, Ok, Err}
 use mathlib.Core.Path.{◌≡◌, refl, sym, ◌∙◌, subst}
 use mathlib.Core.Bool.{Bool, true, false, cond, not, ◌&&◌, false≢true}
 use mathlib.Core.List.{List, [], ◌∷◌}
@@ -18,15 +19,7 @@ use Rattle.meaning.specs.Number.{refusal_number}
 use Rattle.template.specs.Name.{section_word, name_of}
 use Rattle.nesting.specs.declared.Shape.TheVariants.{Section}
 use Rattle.nesting.specs.Nest.{Mark, tables_open}
-use Rattle.template.specs.declared.Verdict.{Verdict}
-use Rattle.template.specs.declared.Verdict.TheVariants.{Fine, Fault}
 use Rattle.template.specs.declared.Extent.{Extent}
-use Rattle.template.specs.declared.Checked.{Checked}
-use Rattle.template.specs.declared.Checked.TheVariants.{Accepted, Refused}
-use Rattle.template.specs.declared.sections.Selection.{Selection}
-use Rattle.template.specs.declared.sections.Selection.TheVariants.{Lines, NotThere}
-use Rattle.template.specs.declared.sections.Found.{Found}
-use Rattle.template.specs.declared.sections.Found.TheVariants.{At, Nowhere}
 use Rattle.template.specs.Lines.{lines_of}
 use Rattle.template.specs.Verdicts.{bytes_check}
 use Rattle.template.specs.Shape.{shape_in, shape_of, is_formed}
@@ -72,14 +65,14 @@ section_line {t} {at} {n} {M} c o h name e =
     record { number = n; marks = M; opens = o; line = refl; inside = h; shape = s; no_table = (behind_section c o h s).1 }
 
 -- where a search for a section ends
-Ends : List ℕ → ℕ → Found → Type 0
-Ends t at (At a k) = SectionLine t a k × (at ≤ a)
-Ends t at Nowhere = Unit
+Ends : List ℕ → ℕ → Option (ℕ × ℕ) → Type 0
+Ends t at (Some (a, k)) = SectionLine t a k × (at ≤ a)
+Ends t at None = Unit
 
-further : (t : List ℕ) (at to : ℕ) (f : Found) → at ≤ to → Ends t to f → Ends t at f
+further : (t : List ℕ) (at to : ℕ) (f : Option (ℕ × ℕ)) → at ≤ to → Ends t to f → Ends t at f
 unfolding Ends
-further t at to (At a k) h e = (e.0, omega (arith, e.1))
-further t at to Nowhere h e = tt
+further t at to (Some (a, k)) h e = (e.0, omega (arith, e.1))
+further t at to None h e = tt
 
 -- at a line, with what is found behind it
 found_from : {t : List ℕ} {at n : ℕ} {M : List Mark} → Checks t → OpenBefore t at n M → at < length t → (name : List ℕ) → Ends t (next_line t at) (section_from name (next_line t at) (suc n) (lines_of (drop (next_line t at) t))) → Ends t at (section_from name at n (lines_of (drop at t)))
@@ -88,7 +81,7 @@ found_from {t} {at} {n} c o h name i =
     let l : at + (length (line_at t at) + 1) ≡ next_line t at = omega arith in
     rw (lines_more t at h, l) (by (selects name (line_at t at)) refl (section_from name (next_line t at) (suc n) (lines_of (drop (next_line t at) t))) i)
   where
-    by : (b : Bool) → selects name (line_at t at) ≡ b → (f : Found) → Ends t (next_line t at) f → Ends t at (cond b (At at (suc n)) f)
+    by : (b : Bool) → selects name (line_at t at) ≡ b → (f : Option (ℕ × ℕ)) → Ends t (next_line t at) f → Ends t at (cond b (Some (at, suc n)) f)
     by true e f k = (section_line c o h name e, omega arith)
     by false e f k = further t at (next_line t at) f (omega arith) k
 
@@ -117,10 +110,10 @@ run_end {t} c name a k s = by (eqb (length name) 0) (section_from [] (next_line 
     found : Ends t (next_line t a) (section_from [] (next_line t a) k (lines_of (drop (next_line t a) t)))
     found = rw s.line (section_found c [] (length t) (omega arith) (opens_next c s.opens s.inside))
 
-    by : (b : Bool) (f : Found) → Ends t (next_line t a) f → RunEnd t a (cond b (length t) (end_at t f))
+    by : (b : Bool) (f : Option (ℕ × ℕ)) → Ends t (next_line t a) f → RunEnd t a (cond b (length t) (end_at t f))
     by true f i = at_end
-    by false (At e m) i = at_section i.0 i.1
-    by false Nowhere i = at_end
+    by false (Some (e, m)) i = at_section i.0 i.1
+    by false None i = at_end
 
 -- ---- an accepted template
 
@@ -142,22 +135,22 @@ pub line_within : {t : List ℕ} {at n a e : ℕ} {M : List Mark} → OpenBefore
 line_within o at_end h = inr refl
 line_within o (at_section s l) h = inl (line_before o s.opens h)
 
-unless : (e : Refusal) (v : Verdict) (next : Checked) (r : Extent) → unless_fault e v next ≡ Accepted r → (v ≡ Fine) × (next ≡ Accepted r)
+unless : (e : Refusal) (v : Option ℕ) (next : Result Extent (Refusal × ℕ)) (r : Extent) → unless_fault e v next ≡ Ok r → (v ≡ None) × (next ≡ Ok r)
 unfolding unless_fault
-unless e Fine next r h = (refl, h)
-unless e (Fault l) next r h = absurd (let z : ◌≡◌ {A = ℕ} 0 1 = cc in omega arith)
+unless e None next r h = (refl, h)
+unless e (Some l) next r h = absurd (let z : ◌≡◌ {A = ℕ} 0 1 = cc in omega arith)
 
-run_found : {t : List ℕ} → Checks t → (name : List ℕ) (f : Found) (r : Extent) → Ends t 0 f → accepted_run (selection_from t name f) ≡ Accepted r → Runs t r
+run_found : {t : List ℕ} → Checks t → (name : List ℕ) (f : Option (ℕ × ℕ)) (r : Extent) → Ends t 0 f → accepted_run (selection_from t name f) ≡ Ok r → Runs t r
 unfolding selection_from accepted_run Ends
-run_found {t} c name (At a k) r (s, h) e =
+run_found {t} c name (Some (a, k)) r (s, h) e =
     let x : record { start = a; line = k; until = section_end t name a k } ≡ r = cc in
     let w = run_end c name a k s in
     let i = end_inside w s.inside in
     subst (Runs t) x (record { checks = c; short = checks_short c; start = s; end = w; some_line = i.0; inside = i.1 })
-run_found c name Nowhere r h e = absurd (let z : ◌≡◌ {A = ℕ} 0 1 = cc in omega arith)
+run_found c name None r h e = absurd (let z : ◌≡◌ {A = ℕ} 0 1 = cc in omega arith)
 
 -- What is known of an accepted template.
-pub accepted_runs : (t name : List ℕ) (r : Extent) → template_checked t name ≡ Accepted r → Runs t r
+pub accepted_runs : (t name : List ℕ) (r : Extent) → template_checked t name ≡ Ok r → Runs t r
 unfolding template_checked forms_checked nesting_checked names_checked section_checked selected
 accepted_runs t name r h =
     let a = unless BadTemplate (bytes_check t) (forms_checked t name) r h in
@@ -170,19 +163,19 @@ accepted_runs t name r h =
 -- ---- a refused template
 
 -- "A report ending in 1–6": a refusal by the checks of a template is 2 to 6
-abbrev pub Early : Checked → Type 0
-Early (Accepted r) = Unit {0}
-Early (Refused e l) = (2 ≤ refusal_number e) × (refusal_number e ≤ 6)
+abbrev pub Early : Result Extent (Refusal × ℕ) → Type 0
+Early (Ok r) = Unit {0}
+Early (Err (e, l)) = (2 ≤ refusal_number e) × (refusal_number e ≤ 6)
 
-unless_early : (e : Refusal) (v : Verdict) (next : Checked) → (2 ≤ refusal_number e) × (refusal_number e ≤ 6) → Early next → Early (unless_fault e v next)
+unless_early : (e : Refusal) (v : Option ℕ) (next : Result Extent (Refusal × ℕ)) → (2 ≤ refusal_number e) × (refusal_number e ≤ 6) → Early next → Early (unless_fault e v next)
 unfolding unless_fault
-unless_early e Fine next h k = k
-unless_early e (Fault l) next h k = h
+unless_early e None next h k = k
+unless_early e (Some l) next h k = h
 
-section_early : (s : Selection) → Early (accepted_run s)
+section_early : (s : Option Extent) → Early (accepted_run s)
 unfolding accepted_run
-section_early (Lines r) = tt
-section_early NotThere = (omega arith, omega arith)
+section_early (Some r) = tt
+section_early None = (omega arith, omega arith)
 
 -- A refused template's number is 2 to 6.
 pub refused_early : (t name : List ℕ) → Early (template_checked t name)

@@ -1,5 +1,6 @@
 -- Where a failed test, an executed $ELSE and a skipped table go on: behind the line that closes or turns what they stand in,
 -- and no section is passed on the way.
+use Rattle.std.specs.Prelude.{Option}
 use mathlib.Core.Path.{◌≡◌, refl, sym, ap, subst, ◌∙◌}
 use mathlib.Core.Bool.{Bool, true, false, cond}
 use mathlib.Core.List.{List, ◌∷◌}
@@ -14,7 +15,6 @@ use Rattle.nesting.specs.declared.Shape.TheVariants.{Section}
 use Rattle.nesting.specs.Nest.{Mark, test, else_part, table}
 use Rattle.template.specs.declared.seek.Sought.{Sought}
 use Rattle.template.specs.declared.seek.Sought.TheVariants.{Branch, TestEnd, TableEnd}
-use Rattle.template.specs.declared.seek.Way.{Way}
 use Rattle.template.specs.declared.seek.Skip.{Skip}
 use Rattle.template.specs.Lines.{lines_of}
 use Rattle.template.specs.Shape.{shape_of}
@@ -55,7 +55,7 @@ record Landing (t : List ℕ) (q : Sought) (M : List Mark) (at n from : ℕ) (k 
 
 module _ {t : List ℕ} (q : Sought) {M : List Mark} (at n p b m : ℕ) where
   -- behind a line: on, or at the match
-  behind_line : {w : Way} {X : List Mark} → Went q M w X → next_line t p ≡ at + (b + length (line_at t p) + 1) → OpenBefore t (at + (b + length (line_at t p) + 1)) (n + suc m) X → Stays t p (next_line t p) → ((a d : ℕ) → Over (top_of q) M a d X → Landing t q M at n (next_line t p) (skip_from q (depth_of q a d) (b + length (line_at t p) + 1) (suc m) (lines_of (drop (next_line t p) t)))) → Landing t q M at n p (or_skip w (λ k. skip_from q k (b + length (line_at t p) + 1) (suc m) (lines_of (drop (next_line t p) t))) (record { bytes = b + length (line_at t p) + 1; lines = suc m }))
+  behind_line : {w : (Option ℕ)} {X : List Mark} → Went q M w X → next_line t p ≡ at + (b + length (line_at t p) + 1) → OpenBefore t (at + (b + length (line_at t p) + 1)) (n + suc m) X → Stays t p (next_line t p) → ((a d : ℕ) → Over (top_of q) M a d X → Landing t q M at n (next_line t p) (skip_from q (depth_of q a d) (b + length (line_at t p) + 1) (suc m) (lines_of (drop (next_line t p) t)))) → Landing t q M at n p (or_skip w (λ k. skip_from q k (b + length (line_at t p) + 1) (suc m) (lines_of (drop (next_line t p) t))) (record { bytes = b + length (line_at t p) + 1; lines = suc m }))
   unfolding or_skip
   behind_line (on {a} {b = d} v) z o s more =
       let i = more a d v in

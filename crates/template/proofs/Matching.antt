@@ -1,9 +1,9 @@
 -- A search for a matching line keeps count of what is open over the mark that it is to close: line by line, what the search
 -- counts and what check 4 has open agree, until the line that closes or turns that mark.
+use Rattle.std.specs.Prelude.{Option, Some, None}
 use mathlib.Core.Path.{◌≡◌, refl}
 use mathlib.Core.Bool.{false}
 use mathlib.Core.List.{List, ◌∷◌}
-use mathlib.Core.Option.{none, some}
 use Prim.Native.Nat.{ℕ, suc}
 use native.Mathlib.Omega.{arith}
 use Rattle.nesting.specs.declared.Shape.{Shape}
@@ -12,8 +12,6 @@ use Rattle.nesting.specs.Nest.{Mark, test, else_part, table, section_begun, all_
 use Rattle.template.specs.declared.seek.Sought.{Sought}
 use Rattle.template.specs.declared.seek.Sought.TheVariants.{Branch, TestEnd, TableEnd}
 use Rattle.template.specs.declared.seek.Role.TheVariants.{Opens, Closes}
-use Rattle.template.specs.declared.seek.Way.{Way}
-use Rattle.template.specs.declared.seek.Way.TheVariants.{On, Match}
 use Rattle.template.specs.Seek.{among_tests, among_tables, at_else, role_of, way_past}
 use Rattle.template.proofs.Turns.{Turn, first_section, next_section, remark, test_begun, test_turned_law, test_ended_law, other_ended, table_begun_law, table_ended_law, plain, no_form}
 
@@ -42,14 +40,14 @@ pub data Lands (M : List Mark) : Sought → List Mark → Type 0 where
   behind_else : Lands M Branch (else_part ∷ M)
 
 -- the search goes on, or is at its match
-pub data Went (q : Sought) (M : List Mark) : Way → List Mark → Type 0 where
-  on : {a b : ℕ} {W : List Mark} → Over (top_of q) M a b W → Went q M (On (depth_of q a b)) W
-  landed : {W : List Mark} → Lands M q W → Went q M Match W
+pub data Went (q : Sought) (M : List Mark) : Option ℕ → List Mark → Type 0 where
+  on : {a b : ℕ} {W : List Mark} → Over (top_of q) M a b W → Went q M (Some (depth_of q a b)) W
+  landed : {W : List Mark} → Lands M q W → Went q M None W
 
-no_section : {A : Type 0} {r : List Mark} → some r ≡ none → A
+no_section : {A : Type 0} {r : List Mark} → Some r ≡ None → A
 no_section e = absurd (let z : ◌≡◌ {A = ℕ} 0 1 = cc in omega arith)
 
-top_open : (q : Sought) (M : List Mark) → (section_begun (top_of q ∷ M) ≡ none) × (all_closed (top_of q ∷ M) ≡ false)
+top_open : (q : Sought) (M : List Mark) → (section_begun (top_of q ∷ M) ≡ None) × (all_closed (top_of q ∷ M) ≡ false)
 unfolding section_begun all_closed
 top_open Branch M = (refl, refl)
 top_open TestEnd M = (refl, refl)
@@ -57,7 +55,7 @@ top_open TableEnd M = (refl, refl)
 
 module _ {M : List Mark} where
   -- no section begins and the template doesn't end while the mark is open
-  pub over_open : (q : Sought) {a b : ℕ} {W : List Mark} → Over (top_of q) M a b W → (section_begun W ≡ none) × (all_closed W ≡ false)
+  pub over_open : (q : Sought) {a b : ℕ} {W : List Mark} → Over (top_of q) M a b W → (section_begun W ≡ None) × (all_closed W ≡ false)
   unfolding section_begun all_closed
   over_open q here = top_open q M
   over_open q (a_test o) = (refl, refl)

@@ -1,21 +1,18 @@
 -- Laws of what is open at a line of a template that checks 2 to 4 let through.
+use Rattle.std.specs.Prelude.{Some, None, Option}
 use mathlib.Core.Path.{◌≡◌, refl, sym, ap, subst, ◌∙◌}
 use mathlib.Core.Logic.{◌⊎◌}
 use mathlib.Core.Bool.{Bool, true, false, cond, ◌&&◌, false≢true}
 use mathlib.Core.List.{List, [], ◌∷◌}
-use mathlib.Core.Option.{Option, none, some}
 use Prim.Native.Nat.{ℕ, zero, suc, ◌+◌, ◌-◌, ◌<◌, ◌≤◌}
 use native.Mathlib.Omega.{arith}
 use borrow.Author.Tests.{leb-true, leb-false}
 use lib.Dec.{leb}
 use lib.ListN.{length, drop}
 use Rattle.scan.specs.Line.{all_allowed, line_at, next_line}
-use Rattle.lines.specs.declared.command.Line.TheVariants as form
 use Rattle.lines.specs.Readers.Command.{parse_line}
 use Rattle.nesting.specs.declared.Shape.TheVariants.{Section, Remark, Test, Else, EndTest, Table, EndTable, Plain}
 use Rattle.nesting.specs.Nest.{Mark, section, test, else_part, table, tests_open, tables_open, all_closed}
-use Rattle.template.specs.declared.Verdict.{Verdict}
-use Rattle.template.specs.declared.Verdict.TheVariants.{Fine, Fault}
 use Rattle.template.specs.Lines.{lines_of}
 use Rattle.template.specs.Verdicts.{first_fault, line_allowed}
 use Rattle.template.specs.Walk.{or_else, walk}
@@ -24,7 +21,7 @@ use Rattle.template.specs.Checks.{form_check, nest_step, nest_end, nest_check}
 use Rattle.template.specs.Opening.{OpenBefore, at_first, at_next, Checks}
 use Rattle.template.proofs.LineLaws.{lines_none, lines_more}
 use Rattle.template.proofs.VerdictLaws.{not_too_long}
-use Rattle.template.proofs.OrderLaws.{within_length}
+use Rattle.template.proofs.OrderLaws.{short_by_bytes}
 use Rattle.template.proofs.NameForm.{formed}
 use Rattle.template.proofs.Turns.{Turn, turn, Grounded, turn_grounded, turn_tests, turn_tables, turn_section, turn_remark, turn_plain, turn_test, turn_else, turn_end_test, turn_table, turn_end_table}
 
@@ -32,21 +29,21 @@ use Rattle.template.proofs.Turns.{Turn, turn, Grounded, turn_grounded, turn_test
 
 -- A template within the checks is no longer than a template may be.
 pub checks_short : {t : List ℕ} → Checks t → length t ≤ 32768
-checks_short {t} c = within_length t Fine (sym c.bytes) refl
+checks_short {t} c = short_by_bytes t c.bytes
 
-passed : (b : Bool) (v : Verdict) (n : ℕ) → cond b v (Fault n) ≡ Fine → (b ≡ true) × (v ≡ Fine)
+passed : (b : Bool) (v : Option ℕ) (n : ℕ) → cond b v (Some n) ≡ None → (b ≡ true) × (v ≡ None)
 passed true v n e = (refl, e)
 passed false v n e = absurd (let z : ◌≡◌ {A = ℕ} 0 1 = cc in omega arith)
 
 module _ {t : List ℕ} where
   -- a check of each line by itself goes on finding nothing
-  rest_fine : (passes : List ℕ → Bool) → first_fault passes 1 (lines_of t) ≡ Fine → {at n : ℕ} {M : List Mark} → OpenBefore t at n M → first_fault passes (suc n) (lines_of (drop at t)) ≡ Fine
+  rest_fine : (passes : List ℕ → Bool) → first_fault passes 1 (lines_of t) ≡ None → {at n : ℕ} {M : List Mark} → OpenBefore t at n M → first_fault passes (suc n) (lines_of (drop at t)) ≡ None
   unfolding first_fault
   rest_fine passes c at_first = c
   rest_fine passes c (at_next {at} {n} o h e) =
       (passed (passes (line_at t at)) (first_fault passes (suc (suc n)) (lines_of (drop (next_line t at) t))) (suc n) (rw (lines_more t at h) at (rest_fine passes c o))).1
 
-  line_passes : (passes : List ℕ → Bool) → first_fault passes 1 (lines_of t) ≡ Fine → {at n : ℕ} {M : List Mark} → OpenBefore t at n M → at < length t → passes (line_at t at) ≡ true
+  line_passes : (passes : List ℕ → Bool) → first_fault passes 1 (lines_of t) ≡ None → {at n : ℕ} {M : List Mark} → OpenBefore t at n M → at < length t → passes (line_at t at) ≡ true
   unfolding first_fault
   line_passes passes c {at} {n} o h =
       (passed (passes (line_at t at)) (first_fault passes (suc (suc n)) (lines_of (drop (next_line t at) t))) (suc n) (rw (lines_more t at h) at (rest_fine passes c o))).0
@@ -57,18 +54,18 @@ module _ {t : List ℕ} where
   rest_nested at_first = refl
   rest_nested (at_next {at} o h e) = sym (rw (lines_more t at h, e)) ∙ rest_nested o
 
-  steps_on : {at n : ℕ} {M : List Mark} → nest_check t ≡ Fine → OpenBefore t at n M → at < length t → (M' : List Mark) × (nest_step M (line_at t at) ≡ some M')
+  steps_on : {at n : ℕ} {M : List Mark} → nest_check t ≡ None → OpenBefore t at n M → at < length t → (M' : List Mark) × (nest_step M (line_at t at) ≡ Some M')
   unfolding walk or_else
   steps_on {at} {n} {M} c o h = go (nest_step M (line_at t at)) refl (rw (lines_more t at h) at (rest_nested o ∙ c))
     where
-      go : (r : Option (List Mark)) → nest_step M (line_at t at) ≡ r → or_else (nest_step M (line_at t at)) (λ M'. walk nest_step nest_end M' (suc n) (lines_of (drop (next_line t at) t))) (Fault (suc n)) ≡ Fine → (M' : List Mark) × (nest_step M (line_at t at) ≡ some M')
-      go (some M') e k = (M', e)
-      go none e k = absurd (let z : ◌≡◌ {A = ℕ} 0 1 = cc (rw e at k) in omega arith)
+      go : (r : Option (List Mark)) → nest_step M (line_at t at) ≡ r → or_else (nest_step M (line_at t at)) (λ M'. walk nest_step nest_end M' (suc n) (lines_of (drop (next_line t at) t))) (Some (suc n)) ≡ None → (M' : List Mark) × (nest_step M (line_at t at) ≡ Some M')
+      go (Some M') e k = (M', e)
+      go None e k = absurd (let z : ◌≡◌ {A = ℕ} 0 1 = cc (rw e at k) in omega arith)
 
   -- at the template's end
-  ends_closed : {at n : ℕ} {M : List Mark} → nest_check t ≡ Fine → OpenBefore t at n M → length t ≤ at → all_closed M ≡ true
+  ends_closed : {at n : ℕ} {M : List Mark} → nest_check t ≡ None → OpenBefore t at n M → length t ≤ at → all_closed M ≡ true
   unfolding walk nest_end
-  ends_closed {at} {n} {M} c o h = (passed (all_closed M) Fine n (rw (lines_none t at h) at (rest_nested o ∙ c))).0
+  ends_closed {at} {n} {M} c o h = (passed (all_closed M) None n (rw (lines_none t at h) at (rest_nested o ∙ c))).0
 
 -- ---- the line at a place
 
@@ -84,9 +81,9 @@ short_line l h = go (leb (length l) 132) refl h
 pub record LineOpen (t : List ℕ) (at : ℕ) (M : List Mark) : Type 0 where
   pub short : length (line_at t at) ≤ 132
   pub formed : is_formed (line_at t at) ≡ true
-  pub parsed : parse_line (line_at t at) ≡ form.NoForm → ⊥
+  pub parsed : parse_line (line_at t at) ≡ None → ⊥
   pub marks : List Mark
-  pub steps : nest_step M (line_at t at) ≡ some marks
+  pub steps : nest_step M (line_at t at) ≡ Some marks
 
 -- A line before the template's end is short and has a form, and its nesting isn't at fault.
 pub opens_line : {t : List ℕ} {at n : ℕ} {M : List Mark} → Checks t → OpenBefore t at n M → at < length t → LineOpen t at M
@@ -128,7 +125,7 @@ pub record Few (at n : ℕ) (M : List Mark) : Type 0 where
   pub grounded : Grounded M
 
 -- The cases of a line whose nesting isn't at fault.
-pub line_turn : (l : List ℕ) {M M' : List Mark} → nest_step M l ≡ some M' → Turn (shape_of l) M M'
+pub line_turn : (l : List ℕ) {M M' : List Mark} → nest_step M l ≡ Some M' → Turn (shape_of l) M M'
 unfolding nest_step
 line_turn l {M} {M'} e = turn (shape_of l) M M' e
 

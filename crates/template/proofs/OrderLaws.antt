@@ -1,5 +1,6 @@
 -- Laws of the checks' order.
-use mathlib.Core.Path.{◌≡◌, refl, sym, ◌∙◌}
+use Rattle.std.specs.Prelude.{Option, Some, None, Result, Ok, Err}
+use mathlib.Core.Path.{◌≡◌, refl, sym, ap, ◌∙◌}
 use mathlib.Core.Bool.{Bool, true, false}
 use mathlib.Core.List.{List}
 use Prim.Native.Nat.{ℕ, ◌≤◌}
@@ -8,71 +9,69 @@ use borrow.Author.Tests.{ltb-true, ltb-false}
 use lib.Dec.{ltb}
 use lib.ListN.{length}
 use Rattle.meaning.specs.declared.refusal.Refusal.{Refusal}
-use Rattle.meaning.specs.declared.refusal.Refusal.TheVariants.{BadLine, BadNesting, NoSection}
-use Rattle.template.specs.declared.Verdict.{Verdict}
-use Rattle.template.specs.declared.Verdict.TheVariants.{Fine, Fault}
-use Rattle.template.specs.declared.forms.Faults.{Faults}
-use Rattle.template.specs.declared.forms.Faults.TheVariants.{NoFault, InForm, InNesting}
-use Rattle.template.specs.declared.Checked.{Checked}
-use Rattle.template.specs.declared.Checked.TheVariants.{Accepted, Refused}
+use Rattle.meaning.specs.declared.refusal.Refusal.TheVariants.{BadTemplate, BadLine, BadNesting, NoSection}
 use Rattle.template.specs.declared.Extent.{Extent}
-use Rattle.template.specs.declared.sections.Selection.{Selection}
-use Rattle.template.specs.declared.sections.Selection.TheVariants.{Lines, NotThere}
-use Rattle.template.specs.Sections.{selected}
-use Rattle.template.specs.Verdicts.{bytes_check}
+use Rattle.template.specs.Sections.{section_from, section_end, selection_from, selected}
+use Rattle.template.specs.Lines.{lines_of}
+use Rattle.template.specs.Verdicts.{fault_refused, bytes_check}
 use Rattle.template.specs.Checks.{form_before_nesting}
 use Rattle.template.specs.Order.{unless_fault, accepted_run, section_checked}
-use Rattle.template.proofs.VerdictLaws.{too_long}
+use Rattle.template.proofs.VerdictLaws.{judged_none, too_long}
 
-module _ (e : Refusal) (next : Checked) (v w : Verdict) (q : w ≡ v) where
-  pub no_fault : (r : Checked) → w ≡ Fine → r ≡ next → r ≡ unless_fault e v next
-  unfolding unless_fault
-  no_fault r k h = rw (← q, k) h
+-- ---- a check, or else what follows it
 
-  pub a_fault : (n : ℕ) → w ≡ Fault n → Refused e n ≡ unless_fault e v next
-  unfolding unless_fault
-  a_fault n k = rw (← q, k)
+module _ (next : Result Extent (Refusal × ℕ)) where
+  module _ (e : Refusal) (v : Option ℕ) where
+    pub no_fault : (r : Result Extent (Refusal × ℕ)) → fault_refused e v ≡ Ok tt → r ≡ next → r ≡ unless_fault e v next
+    unfolding unless_fault
+    no_fault r k h = rw (judged_none e v k) h
 
--- the faults of 3 and 4 in one, or else what follows them
-on_faults : Faults → Checked → Checked
-on_faults NoFault next = next
-on_faults (InForm n) next = Refused BadLine n
-on_faults (InNesting n) next = Refused BadNesting n
+    pub a_fault : (x : Refusal × ℕ) → fault_refused e v ≡ Err x → Err x ≡ unless_fault e v next
+    unfolding fault_refused unless_fault
+    a_fault x k = go v k
+      where
+        go : (v : Option ℕ) → fault_refused e v ≡ Err x → Err x ≡ unless_fault e v next
+        go None k = absurd (let z : ◌≡◌ {A = ℕ} 0 1 = cc in omega arith)
+        go (Some n) k = let z : (e, n) ≡ x = cc in ap Err (sym z)
 
-one_by_one : (f v : Verdict) (next : Checked) → on_faults (form_before_nesting f v) next ≡ unless_fault BadLine f (unless_fault BadNesting v next)
-unfolding on_faults form_before_nesting unless_fault
-one_by_one (Fault n) v next = refl
-one_by_one Fine (Fault n) next = refl
-one_by_one Fine Fine next = refl
+  -- 3 and 4 in one
+  module _ (f v : Option ℕ) where
+    pub no_faults_met : (r : Result Extent (Refusal × ℕ)) → form_before_nesting f v ≡ Ok tt → r ≡ next → r ≡ unless_fault BadLine f (unless_fault BadNesting v next)
+    unfolding unless_fault form_before_nesting
+    no_faults_met r k h = go f v k
+      where
+        go : (f v : Option ℕ) → form_before_nesting f v ≡ Ok tt → r ≡ unless_fault BadLine f (unless_fault BadNesting v next)
+        go (Some n) v k = absurd (let z : ◌≡◌ {A = ℕ} 0 1 = cc in omega arith)
+        go None (Some n) k = absurd (let z : ◌≡◌ {A = ℕ} 0 1 = cc in omega arith)
+        go None None k = h
 
-module _ (f v : Verdict) (next : Checked) (w : Faults) (q : w ≡ form_before_nesting f v) where
-  pub no_faults_met : (r : Checked) → w ≡ NoFault → r ≡ next → r ≡ unless_fault BadLine f (unless_fault BadNesting v next)
-  unfolding on_faults
-  no_faults_met r k h = rw (← one_by_one f v next, ← q, k) h
-
-  pub form_fault_met : (n : ℕ) → w ≡ InForm n → Refused BadLine n ≡ unless_fault BadLine f (unless_fault BadNesting v next)
-  unfolding on_faults
-  form_fault_met n k = rw (← one_by_one f v next, ← q, k)
-
-  pub nesting_fault_met : (n : ℕ) → w ≡ InNesting n → Refused BadNesting n ≡ unless_fault BadLine f (unless_fault BadNesting v next)
-  unfolding on_faults
-  nesting_fault_met n k = rw (← one_by_one f v next, ← q, k)
+    pub a_fault_met : (x : Refusal × ℕ) → form_before_nesting f v ≡ Err x → Err x ≡ unless_fault BadLine f (unless_fault BadNesting v next)
+    unfolding unless_fault form_before_nesting
+    a_fault_met x k = go f v k
+      where
+        go : (f v : Option ℕ) → form_before_nesting f v ≡ Err x → Err x ≡ unless_fault BadLine f (unless_fault BadNesting v next)
+        go (Some n) v k = let z : (BadLine, n) ≡ x = cc in ap Err (sym z)
+        go None (Some n) k = let z : (BadNesting, n) ≡ x = cc in ap Err (sym z)
+        go None None k = absurd (let z : ◌≡◌ {A = ℕ} 0 1 = cc in omega arith)
 
 -- a template without a fault in its bytes is within its length
-pub within_length : (t : List ℕ) (w : Verdict) → w ≡ bytes_check t → w ≡ Fine → length t ≤ 32768
-within_length t w q k = go (ltb 32768 (length t)) refl
+pub short_by_bytes : (t : List ℕ) → bytes_check t ≡ None → length t ≤ 32768
+short_by_bytes t k = go (ltb 32768 (length t)) refl
   where
     go : (p : Bool) → ltb 32768 (length t) ≡ p → length t ≤ 32768
     go false h = ltb-false 32768 (length t) h
     go true h =
-        let f : Fine ≡ Fault 0 = sym k ∙ q ∙ too_long t (ltb-true 32768 (length t) h) in
+        let f : ◌≡◌ {A = Option ℕ} None (Some 0) = sym k ∙ too_long t (ltb-true 32768 (length t) h) in
         let z : ◌≡◌ {A = ℕ} 0 1 = cc in absurd (omega arith)
 
-module _ (t name : List ℕ) (w : Selection) (q : w ≡ selected t name) where
-  pub accepted : (run : Extent) → w ≡ Lines run → Accepted run ≡ section_checked t name
-  unfolding section_checked accepted_run
-  accepted run k = rw (← q, k)
+pub within_length : (t : List ℕ) → fault_refused BadTemplate (bytes_check t) ≡ Ok tt → length t ≤ 32768
+within_length t k = short_by_bytes t (judged_none _ _ k)
 
-  pub no_section : w ≡ NotThere → Refused NoSection 0 ≡ section_checked t name
-  unfolding section_checked accepted_run
+module _ (t name : List ℕ) (w : Option (ℕ × ℕ)) (q : w ≡ section_from name 0 0 (lines_of t)) where
+  pub no_section : w ≡ None → Err (NoSection, 0) ≡ section_checked t name
+  unfolding section_checked accepted_run selected selection_from
   no_section k = rw (← q, k)
+
+  pub a_section : (a n e : ℕ) → w ≡ Some (a, n) → e ≡ section_end t name a n → Ok (record { start = a; line = n; until = e }) ≡ section_checked t name
+  unfolding section_checked accepted_run selected selection_from
+  a_section a n e k h = rw (← q, k, ← h)

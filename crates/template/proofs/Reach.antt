@@ -1,4 +1,5 @@
 -- How far a search for a matching line goes: no further than the part that it is handed, and over no more lines than bytes.
+use Rattle.std.specs.Prelude.{Option, Some, None}
 use mathlib.Core.Path.{◌≡◌, refl, ap, ◌∙◌}
 use mathlib.Core.Bool.{Bool, true, false, cond}
 use mathlib.Core.List.{List, [], ◌∷◌}
@@ -10,8 +11,6 @@ use lib.ListN.{length, take, drop, length-drop}
 use lib.Seq.{take_all}
 use Rattle.scan.specs.Line.{line_of}
 use Rattle.template.specs.declared.seek.Sought.{Sought}
-use Rattle.template.specs.declared.seek.Way.{Way}
-use Rattle.template.specs.declared.seek.Way.TheVariants.{On, Match}
 use Rattle.template.specs.declared.seek.Skip.{Skip}
 use Rattle.template.specs.Lines.{lines_within, lines_of}
 use Rattle.template.specs.Shape.{word_shape}
@@ -34,11 +33,11 @@ unfolding skip_from or_skip
 skip_passed q d at n [] = record { few = omega arith; lines = omega arith }
 skip_passed q d at n (l ∷ ls) = go (λ k. skip_passed q k (at + length l + 1) (suc n) ls) (way_past (role_of q (word_shape l)) d)
   where
-    go : ((k : ℕ) → Passed (at + length l + 1) (suc n) (length ls) (skip_from q k (at + length l + 1) (suc n) ls)) → (w : Way) → Passed at n (length (l ∷ ls)) (or_skip w (λ k. skip_from q k (at + length l + 1) (suc n) ls) (record { bytes = at + length l + 1; lines = suc n }))
-    go more (On k) =
+    go : ((k : ℕ) → Passed (at + length l + 1) (suc n) (length ls) (skip_from q k (at + length l + 1) (suc n) ls)) → (w : Option ℕ) → Passed at n (length (l ∷ ls)) (or_skip w (λ k. skip_from q k (at + length l + 1) (suc n) ls) (record { bytes = at + length l + 1; lines = suc n }))
+    go more (Some k) =
         let i = more k in
         record { few = omega (arith, i.few); lines = omega (arith, i.lines) }
-    go more Match = record { few = omega arith; lines = omega arith }
+    go more None = record { few = omega arith; lines = omega arith }
 
 -- a skip lies in a part of so many bytes
 pub record Inside (most : ℕ) (k : Skip) : Type 0 where

@@ -1,130 +1,65 @@
 -- Laws of the row of names: a name came before where it stands at its position.
 use mathlib.Core.Path.{◌≡◌, refl, sym, ap, ◌∙◌}
 use mathlib.Core.Bool.{Bool, true, false, cond, false≢true}
-use mathlib.Core.List.{List, [], ◌∷◌, ◌++◌}
+use mathlib.Core.List.{List, [], ◌∷◌}
 use Prim.Native.Nat.{ℕ, zero, suc, ◌+◌, ◌-◌, ◌*◌, ◌<◌, ◌≤◌}
 use native.Mathlib.Numerals.{add-one}
 use native.Mathlib.Omega.{arith}
 use borrow.Author.Tests.{ltb-true, ltb-false, eqb-true, eqb-false}
 use lib.Dec.{eqb, ltb}
-use lib.ListN.{length, get_or, set, take, drop, length-append, length-set, length-drop, get_or-append}
-use lib.Seq.{drop-drop, length-take-le, get_or-take, get_or-drop, get_or-append-add, get_or-set_same, get_or-set_other}
+use lib.ListN.{length, get_or, take, drop, length-drop}
+use lib.Seq.{drop-drop, length-take-le}
 use Rattle.scan.proofs.RunLaws.{length_span}
 use Rattle.scan.specs.declared.run.Class.TheVariants.{InLine}
 use Rattle.scan.specs.Line.{line_of, line_at, next_line, window}
 use Rattle.template.specs.Name.{name_of, same_bytes}
 use Rattle.template.specs.Lines.{lines_of}
 use Rattle.template.specs.Checks.{has_name}
-use Rattle.template.specs.Inner.Sorted.{is_below, eight_at, name_in, Sorted, Position, stands_in, MovedUp, Inserted}
+use Rattle.std.specs.List.Sorted.{IsPartitionedBy, IsPartitionPoint}
+use Rattle.std.proofs.lemmas.List.{get_or-take, get_or_default}
+use Rattle.template.specs.Inner.Sorted.{is_below, eight_at, name_in, Sorted, Position, stands_in, Inserted}
 use Rattle.template.proofs.SectionNames.{section_length, name_in_place, below_self, above_below, neither_below, not_below, same_name, same_self}
 use Rattle.template.proofs.LineLaws.{lines_more}
 
--- ---- a position, by halving
+-- ---- a position
 
-pub record Halved (t places : List ℕ) (count : ℕ) (name : List ℕ) (low high : ℕ) : Type 0 where
-  pub apart : low ≤ high
-  pub within : high ≤ count
-  pub lower : (i : ℕ) → i < low → is_below (name_in t places i) name ≡ true
-  pub higher : (i : ℕ) → high ≤ i → i < count → is_below (name_in t places i) name ≡ false
+-- whether the name at a place is below a name
+abbrev pub below_at : List ℕ → List ℕ → ℕ → Bool
+below_at t name place = is_below (line_of (window t place 8)) name
 
-module _ (t places : List ℕ) (count : ℕ) (name : List ℕ) where
-  pub halved_start : Halved t places count name 0 count
-  halved_start = record { apart = omega arith; within = omega arith; lower = λ i h. absurd (omega arith); higher = λ i h k. absurd (omega arith) }
-
-  pub halved_end : (low high r : ℕ) → Halved t places count name low high → high ≤ low → r ≡ low → Position t places count name r
-  halved_end low high r inv h e =
-      record { within = omega (arith, inv.apart, inv.within); lower = λ i k. inv.lower i (omega arith); higher = λ i k l. inv.higher i (omega arith) l }
-
-  module _ (sorted : Sorted t places count) (low high middle : ℕ) (inv : Halved t places count name low high) (l : low ≤ middle) (h : middle < high) (rest : List ℕ) (e : rest ≡ eight_at t places middle) (b : Bool) (q : b ≡ is_below (line_of rest) name) where
-    pub halved_up : b ≡ true → Halved t places count name (middle + 1) high
-    halved_up x =
-        record { apart = omega arith; within = inv.within; lower = λ i k. go i k (is_below (name_in t places i) name) refl; higher = inv.higher }
-      where
-        here : is_below (name_in t places middle) name ≡ true
-        here = sym (q ∙ ap (λ (s : List ℕ). is_below (line_of s) name) e) ∙ x
-
-        go : (i : ℕ) → i < middle + 1 → (p : Bool) → is_below (name_in t places i) name ≡ p → is_below (name_in t places i) name ≡ true
-        go i k true y = y
-        go i k false y = absurd (false≢true (sym (not_below (name_in t places middle) (name_in t places i) name (sorted.ordered i middle (omega arith) (omega (arith, inv.within))) y) ∙ here))
-
-    pub halved_down : b ≡ false → Halved t places count name low middle
-    halved_down x =
-        let here : is_below (name_in t places middle) name ≡ false = sym (q ∙ ap (λ (s : List ℕ). is_below (line_of s) name) e) ∙ x in
-        record { apart = l; within = omega (arith, inv.within); lower = inv.lower; higher = λ i k m. not_below (name_in t places i) (name_in t places middle) name (sorted.ordered middle i k m) here }
-
--- ---- a place more
-
--- the places from j on have moved
-pub record Moving (before : List ℕ) (count j : ℕ) (row : List ℕ) : Type 0 where
-  pub size : length row ≡ length before
-  pub lower : (i : ℕ) → i < j → get_or row i 0 ≡ get_or before i 0
-  pub higher : (i : ℕ) → j ≤ i → i < count → get_or row (i + 1) 0 ≡ get_or before i 0
-
-pub moving_start : (row : List ℕ) (count : ℕ) → Moving row count count row
-moving_start row count = record { size = refl; lower = λ i h. refl; higher = λ i h k. absurd (omega arith) }
-
-module _ (before : List ℕ) (count j : ℕ) (row : List ℕ) (inv : Moving before count j row) where
-  pub moving_on : count < length before → 0 < j → j ≤ count → Moving before count (j - 1) (set row j (get_or row (j - 1) 0))
-  moving_on room h k =
-      record { size = length-set row j _ ∙ inv.size; lower = λ i l. get_or-set_other row j i _ 0 (λ e. omega arith) ∙ inv.lower i (omega arith); higher = λ i l m. go i l m (eqb i (j - 1)) refl }
+module _ (t places : List ℕ) (count : ℕ) (name : List ℕ) (sorted : Sorted t places count) where
+  -- with a name those before it are below
+  before : (i j : ℕ) → i ≤ j → j < count → is_below (name_in t places j) name ≡ true → is_below (name_in t places i) name ≡ true
+  before i j k l h = go (is_below (name_in t places i) name) refl
     where
-      go : (i : ℕ) → j - 1 ≤ i → i < count → (p : Bool) → eqb i (j - 1) ≡ p → get_or (set row j (get_or row (j - 1) 0)) (i + 1) 0 ≡ get_or before i 0
-      go i l m true q =
-          let e = eqb-true i (j - 1) q in
-          let f : i + 1 ≡ j = omega arith in
-          rw (f, e) (get_or-set_same row j (get_or row (j - 1) 0) 0 (omega (arith, inv.size)) ∙ inv.lower (j - 1) (omega arith))
-      go i l m false q =
-          let n = eqb-false i (j - 1) q in
-          get_or-set_other row j (i + 1) _ 0 (λ e. n (omega arith)) ∙ inv.higher i (omega (arith, n)) m
+      go : (p : Bool) → is_below (name_in t places i) name ≡ p → is_below (name_in t places i) name ≡ true
+      go true y = y
+      go false y = absurd (false≢true (sym (not_below (name_in t places j) (name_in t places i) name (sorted.ordered i j k l) y) ∙ h))
 
-  pub moving_end : j ≤ 0 → MovedUp before count row
-  moving_end h = record { size = inv.size; moved = λ i k. inv.higher i (omega arith) k }
+  pub past_last : (rest : List ℕ) → rest ≡ eight_at t places (count - 1) → (b : Bool) → b ≡ is_below (line_of rest) name → b ≡ true → 0 < count → Position t places count name count
+  past_last rest e b q x h =
+      let here : is_below (name_in t places (count - 1)) name ≡ true = sym (q ∙ ap (λ (s : List ℕ). is_below (line_of s) name) e) ∙ x in
+      record { within = omega arith; lower = λ i k. before i (count - 1) (omega arith) (omega arith) here; higher = λ i k l. absurd (omega arith) }
 
--- the part of a row from a position on, moved up, and a place put there
-module _ (before : List ℕ) (count r at : ℕ) (row : List ℕ) (moved : MovedUp (take (length before - r) (drop r before)) (count - r) row) (h : r ≤ count) (room : count < length before) where
-  abbrev part : List ℕ
-  part = take (length before - r) (drop r before)
+  -- the part of the row that is used
+  counted : length (take count places) ≡ count
+  counted = length-take-le count places sorted.room
 
-  abbrev behind : List ℕ
-  behind = drop (length before - r) (drop r before)
+  taken : (i d : ℕ) → i < count → get_or (take count places) i d ≡ get_or places i 0
+  taken i d h = get_or-take count places i d h ∙ get_or_default places i d 0 (omega (arith, sorted.room))
 
-  abbrev joined : List ℕ
-  joined = take r before ++ (row ++ behind)
+  pub parted : IsPartitionedBy (below_at t name) (take count places)
+  parted i j d k l h =
+      let m : j < count = omega (arith, counted) in
+      ap (below_at t name) (taken i d (omega arith)) ∙ before i j k m (ap (below_at t name) (sym (taken j d m)) ∙ h)
 
-  front : length (take r before) ≡ r
-  front = length-take-le r before (omega arith)
-
-  size_of_part : length part ≡ length before - r
-  size_of_part = length-take-le (length before - r) (drop r before) (omega (arith, length-drop r before))
-
-  same_size : length joined ≡ length before
-  same_size =
-      length-append (take r before) (row ++ behind)
-      ∙ omega (arith, front, moved.size, size_of_part, length-append row behind, length-drop r before, length-drop (length before - r) (drop r before))
-
-  pub inserted_in_part : Inserted before count r at (set joined r at)
-  inserted_in_part =
-      record { size = length-set joined r _ ∙ same_size; lower = lower; here = get_or-set_same joined r at 0 (omega (arith, same_size)); higher = higher }
-    where
-      lower : (i : ℕ) → i < r → get_or (set joined r at) i 0 ≡ get_or before i 0
-      lower i k =
-          get_or-set_other joined r i _ 0 (λ e. omega arith)
-          ∙ get_or-append (take r before) (row ++ behind) 0 i (omega (arith, front))
-          ∙ get_or-take r before i 0 k
-
-      in_part : (i k : ℕ) → i ≡ length (take r before) + k → k < length row → get_or joined i 0 ≡ get_or row k 0
-      in_part i k e l =
-          ap (λ (x : ℕ). get_or joined x 0) e ∙ get_or-append-add (take r before) (row ++ behind) k 0 ∙ get_or-append row behind 0 k l
-
-      higher : (i : ℕ) → r ≤ i → i < count → get_or (set joined r at) (i + 1) 0 ≡ get_or before i 0
-      higher i k l =
-          let e : r + (i - r) ≡ i = omega arith in
-          get_or-set_other joined r (i + 1) _ 0 (λ d. omega arith)
-          ∙ in_part (i + 1) (i - r + 1) (omega (arith, front)) (omega (arith, moved.size, size_of_part))
-          ∙ moved.moved (i - r) (omega arith)
-          ∙ get_or-take (length before - r) (drop r before) (i - r) 0 (omega arith)
-          ∙ get_or-drop r before (i - r) 0
-          ∙ ap (λ (x : ℕ). get_or before x 0) e
+  pub point_found : (r : ℕ) → r ≤ length (take count places) → IsPartitionPoint (λ y. below_at t name y ≡ true) (λ y. below_at t name y ≡ false) (take count places) r → Position t places count name r
+  point_found r u p =
+      record {
+        within = omega (arith, counted);
+        lower = λ i k. ap (below_at t name) (sym (taken i 0 (omega (arith, counted)))) ∙ p.0 i 0 (omega arith) k;
+        higher = λ i k l. ap (below_at t name) (sym (taken i 0 l)) ∙ p.1 i 0 k (omega (arith, counted));
+      }
 
 -- ---- the lines before, and one more
 

@@ -1,9 +1,9 @@
 -- What a line does to what is open, by its shape: the cases of `behind` that aren't at fault, and what they keep.
+use Rattle.std.specs.Prelude.{Option, Some, None}
 use mathlib.Core.Path.{◌≡◌, refl, ap, subst}
 use mathlib.Core.Logic.{◌⊎◌, inl, inr}
 use mathlib.Core.Bool.{Bool, true, false, cond}
 use mathlib.Core.List.{List, [], ◌∷◌}
-use mathlib.Core.Option.{Option, none, some}
 use Prim.Native.Nat.{ℕ, ◌<◌, ◌≤◌}
 use native.Mathlib.Omega.{arith}
 use borrow.Author.Tests.{ltb-true}
@@ -26,19 +26,19 @@ pub data Turn : Shape → List Mark → List Mark → Type 0 where
   plain : {m : Mark} {s : List Mark} → Turn Plain (m ∷ s) (m ∷ s)
   no_form : {m : Mark} {s : List Mark} → Turn NoForm (m ∷ s) (m ∷ s)
 
-never : {A : Type 0} {r : List Mark} → ◌≡◌ {A = Option (List Mark)} none (some r) → A
+never : {A : Type 0} {r : List Mark} → ◌≡◌ {A = Option (List Mark)} None (Some r) → A
 never e = absurd (let z : ◌≡◌ {A = ℕ} 0 1 = cc in omega arith)
 
-same : {x : Shape} {s r s' : List Mark} → some r ≡ some s' → Turn x s r → Turn x s s'
+same : {x : Shape} {s r s' : List Mark} → Some r ≡ Some s' → Turn x s r → Turn x s s'
 same {x} {s} {r} {s'} e h = subst (Turn x s) (let z : r ≡ s' = cc in z) h
 
 -- a test or a table begun while there is room for one more
-begun : {x : Shape} {s r s' : List Mark} (n most : ℕ) (b : Bool) → ltb n most ≡ b → cond b (some r) none ≡ some s' → (n < most → Turn x s r) → Turn x s s'
+begun : {x : Shape} {s r s' : List Mark} (n most : ℕ) (b : Bool) → ltb n most ≡ b → cond b (Some r) None ≡ Some s' → (n < most → Turn x s r) → Turn x s s'
 begun n most true k e h = same e (h (ltb-true n most k))
 begun n most false k e h = never e
 
 -- A line that isn't at fault is one of these.
-pub turn : (x : Shape) (s s' : List Mark) → behind x s ≡ some s' → Turn x s s'
+pub turn : (x : Shape) (s s' : List Mark) → behind x s ≡ Some s' → Turn x s s'
 unfolding behind section_begun test_turned test_ended table_ended in_section
 turn Section [] s' e = same e first_section
 turn Section (section ∷ s) s' e = same e next_section

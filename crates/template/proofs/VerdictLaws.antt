@@ -1,4 +1,5 @@
 -- Laws of the first line at fault, and of check 2.
+use Rattle.std.specs.Prelude.{Option, Some, None, Ok, Err}
 use mathlib.Core.Path.{◌≡◌, refl, sym, ap, ◌∙◌}
 use mathlib.Core.Bool.{Bool, true, false, false≢true}
 use mathlib.Core.List.{List, [], ◌∷◌}
@@ -9,26 +10,44 @@ use borrow.Author.Tests.{le-leb, lt-leb, lt-ltb, le-ltb, leb-true, leb-false, no
 use lib.Dec.{leb, eqb}
 use lib.ListN.{length, get_or, take, drop, length-drop}
 use lib.Seq.{get_or-drop}
+use Rattle.meaning.specs.declared.refusal.Refusal.{Refusal}
 use Rattle.scan.specs.declared.run.Class.{Class}
 use Rattle.scan.specs.declared.run.Class.TheVariants.{Allowed, InLine}
 use Rattle.scan.specs.Run.{belongs, span}
 use Rattle.scan.proofs.RunLaws.{length_span, take_span}
 use Rattle.scan.specs.Line.{all_allowed, line_at, next_line}
 use Rattle.scan.specs.Inner.Bytes.{first_refused}
-use Rattle.template.specs.declared.Verdict.{Verdict}
-use Rattle.template.specs.declared.Verdict.TheVariants.{Fine, Fault}
 use Rattle.template.specs.Lines.{lines_of}
-use Rattle.template.specs.Verdicts.{first_fault, line_allowed, bytes_check}
+use Rattle.template.specs.Verdicts.{fault_refused, first_fault, line_allowed, bytes_check}
 use Rattle.template.proofs.LineLaws.{lines_none, lines_more}
+
+-- ---- a verdict as it is handed back
+
+module _ (e : Refusal) (v : Option ℕ) where
+  pub judged_fine : None ≡ v → Ok tt ≡ fault_refused e v
+  unfolding fault_refused
+  judged_fine k = rw (← k)
+
+  pub judged_fault : (n : ℕ) → Some n ≡ v → Err (e, n) ≡ fault_refused e v
+  unfolding fault_refused
+  judged_fault n k = rw (← k)
+
+  pub judged_none : fault_refused e v ≡ Ok tt → v ≡ None
+  unfolding fault_refused
+  judged_none k = go v k
+    where
+      go : (v : Option ℕ) → fault_refused e v ≡ Ok tt → v ≡ None
+      go None k = refl
+      go (Some n) k = absurd (let z : ◌≡◌ {A = ℕ} 0 1 = cc in omega arith)
 
 -- ---- the first line at fault: the loop's rest gives what the whole gives
 
-module _ (passes : List ℕ → Bool) (t : List ℕ) (at n : ℕ) {w : Verdict} (inv : first_fault passes n (lines_of (drop at t)) ≡ w) where
-  pub none_left : length t ≤ at → Fine ≡ w
+module _ (passes : List ℕ → Bool) (t : List ℕ) (at n : ℕ) {w : (Option ℕ)} (inv : first_fault passes n (lines_of (drop at t)) ≡ w) where
+  pub none_left : length t ≤ at → None ≡ w
   unfolding first_fault
   none_left h = sym (ap (first_fault passes n) (lines_none t at h)) ∙ inv
 
-  pub fault_here : at < length t → passes (line_at t at) ≡ false → Fault n ≡ w
+  pub fault_here : at < length t → passes (line_at t at) ≡ false → Some n ≡ w
   unfolding first_fault
   fault_here h e = sym (rw (lines_more t at h, e)) ∙ inv
 
@@ -125,7 +144,7 @@ pub short_line : (l : List ℕ) (p : Bool) → length l ≤ 132 → all_allowed 
 unfolding line_allowed
 short_line l p h e = rw (le-leb (length l) 132 h) e
 
-pub too_long : (t : List ℕ) → 32768 < length t → bytes_check t ≡ Fault 0
+pub too_long : (t : List ℕ) → 32768 < length t → bytes_check t ≡ Some 0
 unfolding bytes_check
 too_long t h = rw (lt-ltb 32768 (length t) h)
 
@@ -135,12 +154,12 @@ not_too_long t h = rw (le-ltb 32768 (length t) h)
 
 -- ---- the loop of check 2, at the line that starts at a place
 
-module _ (t line : List ℕ) (at n refused : ℕ) {w : Verdict} (inv : first_fault line_allowed n (lines_of (drop at t)) ≡ w) (inside : at < length t) (e : line ≡ line_at t at) where
-  pub found_long : 132 < length line → Fault n ≡ w
+module _ (t line : List ℕ) (at n refused : ℕ) {w : (Option ℕ)} (inv : first_fault line_allowed n (lines_of (drop at t)) ≡ w) (inside : at < length t) (e : line ≡ line_at t at) where
+  pub found_long : 132 < length line → Some n ≡ w
   found_long h = fault_here line_allowed t at n inv inside (ap line_allowed (sym e) ∙ long_line line h)
 
   module _ (before : at ≤ first_refused t) (r : refused ≡ first_refused t) (short : length line ≤ 132) where
-    pub found_refused : refused < at + length line → Fault n ≡ w
+    pub found_refused : refused < at + length line → Some n ≡ w
     found_refused h =
         fault_here line_allowed t at n inv inside (short_line (line_at t at) false (omega (arith, ap length e)) (line_faulty t at before inside (omega (arith, ap length e))))
 

@@ -1,5 +1,5 @@
 -- Small templates, each with what the definitions say of it: antt computes each.
-use Rattle.std.specs.Prelude.{◌≡◌, refl, List, [], ◌∷◌, ◌++◌, map, ℕ, replicate}
+use Rattle.std.specs.Prelude.{◌≡◌, refl, List, [], ◌∷◌, ◌++◌, map, ℕ, replicate, Result, Ok, Err}
 use Prim.Native.String.{String}
 use Rattle.scan.specs.Ascii.{ascii}
 use Rattle.scan.specs.Run.{belongs, span}
@@ -21,11 +21,11 @@ use Rattle.lines.specs.Readers.Simple.{single_at, bare_at, optional_at}
 use Rattle.lines.specs.Readers.Fetch.{parameter_at, fetched_at, fetch_at}
 use Rattle.lines.specs.Readers.Title.{name_at, section_at, heading_of, heading_at, remark_at}
 use Rattle.lines.specs.Readers.Command.{commands, parse_line}
+use Rattle.meaning.specs.declared.refusal.Refusal.{Refusal}
 use Rattle.meaning.specs.declared.refusal.Refusal.TheVariants.{BadTemplate, BadLine, BadNesting, RepeatedSection, NoSection}
 use Rattle.nesting.specs.Nest.{tests_open, tables_open, section_begun, test_turned, test_ended, table_ended, in_section, behind, all_closed}
 use Rattle.template.specs.Name.{name_of}
-use Rattle.template.specs.declared.Checked.{Checked}
-use Rattle.template.specs.declared.Checked.TheVariants.{Accepted, Refused}
+use Rattle.template.specs.declared.Extent.{Extent}
 use Rattle.template.specs.declared.seek.Skip.{Skip}
 use Rattle.template.specs.declared.seek.Sought.{Sought}
 use Rattle.template.specs.declared.seek.Sought.TheVariants.{Branch, TestEnd, TableEnd}
@@ -45,7 +45,7 @@ lines_joined (l ∷ ls) = ascii l ++ (10 ∷ lines_joined ls)
 
 -- what the checks say of a template, or where a search goes on
 pub data Finding : Type 0 where
-  check_is : Checked → Finding
+  check_is : Result Extent (Refusal × ℕ) → Finding
   skip_is : Skip → Finding
 
 pub record Row : Type 0 where
@@ -53,11 +53,11 @@ pub record Row : Type 0 where
   pub expected : Finding
 
 -- a template, the caller's name, and what is expected
-abbrev check : List ℕ → String → Checked → Row
+abbrev check : List ℕ → String → Result Extent (Refusal × ℕ) → Row
 check t name e = record { computed = check_is (template_checked t (ascii name)); expected = check_is e }
 
-abbrev run_is : ℕ → ℕ → ℕ → Checked
-run_is start line until = Accepted (record { start = start; line = line; until = until })
+abbrev run_is : ℕ → ℕ → ℕ → Result Extent (Refusal × ℕ)
+run_is start line until = Ok (record { start = start; line = line; until = until })
 
 -- what stands behind the line that seeks, and how many bytes and lines are passed over
 abbrev seek : List ℕ → Sought → ℕ → ℕ → Row
@@ -72,31 +72,31 @@ rows =
     check two "A" (run_is 11 2 23)
     ∷ check two "B" (run_is 23 4 35)
     ∷ check two "" (run_is 11 2 35)
-    ∷ check two "C" (Refused NoSection 0)
-    ∷ check [] "" (Refused NoSection 0)
+    ∷ check two "C" (Err (NoSection, 0))
+    ∷ check [] "" (Err (NoSection, 0))
     -- the last line without its end; the caller's name by its first eight bytes
     ∷ check (ascii "$SEC LONGNAME1") "LONGNAME and more" (run_is 0 1 14)
     -- 2: 132 bytes and 133, a byte that isn't allowed
     ∷ check (lines_joined ("$SEC A" ∷ []) ++ replicate 132 120) "A" (run_is 0 1 139)
-    ∷ check (lines_joined ("$SEC A" ∷ []) ++ replicate 133 120) "A" (Refused BadTemplate 2)
-    ∷ check (lines_joined ("$SEC A" ∷ "" ∷ []) ++ (127 ∷ [])) "A" (Refused BadTemplate 3)
+    ∷ check (lines_joined ("$SEC A" ∷ []) ++ replicate 133 120) "A" (Err (BadTemplate, 2))
+    ∷ check (lines_joined ("$SEC A" ∷ "" ∷ []) ++ (127 ∷ [])) "A" (Err (BadTemplate, 3))
     -- 3 comes before 4, 4 before 5, 5 before 6
-    ∷ check (lines_joined ("$SEC A" ∷ "$ENDIF" ∷ "$ENDIF 1" ∷ [])) "A" (Refused BadLine 3)
-    ∷ check (lines_joined ("$SEC A" ∷ "$SEC A" ∷ "$ENDIF" ∷ [])) "A" (Refused BadNesting 3)
-    ∷ check (lines_joined ("$SEC A" ∷ "$SEC A" ∷ [])) "C" (Refused RepeatedSection 2)
+    ∷ check (lines_joined ("$SEC A" ∷ "$ENDIF" ∷ "$ENDIF 1" ∷ [])) "A" (Err (BadLine, 3))
+    ∷ check (lines_joined ("$SEC A" ∷ "$SEC A" ∷ "$ENDIF" ∷ [])) "A" (Err (BadNesting, 3))
+    ∷ check (lines_joined ("$SEC A" ∷ "$SEC A" ∷ [])) "C" (Err (RepeatedSection, 2))
     -- 4: repeated, crossed, unmatched, open at the next $SEC, open at the last line, before the first $SEC
-    ∷ check (lines_joined ("$SEC A" ∷ "$IF 1" ∷ "$ELSE" ∷ "$ELSE" ∷ "$ENDIF" ∷ [])) "A" (Refused BadNesting 4)
-    ∷ check (lines_joined ("$SEC A" ∷ "$IF 1" ∷ "$BT 2" ∷ "$ENDIF" ∷ "$ET" ∷ [])) "A" (Refused BadNesting 4)
-    ∷ check (lines_joined ("$SEC A" ∷ "$ET" ∷ [])) "A" (Refused BadNesting 2)
-    ∷ check (lines_joined ("$SEC A" ∷ "$IF 1" ∷ "$SEC B" ∷ "$ENDIF" ∷ [])) "A" (Refused BadNesting 3)
-    ∷ check (lines_joined ("$SEC A" ∷ "$BT 2" ∷ "text" ∷ [])) "A" (Refused BadNesting 3)
-    ∷ check (lines_joined ("$REM" ∷ "" ∷ "$SEC A" ∷ [])) "A" (Refused BadNesting 2)
+    ∷ check (lines_joined ("$SEC A" ∷ "$IF 1" ∷ "$ELSE" ∷ "$ELSE" ∷ "$ENDIF" ∷ [])) "A" (Err (BadNesting, 4))
+    ∷ check (lines_joined ("$SEC A" ∷ "$IF 1" ∷ "$BT 2" ∷ "$ENDIF" ∷ "$ET" ∷ [])) "A" (Err (BadNesting, 4))
+    ∷ check (lines_joined ("$SEC A" ∷ "$ET" ∷ [])) "A" (Err (BadNesting, 2))
+    ∷ check (lines_joined ("$SEC A" ∷ "$IF 1" ∷ "$SEC B" ∷ "$ENDIF" ∷ [])) "A" (Err (BadNesting, 3))
+    ∷ check (lines_joined ("$SEC A" ∷ "$BT 2" ∷ "text" ∷ [])) "A" (Err (BadNesting, 3))
+    ∷ check (lines_joined ("$REM" ∷ "" ∷ "$SEC A" ∷ [])) "A" (Err (BadNesting, 2))
     -- 4: at most 10 tests and 5 tables
     ∷ check (lines_joined ("$SEC A" ∷ (replicate 10 "$IF 1" ++ replicate 10 "$ENDIF"))) "A" (run_is 0 1 137)
-    ∷ check (lines_joined ("$SEC A" ∷ replicate 11 "$IF 1")) "A" (Refused BadNesting 12)
-    ∷ check (lines_joined ("$SEC A" ∷ replicate 6 "$BT 1")) "A" (Refused BadNesting 7)
+    ∷ check (lines_joined ("$SEC A" ∷ replicate 11 "$IF 1")) "A" (Err (BadNesting, 12))
+    ∷ check (lines_joined ("$SEC A" ∷ replicate 6 "$BT 1")) "A" (Err (BadNesting, 7))
     -- 5: by the first eight characters
-    ∷ check (lines_joined ("$SEC LONGNAME1" ∷ "$SEC LONGNAM" ∷ "$SEC LONGNAME2" ∷ [])) "" (Refused RepeatedSection 3)
+    ∷ check (lines_joined ("$SEC LONGNAME1" ∷ "$SEC LONGNAM" ∷ "$SEC LONGNAME2" ∷ [])) "" (Err (RepeatedSection, 3))
     -- a failed test goes on behind its own $ELSE, or its $ENDIF
     ∷ seek (lines_joined ("$IF 1" ∷ "$ELSE" ∷ "$ENDIF" ∷ "$ELSE" ∷ "x" ∷ "$ENDIF" ∷ [])) Branch 25 4
     ∷ seek (lines_joined ("x" ∷ "$ENDIF" ∷ "y" ∷ [])) Branch 9 2

@@ -1,13 +1,11 @@
 -- Where a failed test, an executed $ELSE and a $BT with n below 1 go on.
-use Rattle.std.specs.Prelude.{cond, List, [], ◌∷◌, ℕ, zero, suc, ◌+◌, ltb, length}
+use Rattle.std.specs.Prelude.{cond, List, [], ◌∷◌, ℕ, zero, suc, ◌+◌, ltb, length, Option, Some, None}
 use Rattle.nesting.specs.declared.Shape.{Shape}
 use Rattle.nesting.specs.declared.Shape.TheVariants.{Section, Remark, Test, Else, EndTest, Table, EndTable, Plain, NoForm}
 use Rattle.template.specs.declared.seek.Sought.{Sought}
 use Rattle.template.specs.declared.seek.Sought.TheVariants.{Branch, TestEnd, TableEnd}
 use Rattle.template.specs.declared.seek.Role.{Role}
 use Rattle.template.specs.declared.seek.Role.TheVariants.{Opens, Closes, Divides, Passes}
-use Rattle.template.specs.declared.seek.Way.{Way}
-use Rattle.template.specs.declared.seek.Way.TheVariants.{On, Match}
 use Rattle.template.specs.declared.seek.Skip.{Skip}
 use Rattle.template.specs.Lines.{lines_of}
 use Rattle.template.specs.Shape.{word_shape}
@@ -41,17 +39,17 @@ role_of q Plain = Passes
 role_of q NoForm = Passes
 
 -- behind a line, with d tests or tables open inside: "matching" is what closes or divides none of these
-unfoldable pub way_past : Role → ℕ → Way
-way_past Opens d = On (suc d)
-way_past Closes zero = Match
-way_past Closes (suc d) = On d
-way_past Divides zero = Match
-way_past Divides (suc d) = On (suc d)
-way_past Passes d = On d
+unfoldable pub way_past : Role → ℕ → Option ℕ
+way_past Opens d = Some (suc d)
+way_past Closes zero = None
+way_past Closes (suc d) = Some d
+way_past Divides zero = None
+way_past Divides (suc d) = Some (suc d)
+way_past Passes d = Some d
 
-unfoldable pub or_skip : Way → (ℕ → Skip) → Skip → Skip
-or_skip (On d) next skip = next d
-or_skip Match next skip = skip
+unfoldable pub or_skip : Option ℕ → (ℕ → Skip) → Skip → Skip
+or_skip (Some d) next skip = next d
+or_skip None next skip = skip
 
 -- the lines up to the one that matches, each by its word, behind some bytes and n lines, with d open inside
 unfoldable pub skip_from : Sought → ℕ → ℕ → ℕ → List (List ℕ) → Skip

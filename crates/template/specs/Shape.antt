@@ -1,5 +1,5 @@
 -- What a line is to the checks of a whole template.
-use Rattle.std.specs.Prelude.{Bool, true, false, cond, List, [], ◌∷◌, ℕ}
+use Rattle.std.specs.Prelude.{Bool, true, false, cond, List, [], ◌∷◌, ℕ, Option, Some, None}
 use Rattle.scan.specs.Line.{byte_is}
 use Rattle.scan.specs.Words.{Spelled, ◌takes◌, first_of}
 use Rattle.lines.specs.declared.command.Line.{Line}
@@ -8,26 +8,26 @@ use Rattle.lines.specs.Readers.Command.{parse_line}
 use Rattle.nesting.specs.declared.Shape.{Shape}
 use Rattle.nesting.specs.declared.Shape.TheVariants.{Section, Remark, Test, Else, EndTest, Table, EndTable, Plain, NoForm}
 
-unfoldable pub shape_in : Line → Shape
-shape_in form.NoForm = NoForm
-shape_in form.Text = Plain
-shape_in (form.Section a b) = Section
-shape_in (form.Set a b c) = Plain
-shape_in (form.IfNot a) = Test
-shape_in (form.If a) = Test
-shape_in (form.Compare a b c) = Test
-shape_in form.Else = Else
-shape_in form.EndIf = EndTest
-shape_in (form.BeginTable a) = Table
-shape_in (form.EndTable a) = EndTable
-shape_in (form.Records a) = Plain
-shape_in (form.Entries a) = Plain
-shape_in (form.Datasource a) = Plain
-shape_in form.NoFormFeed = Plain
-shape_in (form.NewPage a) = Plain
-shape_in (form.Heading a b) = Plain
-shape_in (form.NoHeading a) = Plain
-shape_in form.Remark = Remark
+unfoldable pub shape_in : Option Line → Shape
+shape_in None = NoForm
+shape_in (Some form.Text) = Plain
+shape_in (Some (form.Section a b)) = Section
+shape_in (Some (form.Set a b c)) = Plain
+shape_in (Some (form.IfNot a)) = Test
+shape_in (Some (form.If a)) = Test
+shape_in (Some (form.Compare a b c)) = Test
+shape_in (Some form.Else) = Else
+shape_in (Some form.EndIf) = EndTest
+shape_in (Some (form.BeginTable a)) = Table
+shape_in (Some (form.EndTable a)) = EndTable
+shape_in (Some (form.Records a)) = Plain
+shape_in (Some (form.Entries a)) = Plain
+shape_in (Some (form.Datasource a)) = Plain
+shape_in (Some form.NoFormFeed) = Plain
+shape_in (Some (form.NewPage a)) = Plain
+shape_in (Some (form.Heading a b)) = Plain
+shape_in (Some (form.NoHeading a)) = Plain
+shape_in (Some form.Remark) = Remark
 
 -- by the form that the line spells (grammar/proofs/Lines:reads_what_is_spelled)
 unfoldable pub shape_of : List ℕ → Shape

@@ -1,7 +1,7 @@
 // Where a failed test, an executed $ELSE and a $BT with n below 1 go on.
 ghost use Rattle.std.specs.Prelude.{◌≡◌, ◌≤◌, length};
 ghost use Rattle.template.specs.Lines.{lines_of};
-ghost use Rattle.template.specs.Seek.{among_tests, among_tables, at_else, role_of, way_past, skip_from, skipped};
+ghost use Rattle.template.specs.Seek.{role_of, way_past, skip_from, skipped};
 
 use crate::{LONGEST_TEMPLATE, shapes};
 use nesting::Shape;
@@ -25,13 +25,6 @@ pub enum Role {
     Passes,
 }
 
-// How many lines that are open inside stay to be closed, or that the line is the match.
-#[derive(Clone, Copy)]
-pub enum Way {
-    On(u32),
-    Match,
-}
-
 // How many bytes and lines are passed over.
 #[derive(Clone, Copy)]
 pub struct Skip {
@@ -39,74 +32,33 @@ pub struct Skip {
     pub lines: u32,
 }
 
-// A failed test and an executed $ELSE look among tests.
-fn among_tests(sought: Sought, role: Role) -> Role
-    ensures { result ≡ among_tests sought role }
-{
-    match sought {
-        Sought::Branch => role,
-        Sought::TestEnd => role,
-        Sought::TableEnd => Role::Passes,
-    }
-}
-
-// A skipped table looks among tables.
-fn among_tables(sought: Sought, role: Role) -> Role
-    ensures { result ≡ among_tables sought role }
-{
-    match sought {
-        Sought::Branch => Role::Passes,
-        Sought::TestEnd => Role::Passes,
-        Sought::TableEnd => role,
-    }
-}
-
-// A $ELSE ends the search of a failed test only.
-fn at_else(sought: Sought) -> Role
-    ensures { result ≡ at_else sought }
-{
-    match sought {
-        Sought::Branch => Role::Divides,
-        Sought::TestEnd => Role::Passes,
-        Sought::TableEnd => Role::Passes,
-    }
-}
-
+// A failed test and an executed $ELSE look among tests, a skipped table among tables. A $ELSE ends the search of a failed test
+// only.
+#[tactic(auto, unfolding(crate::specs::Seek::role_of, crate::specs::Seek::among_tests, crate::specs::Seek::among_tables, crate::specs::Seek::at_else))]
 fn role_of(sought: Sought, shape: Shape) -> Role
     ensures { result ≡ role_of sought shape }
 {
-    match shape {
-        Shape::Section => Role::Passes,
-        Shape::Remark => Role::Passes,
-        Shape::Test => among_tests(sought, Role::Opens),
-        Shape::Else => at_else(sought),
-        Shape::EndTest => among_tests(sought, Role::Closes),
-        Shape::Table => among_tables(sought, Role::Opens),
-        Shape::EndTable => among_tables(sought, Role::Closes),
-        Shape::Plain => Role::Passes,
-        Shape::NoForm => Role::Passes,
+    match (sought, shape) {
+        (Sought::Branch | Sought::TestEnd, Shape::Test) => Role::Opens,
+        (Sought::Branch, Shape::Else) => Role::Divides,
+        (Sought::Branch | Sought::TestEnd, Shape::EndTest) => Role::Closes,
+        (Sought::TableEnd, Shape::Table) => Role::Opens,
+        (Sought::TableEnd, Shape::EndTable) => Role::Closes,
+        _ => Role::Passes,
     }
 }
 
-fn way_past(role: Role, depth: u32) -> Way
+// How many lines are still to be closed behind a line; none where it is the match.
+#[tactic(auto, unfolding(crate::specs::Seek::way_past))]
+fn way_past(role: Role, depth: u32) -> Option<u32>
     requires { depth ≤ 32768 }
     ensures { result ≡ way_past role depth }
 {
     match role {
-        Role::Opens => Way::On(depth + 1),
-        Role::Closes => {
-            if depth == 0 {
-                return Way::Match;
-            }
-            Way::On(depth - 1)
-        }
-        Role::Divides => {
-            if depth == 0 {
-                return Way::Match;
-            }
-            Way::On(depth)
-        }
-        Role::Passes => Way::On(depth),
+        Role::Opens => Some(depth + 1),
+        Role::Closes => depth.checked_sub(1),
+        Role::Divides if depth == 0 => None,
+        Role::Divides | Role::Passes => Some(depth),
     }
 }
 
@@ -118,21 +70,17 @@ fn lines_passed(rest: &[u8], sought: Sought) -> Skip
     let mut at = 0;
     let mut lines: u32 = 0;
     let mut depth: u32 = 0;
+    // A slice's `split` has an empty line behind the last line end, and no places.
     while at < rest.len() {
         let line = scan::bytes::line_of(&rest[at..]);
         let shape = shapes::shape_by_word(line);
         let role = role_of(sought, shape);
-        let way = way_past(role, depth);
-        let next = at + line.len() + 1;
-        let Way::On(inside) = way else {
-            return Skip {
-                bytes: next,
-                lines: lines + 1,
-            };
+        at += line.len() + 1;
+        lines += 1;
+        let Some(inside) = way_past(role, depth) else {
+            return Skip { bytes: at, lines };
         };
         depth = inside;
-        at = next;
-        lines += 1;
     }
     Skip { bytes: at, lines }
 }
@@ -146,13 +94,8 @@ pub fn skip_lines(rest: &[u8], sought: Sought) -> Skip
         return Skip { bytes: 0, lines: 0 };
     }
     let passed = lines_passed(rest, sought);
-    let length = rest.len();
-    let lines = passed.lines;
-    if length < passed.bytes {
-        return Skip {
-            bytes: length,
-            lines,
-        };
+    Skip {
+        bytes: passed.bytes.min(rest.len()),
+        ..passed
     }
-    passed
 }

@@ -1,16 +1,14 @@
 -- What is known of a field that was read: its argument, width and places are within their limits, and it takes at least five
 -- bytes of its line, six where it asks.
+use Rattle.std.specs.Prelude.{Some, None, Option}
 use mathlib.Core.Path.{◌≡◌, refl, subst}
 use mathlib.Core.Bool.{Bool, true, false, cond}
 use mathlib.Core.List.{List, [], ◌∷◌}
-use mathlib.Core.Option.{Option, none, some}
 use Prim.Native.Nat.{ℕ, zero, suc, ◌+◌, ◌*◌, ◌≤◌, ◌<◌}
 use native.Mathlib.Omega.{arith}
 use borrow.Author.Tests.{le-leb, eqb-true, leb-true, leb-false, ltb-false}
 use lib.Dec.{ltb, leb, eqb}
 use lib.ListN.{length}
-use Rattle.scan.specs.declared.digits.Numeral.{Numeral}
-use Rattle.scan.specs.declared.digits.Numeral.TheVariants.{Value, NoNumeral}
 use Rattle.scan.specs.Line.{byte_at}
 use Rattle.scan.specs.Readers.Digits.{digits_at, number_at}
 use Rattle.scan.proofs.TestLaws.{picked, tested}
@@ -19,29 +17,19 @@ use Rattle.scan.proofs.NumberLaws.{Within, number_within}
 use Rattle.arguments.specs.declared.operand.Operand.{Operand}
 use Rattle.arguments.specs.declared.operand.Operand.TheVariants as O
 use Rattle.arguments.specs.declared.argument.Argument.{Argument}
-use Rattle.arguments.specs.declared.argument.ArgumentRead.{ArgumentRead}
-use Rattle.arguments.specs.declared.argument.ArgumentRead.TheVariants.{ArgumentTo, NoArgument}
 use Rattle.arguments.specs.Readers.Argument.{argument_at}
 use Rattle.arguments.specs.Inner.Parameter.{parameter_of}
 use Rattle.arguments.proofs.Parsed.{ArgumentWithin, questions_of, small_parameter, argument_bounded, argument_bytes}
-use Rattle.texts.specs.declared.text.Places.{Places}
-use Rattle.texts.specs.declared.text.Places.TheVariants.{Unsaid, Said}
-use Rattle.texts.specs.declared.text.PlacesRead.{PlacesRead}
-use Rattle.texts.specs.declared.text.PlacesRead.TheVariants.{PlacesTo, NoPlaces}
 use Rattle.texts.specs.declared.text.Field.{Field}
-use Rattle.texts.specs.declared.text.FieldRead.{FieldRead}
-use Rattle.texts.specs.declared.text.FieldRead.TheVariants.{FieldTo, NoField}
 use Rattle.texts.specs.declared.text.Piece.{Piece}
 use Rattle.texts.specs.declared.text.Piece.TheVariants.{Byte, Placed}
-use Rattle.texts.specs.declared.text.PieceRead.{PieceRead}
-use Rattle.texts.specs.declared.text.PieceRead.TheVariants.{PieceTo, NoPiece}
 use Rattle.texts.specs.Readers.Text.{places_at, places_of, width_next, field_of, field_at, placed, piece_at, before, pieces_within, text_pieces}
 use Rattle.texts.specs.Pieces.{or_no_pieces, pieces_of, field_count}
 
 -- "d 0–6"
-abbrev pub Few : Places → Type 0
-Few Unsaid = Unit {0}
-Few (Said d) = d ≤ 6
+abbrev pub Few : Option ℕ → Type 0
+Few None = Unit {0}
+Few (Some d) = d ≤ 6
 
 -- "w 1–32, d 0–6", and an argument of the line within its limits
 pub record Limited (l : List ℕ) (f : Field) : Type 0 where
@@ -51,18 +39,18 @@ pub record Limited (l : List ℕ) (f : Field) : Type 0 where
   pub argument : ArgumentWithin l f.argument
 
 -- what is read, and that it ends at k or behind, in the line; a field that asks one byte later
-abbrev PlacesKnown : List ℕ → ℕ → PlacesRead → Type 0
-PlacesKnown l k (PlacesTo p next) = Few p × (k ≤ next) × (next ≤ length l)
-PlacesKnown l k NoPlaces = Unit {0}
+abbrev PlacesKnown : List ℕ → ℕ → Option (Option ℕ × ℕ) → Type 0
+PlacesKnown l k (Some (p, next)) = Few p × (k ≤ next) × (next ≤ length l)
+PlacesKnown l k None = Unit {0}
 
-abbrev FieldKnown : List ℕ → ℕ → FieldRead → Type 0
-FieldKnown l k (FieldTo f next) = Limited l f × (k + questions_of f.argument.operand ≤ next) × (next ≤ length l)
-FieldKnown l k NoField = Unit {0}
+abbrev FieldKnown : List ℕ → ℕ → Option (Field × ℕ) → Type 0
+FieldKnown l k (Some (f, next)) = Limited l f × (k + questions_of f.argument.operand ≤ next) × (next ≤ length l)
+FieldKnown l k None = Unit {0}
 
-abbrev PieceKnown : List ℕ → ℕ → PieceRead → Type 0
-PieceKnown l k (PieceTo (Byte b) next) = (k ≤ next + 4) × (next ≤ length l)
-PieceKnown l k (PieceTo (Placed f) next) = Limited l f × (k + questions_of f.argument.operand ≤ next) × (next ≤ length l)
-PieceKnown l k NoPiece = Unit {0}
+abbrev PieceKnown : List ℕ → ℕ → Option (Piece × ℕ) → Type 0
+PieceKnown l k (Some (Byte b, next)) = (k ≤ next + 4) × (next ≤ length l)
+PieceKnown l k (Some (Placed f, next)) = Limited l f × (k + questions_of f.argument.operand ≤ next) × (next ≤ length l)
+PieceKnown l k None = Unit {0}
 
 -- a closing brace lies in the line
 closed : (l : List ℕ) (at : ℕ) → eqb (byte_at l at) 125 ≡ true → at < length l
@@ -79,29 +67,29 @@ places_known l at =
     tt)
 
 module _ (l : List ℕ) (a : Argument) (s : ArgumentWithin l a) where
-  with_places : (k at w : ℕ) (p : PlacesRead) → k + questions_of a.operand ≤ at → 1 ≤ w → w ≤ 32 → PlacesKnown l at p → FieldKnown l k (places_of a w p)
+  with_places : (k at w : ℕ) (p : Option (Option ℕ × ℕ)) → k + questions_of a.operand ≤ at → 1 ≤ w → w ≤ 32 → PlacesKnown l at p → FieldKnown l k (places_of a w p)
   unfolding places_of
-  with_places k at w (PlacesTo p next) h x y e = (record { least = x; most = y; few = e.0; argument = s }, omega (arith, e.1), e.2)
-  with_places k at w NoPlaces h x y e = tt
+  with_places k at w (Some (p, next)) h x y e = (record { least = x; most = y; few = e.0; argument = s }, omega (arith, e.1), e.2)
+  with_places k at w None h x y e = tt
 
-  with_width : (k at : ℕ) (n : Numeral) → k + questions_of a.operand ≤ at + 2 → Within 32 at n → FieldKnown l k (width_next l a n)
+  with_width : (k at : ℕ) (n : Option (ℕ × ℕ)) → k + questions_of a.operand ≤ at + 2 → Within 32 at n → FieldKnown l k (width_next l a n)
   unfolding width_next
-  with_width k at (Value w next) h x = with_places k (next + 1) w (places_at l next) (omega (arith, x.onward)) x.least x.most (places_known l next)
-  with_width k at NoNumeral h x = tt
+  with_width k at (Some (w, next)) h x = with_places k (next + 1) w (places_at l next) (omega (arith, x.onward)) x.least x.most (places_known l next)
+  with_width k at None h x = tt
 
 field_known : (l : List ℕ) (k i : ℕ) → k ≤ i + 4 → FieldKnown l k (field_at l i)
 unfolding field_at field_of
 field_known l k i h = go (argument_at l i) refl
   where
-    go : (r : ArgumentRead) → argument_at l i ≡ r → FieldKnown l k (field_of l r)
-    go (ArgumentTo a next) e =
+    go : (r : Option (Argument × ℕ)) → argument_at l i ≡ r → FieldKnown l k (field_of l r)
+    go (Some (a, next)) e =
         picked (FieldKnown l k) (eqb (byte_at l next) 44) (with_width l a (argument_bounded l i a next e) k (next + 1) (number_at l (next + 1) 32) (omega (arith, argument_bytes l i a next e)) (number_within l (next + 1) 32)) tt
-    go NoArgument e = tt
+    go None e = tt
 
-placed_known : (l : List ℕ) (k : ℕ) (r : FieldRead) → FieldKnown l k r → PieceKnown l k (placed r)
+placed_known : (l : List ℕ) (k : ℕ) (r : Option (Field × ℕ)) → FieldKnown l k r → PieceKnown l k (placed r)
 unfolding placed
-placed_known l k (FieldTo f next) h = h
-placed_known l k NoField h = tt
+placed_known l k (Some (f, next)) h = h
+placed_known l k None h = tt
 
 piece_known : (l : List ℕ) (i : ℕ) → PieceKnown l (i + 5) (piece_at l i)
 unfolding piece_at
@@ -112,14 +100,14 @@ piece_known l i =
     (picked (PieceKnown l (i + 5)) (eqb (byte_at l i) 125) tt (omega arith, omega (arith, leb-false (length l) i e))))
 
 -- a piece moves on
-pub piece_ends : (l : List ℕ) (i : ℕ) (p : Piece) (next : ℕ) → piece_at l i ≡ PieceTo p next → i < next
+pub piece_ends : (l : List ℕ) (i : ℕ) (p : Piece) (next : ℕ) → piece_at l i ≡ Some (p, next) → i < next
 piece_ends l i p next e = go p (subst (PieceKnown l (i + 5)) e (piece_known l i))
   where
-    go : (q : Piece) → PieceKnown l (i + 5) (PieceTo q next) → i < next
+    go : (q : Piece) → PieceKnown l (i + 5) (Some (q, next)) → i < next
     go (Byte b) k = omega (arith, k.0)
     go (Placed f) k = omega (arith, k.1)
 
-module _ (l : List ℕ) (i : ℕ) (f : Field) (next : ℕ) (e : piece_at l i ≡ PieceTo (Placed f) next) where
+module _ (l : List ℕ) (i : ℕ) (f : Field) (next : ℕ) (e : piece_at l i ≡ Some (Placed f, next)) where
   pub field_limited : Limited l f
   field_limited = (subst (PieceKnown l (i + 5)) e (piece_known l i)).0
 
@@ -168,22 +156,22 @@ record Takes (l : List ℕ) (i : ℕ) (ps : List Piece) : Type 0 where
 takes_none : (l : List ℕ) (i : ℕ) → i ≤ length l → Takes l i []
 takes_none l i h = record { bytes = omega arith; each = tt }
 
-takes_more : (l : List ℕ) (i : ℕ) (p : Piece) (next : ℕ) (o : Option (List Piece)) → i ≤ length l → PieceKnown l (i + 5) (PieceTo p next) → (next ≤ length l → Takes l next (or_no_pieces o)) → Takes l i (or_no_pieces (before p o))
+takes_more : (l : List ℕ) (i : ℕ) (p : Piece) (next : ℕ) (o : Option (List Piece)) → i ≤ length l → PieceKnown l (i + 5) (Some (p, next)) → (next ≤ length l → Takes l next (or_no_pieces o)) → Takes l i (or_no_pieces (before p o))
 unfolding or_no_pieces before
-takes_more l i p next none h e rest = takes_none l i h
-takes_more l i (Byte b) next (some ps) h e rest = let r = rest e.1 in record { bytes = omega (arith, e.0, r.bytes); each = r.each }
-takes_more l i (Placed f) next (some ps) h e rest = let r = rest e.2 in record { bytes = omega (arith, e.1, r.bytes); each = (e.0, r.each) }
+takes_more l i p next None h e rest = takes_none l i h
+takes_more l i (Byte b) next (Some ps) h e rest = let r = rest e.1 in record { bytes = omega (arith, e.0, r.bytes); each = r.each }
+takes_more l i (Placed f) next (Some ps) h e rest = let r = rest e.2 in record { bytes = omega (arith, e.1, r.bytes); each = (e.0, r.each) }
 
 takes : (n : ℕ) (l : List ℕ) (i : ℕ) → i ≤ length l → Takes l i (or_no_pieces (pieces_within n l i))
 unfolding pieces_within or_no_pieces
 takes zero l i h = takes_none l i h
 takes (suc n) l i h = by (leb (length l) i) (piece_at l i) refl (takes n l)
   where
-    go : (r : PieceRead) → piece_at l i ≡ r → ((next : ℕ) → next ≤ length l → Takes l next (or_no_pieces (pieces_within n l next))) → Takes l i (or_no_pieces (elim r [ PieceTo p next ↦ before p (pieces_within n l next) | NoPiece ↦ none ]))
-    go (PieceTo p next) e rest = takes_more l i p next (pieces_within n l next) h (subst (PieceKnown l (i + 5)) e (piece_known l i)) (rest next)
-    go NoPiece e rest = takes_none l i h
+    go : (r : Option (Piece × ℕ)) → piece_at l i ≡ r → ((next : ℕ) → next ≤ length l → Takes l next (or_no_pieces (pieces_within n l next))) → Takes l i (or_no_pieces (elim r [ Some (p, next) ↦ before p (pieces_within n l next) | None ↦ None ]))
+    go (Some (p, next)) e rest = takes_more l i p next (pieces_within n l next) h (subst (PieceKnown l (i + 5)) e (piece_known l i)) (rest next)
+    go None e rest = takes_none l i h
 
-    by : (b : Bool) (r : PieceRead) → piece_at l i ≡ r → ((next : ℕ) → next ≤ length l → Takes l next (or_no_pieces (pieces_within n l next))) → Takes l i (or_no_pieces (cond b (some []) (elim r [ PieceTo p next ↦ before p (pieces_within n l next) | NoPiece ↦ none ])))
+    by : (b : Bool) (r : Option (Piece × ℕ)) → piece_at l i ≡ r → ((next : ℕ) → next ≤ length l → Takes l next (or_no_pieces (pieces_within n l next))) → Takes l i (or_no_pieces (cond b (Some []) (elim r [ Some (p, next) ↦ before p (pieces_within n l next) | None ↦ None ])))
     by true r e rest = takes_none l i h
     by false r e rest = go r e rest
 

@@ -1,8 +1,8 @@
 -- A run of bytes that are neither brace is as many pieces of one byte.
+use Rattle.std.specs.Prelude.{Some, None, Option}
 use mathlib.Core.Path.{◌≡◌, refl, sym, ap, ◌∙◌}
 use mathlib.Core.Bool.{Bool, true, false, not, cond, ◌||◌, false≢true}
 use mathlib.Core.List.{List, [], ◌∷◌}
-use mathlib.Core.Option.{Option, some}
 use Prim.Native.Nat.{ℕ, ◌+◌, ◌<◌}
 use native.Mathlib.Nat.{add-zero}
 use native.Mathlib.Omega.{arith}
@@ -15,7 +15,6 @@ use Rattle.scan.specs.Run.{belongs, span}
 use Rattle.scan.proofs.RunLaws.{span_end, span_stop, span_more}
 use Rattle.texts.specs.declared.text.Piece.{Piece}
 use Rattle.texts.specs.declared.text.Piece.TheVariants.{Byte}
-use Rattle.texts.specs.declared.text.PieceRead.TheVariants.{PieceTo, NoPiece}
 use Rattle.texts.specs.Width.{width_of}
 use Rattle.texts.specs.Readers.Text.{piece_at, field_at, placed, before, text_pieces, fits_behind}
 use Rattle.texts.specs.Inner.Plain.{plain_run, plains}
@@ -24,11 +23,11 @@ use Rattle.texts.proofs.TextLaws.{piece_passed}
 
 -- a byte that is neither brace is a piece
 module _ (l : List ℕ) (i : ℕ) (h : i < length l) where
-  plain_piece : belongs Unbraced (get_or l i 0) ≡ true → piece_at l i ≡ PieceTo (Byte (get_or l i 0)) (i + 1)
+  plain_piece : belongs Unbraced (get_or l i 0) ≡ true → piece_at l i ≡ Some (Byte (get_or l i 0), i + 1)
   unfolding belongs piece_at byte_at
   plain_piece = rw (lt-leb (length l) i h) (go (eqb (get_or l i 0) 123) (eqb (get_or l i 0) 125))
     where
-      go : (a b : Bool) → not (a || b) ≡ true → cond a (placed (field_at l (i + 1))) (cond b NoPiece (PieceTo (Byte (get_or l i 0)) (i + 1))) ≡ PieceTo (Byte (get_or l i 0)) (i + 1)
+      go : (a b : Bool) → not (a || b) ≡ true → cond a (placed (field_at l (i + 1))) (cond b None (Some (Byte (get_or l i 0), i + 1))) ≡ Some (Byte (get_or l i 0), i + 1)
       go true b e = absurd (false≢true e)
       go false true e = absurd (false≢true e)
       go false false e = refl
@@ -66,7 +65,7 @@ befores_fit width (b ∷ s) o =
     let n : width + length (b ∷ s) ≡ width + 1 + length s = omega arith in
     piece_passed width (Byte b) (befores s o) ∙ befores_fit (width + 1) s o ∙ ap (λ (w : ℕ). fits_behind w o) (sym n)
 
-befores_some : (s : List ℕ) (ps : List Piece) → befores s (some ps) ≡ some (plains s ps)
+befores_some : (s : List ℕ) (ps : List Piece) → befores s (Some ps) ≡ Some (plains s ps)
 unfolding befores before
 befores_some [] ps = refl
 befores_some (b ∷ s) ps = ap (before (Byte b)) (befores_some s ps)
@@ -78,6 +77,6 @@ module _ (l s : List ℕ) (i : ℕ) (e : s ≡ plain_run l i) where
   plain_fits width = ap (fits_behind width) (run_pieces l s i e) ∙ befores_fit width s (text_pieces l (i + length s))
 
   -- The pieces of a run, and what follows.
-  pub plain_pieces : (ps : List Piece) → text_pieces l (i + length s) ≡ some ps → text_pieces l i ≡ some (plains s ps)
+  pub plain_pieces : (ps : List Piece) → text_pieces l (i + length s) ≡ Some ps → text_pieces l i ≡ Some (plains s ps)
   unfolding plain_run
   plain_pieces ps q = run_pieces l s i e ∙ rw q (befores_some s ps)

@@ -1,14 +1,13 @@
 -- The pieces of an accepted text, and its fields.
-use Rattle.std.specs.Prelude.{List, [], ◌∷◌, ℕ, ◌+◌}
-use Rattle.std.proofs.Math.Option.{Option, none, some}
+use Rattle.std.specs.Prelude.{List, [], ◌∷◌, ℕ, ◌+◌, Option, Some, None}
 use Rattle.texts.specs.declared.text.Piece.{Piece}
 use Rattle.texts.specs.declared.text.Piece.TheVariants.{Byte, Placed}
 use Rattle.texts.specs.Readers.Text.{text_pieces}
 
 -- the pieces of an accepted text, which always has some
 unfoldable pub or_no_pieces : Option (List Piece) → List Piece
-or_no_pieces (some ps) = ps
-or_no_pieces none = []
+or_no_pieces (Some ps) = ps
+or_no_pieces None = []
 
 -- of the line l, whose text starts at `from`: those that it spells (grammar/proofs/There:pieces_are, text_pieces_law, heading_pieces)
 unfoldable pub pieces_of : List ℕ → ℕ → List Piece

@@ -2,12 +2,9 @@
 ghost use Rattle.texts.specs.Inner.CellField.{ReadsField};
 
 use crate::text;
-use crate::text::{Places, PlacesRead};
 use arguments::cell;
-use arguments::cell::CellRead;
 use arguments::index::Index;
 use scan::digits;
-use scan::digits::Numeral;
 
 // The cell's parameter and its record's index, 0 where it has none; the field's width and places; the place behind it.
 #[derive(Clone, Copy)]
@@ -15,31 +12,19 @@ pub struct CellField {
     pub parameter: usize,
     pub index: Index,
     pub width: usize,
-    pub places: Places,
+    pub places: Option<usize>,
     pub next: usize,
 }
 
-// Such a field, or that something else is there.
-#[derive(Clone, Copy)]
-pub enum CellFieldRead {
-    CellFieldTo(CellField),
-    Other,
-}
-
 // A field behind its opening brace.
-pub fn cell_field_at(line: &[u8], at: usize) -> CellFieldRead
+#[tactic(auto, using(crate::proofs::CellFieldLaws::other_reads))]
+pub fn cell_field_at(line: &[u8], at: usize) -> Option<CellField>
     ensures { ReadsField line.now at result }
 {
-    let CellRead::CellTo(parameter, index, comma) = cell::cell_at(line, at) else {
-        return CellFieldRead::Other;
-    };
-    let Numeral::Value(width, end) = digits::number_at(line, comma + 1, 32) else {
-        return CellFieldRead::Other;
-    };
-    let PlacesRead::PlacesTo(places, next) = text::places_at(line, end) else {
-        return CellFieldRead::Other;
-    };
-    CellFieldRead::CellFieldTo(CellField {
+    let (parameter, index, comma) = cell::cell_at(line, at)?;
+    let (width, end) = digits::number_at(line, comma + 1, 32)?;
+    let (places, next) = text::places_at(line, end)?;
+    Some(CellField {
         parameter,
         index,
         width,

@@ -5,36 +5,15 @@ ghost use Rattle.texts.specs.Readers.Text.{places_at, field_at, piece_at, text_f
 ghost use Rattle.texts.specs.Inner.Plain.{plain_run};
 
 use arguments::argument;
-use arguments::argument::{Argument, ArgumentRead};
-use scan::digits::Numeral;
+use arguments::argument::Argument;
 use scan::run::Class;
 use scan::{bytes, digits, run};
-
-// `{argument,w}` says no places, `{argument,w.d}` says d.
-#[derive(Clone, Copy)]
-pub enum Places {
-    Unsaid,
-    Said(usize),
-}
 
 #[derive(Clone, Copy)]
 pub struct Field {
     pub argument: Argument,
     pub width: usize,
-    pub places: Places,
-}
-
-#[derive(Clone, Copy)]
-pub enum PlacesRead {
-    PlacesTo(Places, usize),
-    NoPlaces,
-}
-
-// A field, and the place behind it.
-#[derive(Clone, Copy)]
-pub enum FieldRead {
-    FieldTo(Field, usize),
-    NoField,
+    pub places: Option<usize>,
 }
 
 #[derive(Clone, Copy)]
@@ -43,91 +22,73 @@ pub enum Piece {
     Placed(Field),
 }
 
-// A byte or a field, and the place behind it.
-#[derive(Clone, Copy)]
-pub enum PieceRead {
-    PieceTo(Piece, usize),
-    NoPiece,
-}
-
 // What stands behind a field's width, with the closing brace.
-pub fn places_at(line: &[u8], at: usize) -> PlacesRead
+#[tactic(auto, unfolding(crate::specs::Readers::Text::places_at))]
+pub fn places_at(line: &[u8], at: usize) -> Option<(Option<usize>, usize)>
     ensures { result ≡ places_at line.now at }
 {
-    let mark = bytes::byte(line, at);
-    if mark == b'}' {
-        return PlacesRead::PlacesTo(Places::Unsaid, at + 1);
+    match bytes::byte(line, at) {
+        b'}' => Some((None, at + 1)),
+        b'.' => {
+            let d = digits::digits_at(line, at + 1, 1);
+            if d.count == 0 || d.value > 6 || bytes::byte(line, at + 2) != b'}' {
+                return None;
+            }
+            Some((Some(d.value), at + 3))
+        }
+        _ => None,
     }
-    if mark != b'.' {
-        return PlacesRead::NoPlaces;
-    }
-    let d = digits::digits_at(line, at + 1, 1);
-    if d.count == 0 {
-        return PlacesRead::NoPlaces;
-    }
-    if 6 < d.value {
-        return PlacesRead::NoPlaces;
-    }
-    if bytes::byte(line, at + 2) != b'}' {
-        return PlacesRead::NoPlaces;
-    }
-    PlacesRead::PlacesTo(Places::Said(d.value), at + 3)
 }
 
 // A field behind its opening brace.
-pub fn field_at(line: &[u8], at: usize) -> FieldRead
+#[tactic(auto, unfolding(crate::specs::Readers::Text::field_at, crate::specs::Readers::Text::field_of, crate::specs::Readers::Text::width_next, crate::specs::Readers::Text::places_of))]
+pub fn field_at(line: &[u8], at: usize) -> Option<(Field, usize)>
     ensures { result ≡ field_at line.now at }
 {
-    let ArgumentRead::ArgumentTo(argument, next) = argument::argument_at(line, at) else {
-        return FieldRead::NoField;
-    };
+    let (argument, next) = argument::argument_at(line, at)?;
     if bytes::byte(line, next) != b',' {
-        return FieldRead::NoField;
+        return None;
     }
-    let Numeral::Value(width, after) = digits::number_at(line, next + 1, 32) else {
-        return FieldRead::NoField;
-    };
-    let PlacesRead::PlacesTo(places, end) = places_at(line, after) else {
-        return FieldRead::NoField;
-    };
-    FieldRead::FieldTo(
+    let (width, after) = digits::number_at(line, next + 1, 32)?;
+    let (places, end) = places_at(line, after)?;
+    Some((
         Field {
             argument,
             width,
             places,
         },
         end,
-    )
+    ))
 }
 
-pub fn piece_at(line: &[u8], at: usize) -> PieceRead
+#[tactic(auto, unfolding(crate::specs::Readers::Text::piece_at, crate::specs::Readers::Text::placed))]
+pub fn piece_at(line: &[u8], at: usize) -> Option<(Piece, usize)>
     ensures { result ≡ piece_at line.now at }
 {
     if line.len() <= at {
-        return PieceRead::NoPiece;
+        return None;
     }
-    let b = bytes::byte(line, at);
-    if b == b'{' {
-        let FieldRead::FieldTo(field, next) = field_at(line, at + 1) else {
-            return PieceRead::NoPiece;
-        };
-        return PieceRead::PieceTo(Piece::Placed(field), next);
+    match bytes::byte(line, at) {
+        b'{' => {
+            let (field, next) = field_at(line, at + 1)?;
+            Some((Piece::Placed(field), next))
+        }
+        b'}' => None,
+        b => Some((Piece::Byte(b), at + 1)),
     }
-    if b == b'}' {
-        return PieceRead::NoPiece;
-    }
-    PieceRead::PieceTo(Piece::Byte(b), at + 1)
 }
 
 // The bytes from a place on up to the next brace, each of which is a piece.
+#[tactic(auto, using(scan::proofs::RunLaws::take_span), unfolding(crate::specs::Inner::Plain::plain_run))]
 pub fn plain_run<'a>(line: &'a [u8], at: usize) -> &'a [u8]
     ensures { result.now ≡ plain_run line.now at }
 {
-    let rest = bytes::part(line, at, line.len());
+    let rest = bytes::rest(line, at);
     let length = run::count(rest, Class::Unbraced);
     &rest[..length]
 }
 
+#[tactic(auto, unfolding(crate::specs::Width::width_of))]
 fn width_of(piece: Piece) -> usize
     ensures { result ≡ width_of piece }
 {
@@ -146,8 +107,9 @@ pub fn text_fits(line: &[u8], from: usize) -> bool
     }
     let mut at = from;
     let mut width = from;
+    // A while, since a piece is of any length: no iterator goes over pieces, which are read one behind the other.
     while at < line.len() {
-        let PieceRead::PieceTo(piece, next) = piece_at(line, at) else {
+        let Some((piece, next)) = piece_at(line, at) else {
             return false;
         };
         let w = width_of(piece);

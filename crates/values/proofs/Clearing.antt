@@ -1,45 +1,14 @@
 -- Rows of zeros, and the machine that they stand for.
 use mathlib.Core.Path.{◌≡◌, refl, sym, ap, ◌∙◌}
 use mathlib.Core.List.{List, [], ◌∷◌, ◌++◌, map}
-use Prim.Native.Nat.{ℕ, zero, suc, ◌+◌, ◌-◌, ◌≤◌, ◌<◌}
+use Prim.Native.Nat.{ℕ, zero, suc, ◌+◌, ◌-◌, ◌≤◌}
 use native.Mathlib.Omega.{arith}
-use native.Mathlib.Nat.{le_antisymm}
-use native.Mathlib.Numerals.{add-one}
-use lib.ListN.{drop, get_or, length, length-replicate, length-set, replicate, set, take}
-use lib.Seq.{drop-cons, drop-drop, set_at}
+use lib.ListN.{drop, replicate, take}
+use lib.Seq.{drop-drop}
 use Rattle.meaning.specs.Answer.{Answer}
 use Rattle.meaning.specs.declared.question.Question.{Question}
 use Rattle.values.specs.declared.fetch.Along.{Along}
 use Rattle.values.specs.Inner.State.{bank, texts, words_from, fetched}
-
--- The loop stands at j: so many elements of the row b are x.
-pub record Cleared {A : Type 0} (x : A) (b d : List A) (j : ℕ) : Type 0 where
-  pub row_is : d ≡ replicate j x ++ drop j b
-  pub same : length d ≡ length b
-  pub few : j ≤ length b
-
-one_more : {A : Type 0} (x : A) (l : List A) (j : ℕ) → replicate j x ++ x ∷ l ≡ x ∷ replicate j x ++ l
-one_more x l zero = refl
-one_more {A} x l (suc j) = ap (λ (r : List A). x ∷ r) (one_more x l j)
-
-module _ {A : Type 0} (x : A) (b : List A) where
-  pub clear_start : Cleared x b b 0
-  clear_start = record { row_is = refl; same = refl; few = omega arith }
-
-  module _ (d : List A) (j : ℕ) (h : Cleared x b d j) where
-    pub clear_next : j < length d → (y : A) → y ≡ x → Cleared x b (set d j y) (j + 1)
-    clear_next l y e = record {
-      row_is =
-          let k : j < length b = omega (arith, h.same) in
-          ap (λ (l : List A). set l j y) (h.row_is ∙ ap (λ (l : List A). replicate j x ++ l) (drop-cons b j x k))
-          ∙ set_at (replicate j x) (get_or b j x) (drop (suc j) b) y j (length-replicate j x)
-          ∙ rw (e, add-one j) (one_more x (drop (suc j) b) j);
-      same = length-set d j y ∙ h.same;
-      few = omega (arith, h.same);
-    }
-
-    pub clear_end : (n : ℕ) → n ≤ j → j ≤ n → d ≡ replicate n x ++ drop n b
-    clear_end n l k = let e : j ≡ n = le_antisymm k l in h.row_is ∙ ap (λ (i : ℕ). replicate i x ++ drop i b) e
 
 -- a part of a row that begins with zeros
 take_zeros : {A : Type 0} (x : A) (l : List A) (k n : ℕ) → k ≤ n → take k (replicate n x ++ l) ≡ replicate k x

@@ -1,6 +1,7 @@
 pub mod Texts
 pub mod Word
 pub mod State
+pub mod Logged
 pub mod Hearing
 pub mod Fetch
 pub mod Registers

@@ -27,102 +27,68 @@ pub const TABLES: usize = 128;
 
 pub const JUMPS: usize = 148;
 
-// The n-th of a part of the numbers; 0 for any other.
-fn number_in(numbers: &Numbers, from: usize, size: usize, n: usize) -> i64
-    requires { from + size ≤ 198 }
-    ensures { result ≡ M.numbered (pos 0) (bank from size numbers.now) n }
+// The n-th of a part of a row, counted from 1; `none` for any other.
+fn nth<T: Copy, const N: usize>(row: &[T; N], from: usize, size: usize, n: usize, none: T) -> T
+    requires { from + size ≤ N }
+    ensures { result ≡ M.numbered none (bank from size row.now) n }
 {
-    if n < 1 {
-        return 0;
+    if n < 1 || size < n {
+        return none;
     }
-    if size < n {
-        return 0;
-    }
-    numbers[from + (n - 1)]
+    row[from + (n - 1)]
 }
 
 // IVn; 0 for any other.
 pub fn integer(numbers: &Numbers, n: usize) -> i64
     ensures { result ≡ M.numbered (pos 0) (integers_in numbers.now) n }
 {
-    number_in(numbers, INTEGERS, 99, n)
+    nth(numbers, INTEGERS, 99, n, 0)
 }
 
 // FVn; 0 for any other.
 pub fn decimal(numbers: &Numbers, n: usize) -> i64
     ensures { result ≡ M.numbered (pos 0) (decimals_in numbers.now) n }
 {
-    number_in(numbers, DECIMALS, 99, n)
-}
-
-// The n-th of a part of the words; 0 for any other.
-fn word_in(words: &Words, from: usize, size: usize, n: usize) -> u64
-    requires { from + size ≤ 128 }
-    ensures { result ≡ M.numbered 0 (bank from size words.now) n }
-{
-    if n < 1 {
-        return 0;
-    }
-    if size < n {
-        return 0;
-    }
-    words[from + (n - 1)]
+    nth(numbers, DECIMALS, 99, n, 0)
 }
 
 // How long SVn is; 0 for any other.
 pub fn length(words: &Words, n: usize) -> usize
     ensures { result ≡ M.numbered 0 (lengths_in words.now) n }
 {
-    word_in(words, LENGTHS, 99, n) as usize
+    nth(words, LENGTHS, 99, n, 0) as usize
 }
 
 // What Rn fetched; 0, which is nothing, for any other.
 pub fn record_word(words: &Words, n: usize) -> u64
     ensures { result ≡ M.numbered 0 (records_in words.now) n }
 {
-    word_in(words, RECORDS, 10, n)
+    nth(words, RECORDS, 10, n, 0)
 }
 
 // What Tn fetched.
 pub fn entry_word(words: &Words, n: usize) -> u64
     ensures { result ≡ M.numbered 0 (entries_in words.now) n }
 {
-    word_in(words, ENTRIES, 10, n)
+    nth(words, ENTRIES, 10, n, 0)
 }
 
 // Heading n; 0, which is none, for any other.
 pub fn heading_word(words: &Words, n: usize) -> u64
     ensures { result ≡ M.numbered 0 (headings_in words.now) n }
 {
-    word_in(words, HEADINGS, 9, n)
+    nth(words, HEADINGS, 9, n, 0)
 }
 
-// IVn or FVn; any other stays.
-pub fn put_number(numbers: &mut Numbers, from: usize, size: usize, n: usize, z: i64)
-    requires { from + size ≤ 198 }
-    ensures { Puts numbers.old from size n z numbers.new }
+// The n-th of a part of a row, counted from 1, is x now; any other stays.
+pub fn put<T: Copy, const N: usize>(row: &mut [T; N], from: usize, size: usize, n: usize, x: T)
+    requires { from + size ≤ N }
+    ensures { Puts row.old from size n x row.new }
 {
-    if n < 1 {
+    if n < 1 || size < n {
         return;
     }
-    if size < n {
-        return;
-    }
-    numbers[from + (n - 1)] = z;
-}
-
-// The length of SVn, Rn, Tn or heading n; any other stays.
-pub fn put_word(words: &mut Words, from: usize, size: usize, n: usize, word: u64)
-    requires { from + size ≤ 128 }
-    ensures { Puts words.old from size n word words.new }
-{
-    if n < 1 {
-        return;
-    }
-    if size < n {
-        return;
-    }
-    words[from + (n - 1)] = word;
+    row[from + (n - 1)] = x;
 }
 
 // "Each executed $SEC sets IV and FV to 0, SV to empty, clears R, T and headings": rows of zeros. IV and FV.
@@ -130,11 +96,7 @@ pub fn clear_numbers(row: &mut Numbers)
     requires { 198 ≤ length row.old }
     ensures { row.new ≡ replicate 198 (pos 0) ++ drop 198 row.old }
 {
-    let mut j = 0;
-    while j < 198 {
-        row[j] = 0;
-        j += 1;
-    }
+    row.fill(0);
 }
 
 // SV, R, T and the headings: a string of length 0 is empty, a word of 0 has fetched nothing, and is an undefined heading. The jumps
@@ -143,9 +105,5 @@ pub fn clear_words(row: &mut Words)
     requires { 128 ≤ length row.old }
     ensures { row.new ≡ replicate 128 0 ++ drop 128 row.old }
 {
-    let mut j = 0;
-    while j < TABLES {
-        row[j] = 0;
-        j += 1;
-    }
+    row[..TABLES].fill(0);
 }

@@ -28,32 +28,26 @@ pub struct Text {
 pub fn part<'a>(line: &'a [u8], store: &'a [u8], stored: bool, at: usize, count: usize) -> &'a [u8]
     ensures { result.now ≡ take count (drop at (cond stored store.now line.now)) }
 {
-    if stored {
-        return bytes::part(store, at, count);
-    }
-    bytes::part(line, at, count)
+    bytes::part(if stored { store } else { line }, at, count)
 }
 
 // The 16 bytes of a string variable.
+#[tactic(auto, unfolding(crate::specs::Inner::Texts::row_of))]
 fn row_of(strings: &[[u8; 16]; 99], n: usize) -> [u8; 16]
     ensures { result ≡ S.row_of strings.now n }
 {
-    if n < 1 {
-        return [0u8; 16];
+    match n {
+        1..=99 => strings[n - 1],
+        _ => [0; 16],
     }
-    let i = n - 1;
-    if i < 99 {
-        return strings[i];
-    }
-    [0u8; 16]
 }
 
+#[tactic(auto, unfolding(crate::specs::Inner::Texts::row_for))]
 pub fn row_for(strings: &[[u8; 16]; 99], source: Source) -> [u8; 16]
     ensures { result ≡ S.row_for strings.now source }
 {
     match source {
-        Source::Line => [0u8; 16],
-        Source::Store => [0u8; 16],
+        Source::Line | Source::Store => [0; 16],
         Source::Variable(n) => row_of(strings, n),
     }
 }
@@ -62,13 +56,10 @@ pub fn row_for(strings: &[[u8; 16]; 99], source: Source) -> [u8; 16]
 pub fn bytes_of<'a>(line: &'a [u8], store: &'a [u8], row: &'a [u8], text: Text) -> &'a [u8]
     ensures { result.now ≡ take text.count (drop text.at (S.chosen line.now store.now row.now text.source)) }
 {
-    let source = text.source;
-    let at = text.at;
-    let count = text.count;
-    match source {
-        Source::Line => part(line, store, false, at, count),
-        Source::Store => part(line, store, true, at, count),
-        Source::Variable(_) => bytes::part(row, at, count),
+    match text.source {
+        Source::Line => part(line, store, false, text.at, text.count),
+        Source::Store => part(line, store, true, text.at, text.count),
+        Source::Variable(_) => bytes::part(row, text.at, text.count),
     }
 }
 
@@ -76,53 +67,37 @@ pub fn length_of<'a>(line: &'a [u8], store: &'a [u8], strings: &[[u8; 16]; 99], 
     requires { Sized line.now store.now }
     ensures { (result ≡ length (text_of (S.strings line.now store.now strings.now) text)) × (result ≤ 65536) }
 {
-    let source = text.source;
-    let row = row_for(strings, source);
-    let bytes = bytes_of(line, store, &row, text);
-    bytes.len()
+    let row = row_for(strings, text.source);
+    bytes_of(line, store, &row, text).len()
 }
 
+#[tactic(auto, unfolding(crate::specs::Letters::upper))]
 pub fn upper(b: u8) -> u8
     ensures { result ≡ L.upper b }
 {
-    if b < 97 {
-        return b;
-    }
-    if 122 < b {
-        return b;
-    }
-    b - 32
+    b.to_ascii_uppercase()
 }
 
 // A byte, in upper case where the flag is set.
 pub fn letter(raised: bool, b: u8) -> u8
     ensures { result ≡ L.letter raised b }
 {
-    if raised {
-        return upper(b);
-    }
-    b
+    if raised { upper(b) } else { b }
 }
 
 fn same_bytes(a: &[u8], a_upper: bool, b: &[u8], b_upper: bool, ignoring: bool) -> bool
     ensures { result ≡ equal_strings ignoring (cased a_upper a.now) (cased b_upper b.now) }
 {
-    let mut i = 0;
-    while i < a.len() {
-        if b.len() <= i {
-            return true;
-        }
-        let x = letter(ignoring, letter(a_upper, a[i]));
-        let y = letter(ignoring, letter(b_upper, b[i]));
-        if x != y {
+    for (&x, &y) in a.iter().zip(b) {
+        if letter(ignoring, letter(a_upper, x)) != letter(ignoring, letter(b_upper, y)) {
             return false;
         }
-        i += 1;
     }
     true
 }
 
 // "two strings, up to the shorter length; SI ignores ASCII case"
+#[tactic(auto, using(crate::proofs::Texts::text_is))]
 pub fn same<'a>(
     line: &'a [u8],
     store: &'a [u8],
@@ -133,10 +108,8 @@ pub fn same<'a>(
 ) -> bool
     ensures { result ≡ equal_strings ignoring (text_of (S.strings line.now store.now strings.now) p) (text_of (S.strings line.now store.now strings.now) q) }
 {
-    let source = p.source;
-    let row = row_for(strings, source);
-    let other_source = q.source;
-    let other = row_for(strings, other_source);
+    let row = row_for(strings, p.source);
+    let other = row_for(strings, q.source);
     let a = bytes_of(line, store, &row, p);
     let b = bytes_of(line, store, &other, q);
     same_bytes(a, p.upper, b, q.upper, ignoring)

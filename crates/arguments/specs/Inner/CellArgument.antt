@@ -1,23 +1,18 @@
 -- A cell without entry and filter, read at once where the comma of a field follows.
-use Rattle.std.specs.Prelude.{◌≡◌, cond, List, ℕ, ◌+◌}
+use Rattle.std.specs.Prelude.{◌≡◌, cond, List, ℕ, ◌+◌, Option, Some}
 use Rattle.scan.specs.Line.{byte_at, byte_is}
 use Rattle.arguments.specs.declared.index.Index.{Index}
 use Rattle.arguments.specs.declared.index.Index.TheVariants.{Fixed}
-use Rattle.arguments.specs.declared.index.IndexRead.{IndexRead}
-use Rattle.arguments.specs.declared.index.IndexRead.TheVariants.{IndexTo}
 use Rattle.arguments.specs.declared.operand.Operand.{Operand}
 use Rattle.arguments.specs.declared.operand.Operand.TheVariants.{Parameter, Record}
 use Rattle.arguments.specs.declared.argument.Argument.{Argument}
 use Rattle.arguments.specs.declared.argument.Filter.TheVariants.{Unfiltered}
-use Rattle.arguments.specs.declared.argument.ArgumentRead.TheVariants.{ArgumentTo}
-use Rattle.arguments.specs.declared.cell.CellRead.{CellRead}
-use Rattle.arguments.specs.declared.cell.CellRead.TheVariants.{CellTo}
 use Rattle.arguments.specs.Readers.Index.{index_at}
 use Rattle.arguments.specs.Readers.Argument.{argument_at}
 
 -- an index behind a point, or 0 where there is no point
-unfoldable pub record_at : List ℕ → ℕ → IndexRead
-record_at l at = cond (byte_is l at ".") (index_at l (at + 1)) (IndexTo (Fixed 0) at)
+unfoldable pub record_at : List ℕ → ℕ → Option (Index × ℕ)
+record_at l at = cond (byte_is l at ".") (index_at l (at + 1)) (Some (Fixed 0, at))
 
 -- an operand is the cell Pn.i, or Pn where i is 0
 pub data CellOperand (n : ℕ) (i : Index) (o : Operand) : Type 0 where
@@ -31,9 +26,9 @@ unfiltered o = record { operand = o; filter = Unfiltered }
 pub record CellArgument (l : List ℕ) (at n : ℕ) (i : Index) (next : ℕ) : Type 0 where
   pub operand : Operand
   pub cell : CellOperand n i operand
-  pub argument : argument_at l at ≡ ArgumentTo (unfiltered operand) next
+  pub argument : argument_at l at ≡ Some (unfiltered operand, next)
   pub comma : byte_at l next ≡ 44
 
 -- another argument, or the one that stands there
-pub record ReadsCell (l : List ℕ) (at : ℕ) (r : CellRead) : Type 0 where
-  pub reads : (n : ℕ) (i : Index) (next : ℕ) → r ≡ CellTo n i next → CellArgument l at n i next
+pub record ReadsCell (l : List ℕ) (at : ℕ) (r : Option (ℕ × Index × ℕ)) : Type 0 where
+  pub reads : (n : ℕ) (i : Index) (next : ℕ) → r ≡ Some (n, i, next) → CellArgument l at n i next

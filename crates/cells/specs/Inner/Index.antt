@@ -1,14 +1,11 @@
 -- The index of a store: where each of its cells begins.
-use Rattle.std.specs.Prelude.{◌≡◌, ℕ, ◌+◌, ◌*◌, ◌<◌, ◌≤◌, true, cond, List, [], ◌∷◌, ◌++◌, length, drop, ◌==◌, nat_lt, slice_index}
-use Rattle.std.proofs.Math.Option.{Option, none, some}
+use Rattle.std.specs.Prelude.{◌≡◌, ℕ, ◌+◌, ◌*◌, ◌<◌, ◌≤◌, true, cond, List, [], ◌∷◌, ◌++◌, length, drop, ◌==◌, nat_lt, slice_index, Some, None, Option}
 use Rattle.std.proofs.lemmas.List.Edits.{sets}
 use Rattle.meaning.specs.Answer.{missing, cell}
 use Rattle.meaning.specs.declared.question.Question.{Question}
 use Rattle.cells.specs.declared.Answered.{Answered}
 use Rattle.cells.specs.declared.Answered.TheVariants as A
 use Rattle.cells.specs.declared.Answered.TheVariants.{Missing, Integer, Decimal, StringAt}
-use Rattle.cells.specs.declared.index.Indexed.{Indexed}
-use Rattle.cells.specs.declared.index.Indexed.TheVariants.{Count, BadStore}
 use Rattle.cells.specs.Bytes.{pair_at}
 use Rattle.cells.specs.Cell.{Cell, key_as_number, key_number, key_at, cell_allowed, cell_bytes}
 use Rattle.cells.specs.Store.{cells_held}
@@ -19,23 +16,23 @@ unfoldable pub offsets : ℕ → List Cell → List ℕ
 offsets at [] = []
 offsets at (c ∷ cs) = at ∷ offsets (at + length (cell_bytes c)) cs
 
-unfoldable pub counted : Option (List Cell) → Indexed
-counted none = BadStore
-counted (some cs) = Count (length cs)
+unfoldable pub counted : Option (List Cell) → Option ℕ
+counted None = None
+counted (Some cs) = Some (length cs)
 
 -- j is the index i with the cells' places stored from its start on
 unfoldable pub Filled : List ℕ → List ℕ → Option (List Cell) → Type 0
-Filled i j none = Unit {0}
-Filled i j (some cs) = j ≡ sets i 0 (offsets 0 cs)
+Filled i j None = Unit {0}
+Filled i j (Some cs) = j ≡ sets i 0 (offsets 0 cs)
 
 -- what `index` hands back for the cells held, if any
-pub record Indexes (i : List ℕ) (store : Option (List Cell)) (j : List ℕ) (r : Indexed) : Type 0 where
+pub record Indexes (i : List ℕ) (store : Option (List Cell)) (j : List ℕ) (r : Option ℕ) : Type 0 where
   pub told : r ≡ counted store
   pub filled : Filled i j store
 
 -- the first n bytes of b hold the cells cs, and index has the place of each
 pub record Ready (b : List ℕ) (n : ℕ) (index : List ℕ) (count : ℕ) (cs : List Cell) : Type 0 where
-  pub holds : cells_held b n ≡ some cs
+  pub holds : cells_held b n ≡ Some cs
   pub tally : count ≡ length cs
   pub room : count ≤ length index
   pub starts : (i : ℕ) → i < count → slice_index index i ≡ slice_index (offsets 0 cs) i
@@ -97,7 +94,7 @@ offset_of kind = cond (kind == 2) 4 6
 -- r answers a question
 pub record Answers (b starts : List ℕ) (count : ℕ) (q : Question) (r : Answered) : Type 0 where
   pub answer : (n : ℕ) (cs : List Cell) → Ready b n starts count cs → meant b r ≡ cond (question_allowed q) (answer q cs) missing
-  pub inside : (n : ℕ) (cs : List Cell) → Ready b n starts count cs → InStore b n (string_start q (some cs)) r
+  pub inside : (n : ℕ) (cs : List Cell) → Ready b n starts count cs → InStore b n (string_start q (Some cs)) r
 
 -- r is the size of the cell at a place of b
 pub record SizeAt (b : List ℕ) (at r : ℕ) : Type 0 where

@@ -1,21 +1,9 @@
--- The tests of two values as the code goes through them: of strings or of numbers, and which (proofs/Tests: kind_strings, kind_numbers).
-use Rattle.std.specs.Prelude.{Bool, true, false, not}
+-- The tests of two numbers as the code goes through them (proofs/Tests: kind_numbers).
+use Rattle.std.specs.Prelude.{Bool, false, not}
 use Rattle.numbers.specs.declared.Quantity.{Quantity}
 use Rattle.numbers.specs.Order.{less_than, at_most, equal_to}
 use Rattle.lines.specs.declared.command.Comparison.{Comparison}
-use Rattle.commands.specs.declared.test.Comparands.{Comparands}
-use Rattle.commands.specs.declared.test.Comparands.TheVariants.{Numbers, Strings}
 use Rattle.lines.specs.declared.command.Comparison.TheVariants.{SameString, SameLetters, Equal, NotEqual, Less, AtMost, Greater, AtLeast}
-
-unfoldable pub comparands_of : Comparison → Comparands
-comparands_of SameString = Strings false
-comparands_of SameLetters = Strings true
-comparands_of Equal = Numbers
-comparands_of NotEqual = Numbers
-comparands_of Less = Numbers
-comparands_of AtMost = Numbers
-comparands_of Greater = Numbers
-comparands_of AtLeast = Numbers
 
 -- whether a test of numbers holds; no test of strings does
 unfoldable pub numbers_hold : Comparison → Quantity → Quantity → Bool

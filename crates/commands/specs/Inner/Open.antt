@@ -1,11 +1,10 @@
 -- The words that stand for the open tables, and what its contracts say.
-use Rattle.std.specs.Prelude.{◌≡◌, Bool, true, false, cond, List, [], ◌∷◌, ℕ, zero, suc, ◌+◌, ◌-◌, ◌*◌, ◌%◌, ◌≤◌, ℤ, length, get_or}
+use Rattle.std.specs.Prelude.{◌≡◌, Bool, true, false, cond, List, [], ◌∷◌, ℕ, zero, suc, ◌+◌, ◌-◌, ◌*◌, ◌%◌, ◌≤◌, ℤ, length, get_or, Result, Ok}
+use Rattle.meaning.specs.declared.refusal.Refusal.{Refusal}
 use Rattle.commands.specs.declared.table.Table.{Table}
 use Rattle.values.specs.Inner.State.{bank, tables_in}
-use Rattle.commands.specs.Settling.{Settled, settled, and_then}
-use Rattle.commands.specs.Inner.Taking.{taken_of, judged_of, mapped}
-use Rattle.commands.specs.declared.settle.Taken.{Taken}
-use Rattle.commands.specs.declared.settle.Judged.{Judged}
+use Rattle.commands.specs.Settling.{Settled, and_then}
+use Rattle.commands.specs.Inner.Taking.{mapped}
 use Rattle.commands.specs.Looping.{Looping, looping, begun, counted}
 
 -- table i, counted from 0: its counter, its n, and the line after its $BT by place and number
@@ -53,17 +52,17 @@ pub record Pushes (words : List ℕ) (d : ℕ) (t : Table) (words' : List ℕ) :
 
 -- $BT and $ET with their value
 abbrev pub begin_from : List Table → ℕ → ℕ → Settled ℤ → Settled Looping
-begin_from ts start next x = and_then x (λ z. settled (begun ts start next z))
+begin_from ts start next x = and_then x (λ z. Ok (begun ts start next z))
 
 abbrev pub end_from : List Table → Settled ℤ → Settled Looping
 end_from ts x = and_then x (λ k. counted ts k)
 
 -- What `begin_table` and `end_table` say.
-pub record BeginsTable (t : Taken) (start next : ℕ) (words : List ℕ) (d : ℕ) (words' : List ℕ) (r : Judged) : Type 0 where
-  pub same : begin_from (open_of words d) start next (taken_of t) ≡ mapped (beginning words' d) (judged_of r)
+pub record BeginsTable (t : Result ℤ Refusal) (start next : ℕ) (words : List ℕ) (d : ℕ) (words' : List ℕ) (r : Result Bool Refusal) : Type 0 where
+  pub same : begin_from (open_of words d) start next t ≡ mapped (beginning words' d) r
   pub rest : open_of words' d ≡ open_of words d
   pub stays : Stays words words'
 
-pub record EndsTable (t : Taken) (words : List ℕ) (d : ℕ) (words' : List ℕ) (r : Judged) : Type 0 where
-  pub same : end_from (open_of words d) (taken_of t) ≡ mapped (passing words' d) (judged_of r)
+pub record EndsTable (t : Result ℤ Refusal) (words : List ℕ) (d : ℕ) (words' : List ℕ) (r : Result Bool Refusal) : Type 0 where
+  pub same : end_from (open_of words d) t ≡ mapped (passing words' d) r
   pub stays : Stays words words'

@@ -1,16 +1,13 @@
 -- What the contracts of lines say.
-use Rattle.std.specs.Prelude.{◌≡◌, List, ℕ, ◌+◌, ◌≤◌, ◌<◌, length}
+use Rattle.std.specs.Prelude.{◌≡◌, List, ℕ, ◌+◌, ◌≤◌, ◌<◌, length, Result}
 use Rattle.scan.specs.Line.{window}
 use Rattle.cells.specs.Cell.{Cell}
 use Rattle.cells.specs.Inner.Index as I
 use Rattle.meaning.specs.Answer.{Answer}
 use Rattle.meaning.specs.Each.{Each}
-use Rattle.meaning.specs.Inner.Place.{at, Does}
-use Rattle.meaning.specs.Number.{end_of}
 use Rattle.meaning.specs.Meaning.{Meaning}
 use Rattle.meaning.specs.declared.question.Question.{Question}
 use Rattle.values.specs.declared.scene.Scene.{Scene}
-use Rattle.values.specs.Inner.Word.{questions}
 use Rattle.values.specs.Machine.{Machine}
 use Rattle.values.specs.Source.{answers}
 use Rattle.values.specs.Inner.State.{decimals_in, headings_in, tables_in, Held, machine}
@@ -22,10 +19,14 @@ use Rattle.lines.specs.Inner.Sound as parsed
 use Rattle.control.specs.Inner.Going.{scene_of}
 use Rattle.control.specs.Inner.Remembering.{Remembered}
 use Rattle.control.specs.declared.state.Flow.{Flow}
-use Rattle.control.specs.declared.state.Lined.{Lined}
 use Rattle.control.specs.Inner.Held.{state_of}
 use Rattle.control.specs.State.{State}
 use Rattle.control.specs.Inner.Sound.{Fit, Sound}
+use Rattle.meaning.specs.Number.{ended_in}
+use Rattle.meaning.specs.Inner.Place.{Does}
+use Rattle.meaning.specs.declared.end.Stop.{Stop}
+use Rattle.values.specs.declared.log.Log.{Log}
+use Rattle.values.specs.Inner.Logged.{filled_to}
 
 -- the store's bytes as a source of answers
 abbrev pub source_of : List ℕ → Question → Answer
@@ -47,15 +48,15 @@ machine_in b h s = machine (source_of b) h s
 abbrev pub SameRows : Held → Held → Type 0
 SameRows h h' = (length h'.rows ≡ length h.rows) × (length (tables_in h'.words) ≡ length (tables_in h.words))
 
--- From the flow f, with a text filled up to u and a log up to a, m led to r, with `most` questions at most, and to h' in the lent rows.
-pub record Executes (most : ℕ) (m : Meaning State) (b : List ℕ) (h : Held) (f : Flow) (T : List ℕ) (u : ℕ) (log : List ℕ) (a p : ℕ) (h' : Held) (T' log' : List ℕ) (r : Lined) : Type 0 where
-  pub does : Does (source_of b) m (at T u (questions log) a p f.page.number) (at T' r.printed (questions log') r.asked p r.flow.page.number) (end_of (state_at b h' r.flow) r.end)
-  pub few : r.asked ≤ a + most
+-- From the flow f, with a text filled up to u, m led to f' and ended in r, with `most` questions at most, and to h' in the lent rows.
+pub record Executes (most : ℕ) (m : Meaning State) (b : List ℕ) (h : Held) (f : Flow) (T : List ℕ) (u : ℕ) (log : Log) (h' : Held) (f' : Flow) (T' : List ℕ) (u' : ℕ) (log' : Log) (r : Result (Unit {0}) Stop) : Type 0 where
+  pub does : Does (source_of b) m (filled_to T u log f.page.number) (filled_to T' u' log' f'.page.number) (ended_in (λ _. state_at b h' f') r)
+  pub few : log'.asked ≤ log.asked + most
   pub rows : SameRows h h'
 
 -- What a line requires: a store in form with its index, a state that holds between lines, room in the log for all that a line
 -- may ask.
-pub record LineReady (b index : List ℕ) (t : List ℕ) (h : Held) (f : Flow) (T : List ℕ) (u a : ℕ) : Type 0 where
+pub record LineReady (b index : List ℕ) (t : List ℕ) (h : Held) (f : Flow) (T : List ℕ) (u : ℕ) (log : Log) : Type 0 where
   pub kept : Kept b index
   pub stored : length b ≤ 65536
   pub sound : Sound t 50001 (state_at b h f)
@@ -64,10 +65,10 @@ pub record LineReady (b index : List ℕ) (t : List ℕ) (h : Held) (f : Flow) (
   pub table_words : length (tables_in h.words) ≡ 20
   pub remembered : Remembered t h.words
   pub room : u ≤ length T
-  pub places : a + 332 ≤ 512
+  pub places : log.asked + 332 ≤ 512
 
 -- What a line in its form requires, behind it and its arguments.
-pub record FormReady (body b index : List ℕ) (t : List ℕ) (h : Held) (scene : Scene) (start : ℕ) (f : Flow) (form : Line) (T : List ℕ) (u a : ℕ) : Type 0 where
+pub record FormReady (body b index : List ℕ) (t : List ℕ) (h : Held) (scene : Scene) (start : ℕ) (f : Flow) (form : Line) (T : List ℕ) (u : ℕ) (log : Log) : Type 0 where
   pub kept : Kept b index
   pub stored : length b ≤ 65536
   pub scened : scene ≡ scene_of (tables_in h.words) f scene.number
@@ -90,4 +91,4 @@ pub record FormReady (body b index : List ℕ) (t : List ℕ) (h : Held) (scene 
   pub heads : Each (Fit t) (headings_of (headings_in h.words))
   pub remembered : Remembered t h.words
   pub room : u ≤ length T
-  pub places : a + 330 ≤ 512
+  pub places : log.asked + 330 ≤ 512

@@ -1,6 +1,5 @@
--- What a line hands back, and the code's state behind it with one part of it anew.
+-- The code's state behind a line, with one part of it anew.
 use Rattle.std.specs.Prelude.{Bool, List, ℕ, ◌+◌, pos, drop}
-use Rattle.meaning.specs.declared.end.Ended.{Ended}
 use Rattle.template.specs.declared.seek.Sought.{Sought}
 use Rattle.template.specs.Seek.{skipped}
 use Rattle.values.specs.declared.scene.Scene.{Scene}
@@ -8,10 +7,6 @@ use Rattle.commands.specs.Looping.{loop, innermost}
 use Rattle.commands.specs.Inner.Open.{opened}
 use Rattle.pages.specs.declared.page.Page.{Page}
 use Rattle.control.specs.declared.state.Flow.{Flow}
-use Rattle.control.specs.declared.state.Lined.{Lined}
-
-abbrev pub ended_in : Ended → Flow → ℕ → ℕ → Lined
-ended_in e f u a = record { end = e; flow = f; printed = u; asked = a }
 
 -- what a line with a number is executed in; ws are the words of the open tables
 abbrev pub scene_of : List ℕ → Flow → ℕ → Scene

@@ -1,72 +1,91 @@
--- How the code finds a command: by the number k of its word in a table.
-use Rattle.std.specs.Prelude.{cond, List, ℕ, ltb, eqb}
-use Rattle.scan.specs.declared.words.WordRead.{WordRead}
+-- How the code finds a command: by what its word begins.
+use Rattle.std.specs.Prelude.{List, [], ◌∷◌, ℕ, Option}
 use Rattle.scan.specs.Ascii.{ascii}
 use Rattle.scan.specs.Inner.Tables.{word_at}
 use Rattle.arguments.specs.declared.argument.Argument.{Argument}
-use Rattle.lines.specs.declared.command.Operation.{Operation}
 use Rattle.lines.specs.declared.command.Operation.TheVariants.{Assign, Add, Subtract, Multiply, Divide}
-use Rattle.lines.specs.declared.command.Comparison.{Comparison}
 use Rattle.lines.specs.declared.command.Comparison.TheVariants.{SameString, SameLetters, Equal, NotEqual, Less, AtMost, Greater, AtLeast}
-use Rattle.lines.specs.declared.command.Optional.{Optional}
 use Rattle.lines.specs.declared.command.Fetch.{Fetch}
 use Rattle.lines.specs.declared.command.Line.{Line}
-use Rattle.lines.specs.declared.command.Line.TheVariants.{IfNot, If, Else, EndIf, BeginTable, EndTable, Records, Entries, NoFormFeed, NewPage}
+use Rattle.lines.specs.declared.command.Line.TheVariants as L
+use Rattle.lines.specs.declared.word.Single.{Single}
+use Rattle.lines.specs.declared.word.Single.TheVariants.{IfNot, If, BeginTable}
+use Rattle.lines.specs.declared.word.Bare.{Bare}
+use Rattle.lines.specs.declared.word.Bare.TheVariants.{Else, EndIf, NoFormFeed}
+use Rattle.lines.specs.declared.word.Optional.{Optional}
+use Rattle.lines.specs.declared.word.Optional.TheVariants.{EndTable, NewPage}
+use Rattle.lines.specs.declared.word.Fetched.{Fetched}
+use Rattle.lines.specs.declared.word.Fetched.TheVariants.{Records, Entries}
+use Rattle.lines.specs.declared.word.Word.{Word}
+use Rattle.lines.specs.declared.word.Word.TheVariants as W
 use Rattle.lines.specs.Readers.Set.{set_at, datasource_at}
 use Rattle.lines.specs.Readers.Compare.{compare_at}
 use Rattle.lines.specs.Readers.Simple.{single_at, bare_at, optional_at}
 use Rattle.lines.specs.Readers.Fetch.{fetch_at}
 use Rattle.lines.specs.Readers.Title.{section_at, heading_at, remark_at}
 
--- the words of the commands, in their order: $SETDS is 0, $IFEQSS 6, $IFNOT 14, $ELSE 17, $ET 20, $REC 22, $SEC 24
-abbrev pub command_words : List ℕ
+-- the words of the commands, each with what it begins
+unfoldable pub command_words : List (List ℕ × Word)
 command_words =
-    ascii "SETDS   SETE    SETA    SETS    SETM    SETD    IFEQSS  IFEQSI  IFEQ    IFNE    IFLT    IFLE    IFGT    IFGE    IFNOT   IF      BT      ELSE    ENDIF   NOFF    ET      NP      REC     TBL     SEC     PH      REM     "
+    (ascii "SETDS", W.Datasource)
+    ∷ (ascii "SETE", W.Set Assign)
+    ∷ (ascii "SETA", W.Set Add)
+    ∷ (ascii "SETS", W.Set Subtract)
+    ∷ (ascii "SETM", W.Set Multiply)
+    ∷ (ascii "SETD", W.Set Divide)
+    ∷ (ascii "IFEQSS", W.Compare SameString)
+    ∷ (ascii "IFEQSI", W.Compare SameLetters)
+    ∷ (ascii "IFEQ", W.Compare Equal)
+    ∷ (ascii "IFNE", W.Compare NotEqual)
+    ∷ (ascii "IFLT", W.Compare Less)
+    ∷ (ascii "IFLE", W.Compare AtMost)
+    ∷ (ascii "IFGT", W.Compare Greater)
+    ∷ (ascii "IFGE", W.Compare AtLeast)
+    ∷ (ascii "IFNOT", W.Single IfNot)
+    ∷ (ascii "IF", W.Single If)
+    ∷ (ascii "BT", W.Single BeginTable)
+    ∷ (ascii "ELSE", W.Bare Else)
+    ∷ (ascii "ENDIF", W.Bare EndIf)
+    ∷ (ascii "NOFF", W.Bare NoFormFeed)
+    ∷ (ascii "ET", W.Optional EndTable)
+    ∷ (ascii "NP", W.Optional NewPage)
+    ∷ (ascii "REC", W.Fetched Records)
+    ∷ (ascii "TBL", W.Fetched Entries)
+    ∷ (ascii "SEC", W.Section)
+    ∷ (ascii "PH", W.Heading)
+    ∷ (ascii "REM", W.Remark)
+    ∷ []
 
--- the first of them that stands behind the `$`: its number, and the place behind it
-unfoldable pub command_word : List ℕ → WordRead
+-- the first of them that stands behind the `$`, and the place behind it
+unfoldable pub command_word : List ℕ → Option (Word × ℕ)
 command_word l = word_at command_words l 1
 
-unfoldable pub operation_of : ℕ → Operation
-operation_of k =
-    cond (eqb k 1) Assign (cond (eqb k 2) Add (cond (eqb k 3) Subtract (cond (eqb k 4) Multiply Divide)))
+unfoldable pub single_of : Single → Argument → Line
+single_of IfNot a = L.IfNot a
+single_of If a = L.If a
+single_of BeginTable a = L.BeginTable a
 
-unfoldable pub comparison_of : ℕ → Comparison
-comparison_of k =
-    cond (eqb k 6) SameString
-    (cond (eqb k 7) SameLetters
-    (cond (eqb k 8) Equal
-    (cond (eqb k 9) NotEqual
-    (cond (eqb k 10) Less
-    (cond (eqb k 11) AtMost
-    (cond (eqb k 12) Greater
-    AtLeast))))))
+unfoldable pub bare_of : Bare → Line
+bare_of Else = L.Else
+bare_of EndIf = L.EndIf
+bare_of NoFormFeed = L.NoFormFeed
 
-unfoldable pub single_of : ℕ → Argument → Line
-single_of k a = cond (eqb k 14) (IfNot a) (cond (eqb k 15) (If a) (BeginTable a))
+unfoldable pub optional_of : Optional → Option Argument → Line
+optional_of EndTable a = L.EndTable a
+optional_of NewPage a = L.NewPage a
 
-unfoldable pub bare_of : ℕ → Line
-bare_of k = cond (eqb k 17) Else (cond (eqb k 18) EndIf NoFormFeed)
+unfoldable pub fetch_of : Fetched → Fetch → Line
+fetch_of Records f = L.Records f
+fetch_of Entries f = L.Entries f
 
-unfoldable pub optional_of : ℕ → Optional → Line
-optional_of k a = cond (eqb k 20) (EndTable a) (NewPage a)
-
-unfoldable pub fetch_of : ℕ → Fetch → Line
-fetch_of k f = cond (eqb k 22) (Records f) (Entries f)
-
-unfoldable pub other_at : List ℕ → ℕ → ℕ → Line
-other_at l at k =
-    cond (ltb k 22) (optional_at (optional_of k) l at)
-    (cond (ltb k 24) (fetch_at (fetch_of k) l at)
-    (cond (eqb k 24) (section_at l at)
-    (cond (eqb k 25) (heading_at l at)
-    (remark_at l at))))
-
-unfoldable pub command_at : List ℕ → ℕ → ℕ → Line
-command_at l at k =
-    cond (eqb k 0) (datasource_at l at)
-    (cond (ltb k 6) (set_at (operation_of k) l at)
-    (cond (ltb k 14) (compare_at (comparison_of k) l at)
-    (cond (ltb k 17) (single_at (single_of k) l at)
-    (cond (ltb k 20) (bare_at (bare_of k) l at)
-    (other_at l at k)))))
+unfoldable pub command_at : Word → List ℕ → ℕ → Option Line
+command_at W.Datasource l at = datasource_at l at
+command_at (W.Set o) l at = set_at o l at
+command_at (W.Compare c) l at = compare_at c l at
+command_at (W.Single k) l at = single_at (single_of k) l at
+command_at (W.Bare k) l at = bare_at (bare_of k) l at
+command_at (W.Optional k) l at = optional_at (optional_of k) l at
+command_at (W.Fetched k) l at = fetch_at (fetch_of k) l at
+command_at W.Section l at = section_at l at
+command_at W.Heading l at = heading_at l at
+command_at W.Remark l at = remark_at l at

@@ -1,23 +1,17 @@
 -- What was read in a line, with the place behind it, handed on; or what stands for its lack.
-use Rattle.std.specs.Prelude.{ℕ}
-use Rattle.scan.specs.declared.digits.Numeral.{Numeral}
-use Rattle.scan.specs.declared.digits.Numeral.TheVariants.{Value, NoNumeral}
+use Rattle.std.specs.Prelude.{ℕ, Option, Some, None}
 use Rattle.arguments.specs.declared.argument.Argument.{Argument}
-use Rattle.arguments.specs.declared.argument.ArgumentRead.{ArgumentRead}
-use Rattle.arguments.specs.declared.argument.ArgumentRead.TheVariants.{ArgumentTo, NoArgument}
 use Rattle.arguments.specs.declared.index.Index.{Index}
-use Rattle.arguments.specs.declared.index.IndexRead.{IndexRead}
-use Rattle.arguments.specs.declared.index.IndexRead.TheVariants.{IndexTo, NoIndex}
 
 module _ {A : Type 0} (lack : A) where
-  abbrev pub argument_or : ArgumentRead → (Argument → ℕ → A) → A
-  argument_or (ArgumentTo a next) found = found a next
-  argument_or NoArgument found = lack
+  abbrev pub argument_or : Option (Argument × ℕ) → (Argument → ℕ → A) → A
+  argument_or (Some (a, next)) found = found a next
+  argument_or None found = lack
 
-  abbrev pub index_or : IndexRead → (Index → ℕ → A) → A
-  index_or (IndexTo i next) found = found i next
-  index_or NoIndex found = lack
+  abbrev pub index_or : Option (Index × ℕ) → (Index → ℕ → A) → A
+  index_or (Some (i, next)) found = found i next
+  index_or None found = lack
 
-  abbrev pub numeral_or : Numeral → (ℕ → ℕ → A) → A
-  numeral_or (Value n next) found = found n next
-  numeral_or NoNumeral found = lack
+  abbrev pub numeral_or : Option (ℕ × ℕ) → (ℕ → ℕ → A) → A
+  numeral_or (Some (n, next)) found = found n next
+  numeral_or None found = lack

@@ -1,16 +1,9 @@
-use borrow.Author.Tests.{eq-eqb, ne_eqb}
-use Rattle.nesting.specs.Inner.Open.{step_in}
-use Rattle.nesting.proofs.OpenLaws.{no_table, table_left, no_table_left}
+use native.Mathlib.Omega.{arith}
+use Rattle.nesting.proofs.OpenLaws.{no_table_end_step, untabled_end_step}
 use Rattle.nesting.proofs.table_ended.Goals as goal
 
-pub returns-then-state-eq0 : goal.returns-then-state-eq0
-unfolding step_in
-returns-then-state-eq0 c = record { told = rw (eq-eqb _ _ c.if-state-eq0.true); follows = λ s h. no_table s h c.if-state-eq0.true }
+pub returns-in_default : goal.returns-in_default
+returns-in_default c = untabled_end_step _ (omega arith)
 
-pub returns-then-state-eq-TABLE : goal.returns-then-state-eq-TABLE
-unfolding step_in
-returns-then-state-eq-TABLE c = record { told = rw (ne_eqb _ _ c.if-state-eq0.false, eq-eqb _ _ c.if-state-eq-TABLE.true); follows = λ s h. table_left s h c.if-state-eq-TABLE.true }
-
-pub returns : goal.returns
-unfolding step_in
-returns c = record { told = rw (ne_eqb _ _ c.if-state-eq0.false, ne_eqb _ _ c.if-state-eq-TABLE.false); follows = λ s h. no_table_left s h c.if-state-eq-TABLE.false }
+pub returns-in_default-2 : goal.returns-in_default-2
+returns-in_default-2 c = no_table_end_step _ (λ e. omega arith)

@@ -1,24 +1,20 @@
 -- What the contracts of lines on pages say.
-use Rattle.std.specs.Prelude.{◌≡◌, Bool, true, List, [], ◌∷◌, ℕ, ◌+◌, ◌≤◌, ◌<◌, length}
+use Rattle.std.specs.Prelude.{◌≡◌, Bool, true, List, [], ◌∷◌, ℕ, ◌+◌, ◌≤◌, ◌<◌, length, Result}
 use Rattle.meaning.specs.Answer.{Answer}
-use Rattle.meaning.specs.Number.{end_of}
 use Rattle.meaning.specs.Inner.Place.{at, Does}
-use Rattle.meaning.specs.declared.count.Counts.{Counts}
 use Rattle.meaning.specs.declared.question.Question.{Question}
 use Rattle.texts.specs.Readers.Text.{text_fits}
 use Rattle.values.specs.declared.scene.Scene.{Scene}
 use Rattle.pages.specs.declared.page.Page.{Page}
-use Rattle.pages.specs.declared.page.Turned.{Turned}
 use Rattle.pages.specs.declared.heading.Heading.{Heading}
-use Rattle.pages.specs.declared.step.Paged.{Paged}
 use Rattle.texts.specs.Pieces.{pieces_of, field_count}
-use Rattle.pages.specs.Inner.Pass.{Lent, machine_of, Sourced, filled_to}
 use Rattle.pages.specs.Page.{break_meaning, turn_meaning, line_step}
 use Rattle.pages.specs.Inner.Listing.{Due, says_on, shown, bytes_of}
-
--- PAGENUM and LINENUM of a scene
-abbrev pub page_of : Scene → Page
-page_of s = record { number = s.page; row = s.row }
+use Rattle.pages.specs.Inner.Pass.{Lent, machine_of, Sourced}
+use Rattle.meaning.specs.Number.{ended_in}
+use Rattle.meaning.specs.declared.end.Stop.{Stop}
+use Rattle.values.specs.declared.log.Log.{Log}
+use Rattle.values.specs.Inner.Logged.{filled_to}
 
 -- what a line is executed in on a page, where it names line k
 abbrev pub scene_on : Scene → Page → ℕ → Scene
@@ -30,17 +26,17 @@ pub record TurnReady (p : Page) (text : List ℕ) (n : ℕ) : Type 0 where
   pub number : p.number < 4294967295
   pub row : p.row ≤ 61
 
-pub record Breaks (due : ℕ) (feeds : Bool) (p : Page) (text : List ℕ) (n : ℕ) (text' : List ℕ) (r : Turned) : Type 0 where
-  pub does : (source : Question → Answer) (log : List Question) (a places : ℕ) → Does source (break_meaning due feeds p) (at text n log a places p.number) (at text' r.printed log a places r.page.number) (end_of r.page r.end)
-  pub row : r.page.row ≤ 61
+pub record Breaks (due : ℕ) (feeds : Bool) (p : Page) (text : List ℕ) (n : ℕ) (p' : Page) (text' : List ℕ) (n' : ℕ) (r : Result (Unit {0}) Stop) : Type 0 where
+  pub does : (source : Question → Answer) (log : List Question) (a places : ℕ) → Does source (break_meaning due feeds p) (at text n log a places p.number) (at text' n' log a places p'.number) (ended_in (λ _. p') r)
+  pub row : p'.row ≤ 61
   pub kept : length text' ≡ length text
-  pub room : r.printed ≤ length text
+  pub room : n' ≤ length text
 
-pub record Turns (due : ℕ) (feeds : Bool) (p : Page) (text : List ℕ) (n : ℕ) (text' : List ℕ) (r : Turned) : Type 0 where
-  pub does : (source : Question → Answer) (log : List Question) (a places : ℕ) → Does source (turn_meaning due feeds p) (at text n log a places p.number) (at text' r.printed log a places r.page.number) (end_of r.page r.end)
-  pub row : r.page.row ≤ 61
+pub record Turns (due : ℕ) (feeds : Bool) (p : Page) (text : List ℕ) (n : ℕ) (p' : Page) (text' : List ℕ) (n' : ℕ) (r : Result (Unit {0}) Stop) : Type 0 where
+  pub does : (source : Question → Answer) (log : List Question) (a places : ℕ) → Does source (turn_meaning due feeds p) (at text n log a places p.number) (at text' n' log a places p'.number) (ended_in (λ _. p') r)
+  pub row : p'.row ≤ 61
   pub kept : length text' ≡ length text
-  pub room : r.printed ≤ length text
+  pub room : n' ≤ length text
 
 -- all lines of a list fit, and how many fields they have
 abbrev pub AllFit : List Due → Type 0
@@ -51,39 +47,39 @@ abbrev pub fields_in : List Due → ℕ
 fields_in [] = 0
 fields_in (d ∷ ds) = field_count (pieces_of d.bytes d.from) + fields_in ds
 
--- what the lines ds, each a part of the template t, require on the page of the scene
-pub record LinesReady (x : Lent) (s : Scene) (t : List ℕ) (ds : List Due) (text : List ℕ) (c : Counts) : Type 0 where
+-- what the lines ds, each a part of the template t, require on a page
+pub record LinesReady (x : Lent) (s : Scene) (p : Page) (t : List ℕ) (ds : List Due) (text : List ℕ) (m : ℕ) (log : Log) : Type 0 where
   pub fit : AllFit ds
-  pub logged : c.asked + fields_in ds ≤ 512
+  pub logged : log.asked + fields_in ds ≤ 512
   pub short_template : length t ≤ 65536
   pub short_store : length x.store ≤ 65536
   pub datasource : s.datasource ≤ 35
-  pub room : c.printed ≤ length text
-  pub row : s.row + length ds ≤ 62
+  pub room : m ≤ length text
+  pub row : p.row + length ds ≤ 62
 
 -- the lines ds were said one after the other
-pub record SaysLines (x : Lent) (s : Scene) (ds : List Due) (text log : List ℕ) (c : Counts) (text' log' : List ℕ) (r : Paged) : Type 0 where
-  pub does : Sourced x (λ source. Does source (says_on (machine_of x s source) ds (page_of s)) (filled_to text log c s.page) (filled_to text' log' r.counts r.page.number) (end_of r.page r.end))
-  pub few : r.counts.asked ≤ c.asked + fields_in ds
+pub record SaysLines (x : Lent) (s : Scene) (p : Page) (ds : List Due) (text : List ℕ) (m : ℕ) (log : Log) (p' : Page) (text' : List ℕ) (m' : ℕ) (log' : Log) (r : Result (Unit {0}) Stop) : Type 0 where
+  pub does : Sourced x (λ source. Does source (says_on (machine_of x s source) ds p) (filled_to text m log p.number) (filled_to text' m' log' p'.number) (ended_in (λ _. p') r))
+  pub few : log'.asked ≤ log.asked + fields_in ds
   pub kept : length text' ≡ length text
-  pub room : r.counts.printed ≤ length text
+  pub room : m' ≤ length text
 
 -- What the step requires: the line and its headings have a form and fit, there are places in the log for all their fields, and
 -- limits that the checks of the template and of the store give, and that a run of 50,000 lines keeps.
-pub record StepReady (x : Lent) (s : Scene) (t : List ℕ) (hs : List Heading) (line : Heading) (text : List ℕ) (c : Counts) : Type 0 where
+pub record StepReady (x : Lent) (s : Scene) (p : Page) (t : List ℕ) (hs : List Heading) (line : Heading) (text : List ℕ) (m : ℕ) (log : Log) : Type 0 where
   pub heads : AllFit (shown t line.number hs)
   pub fits : text_fits (bytes_of t line) line.from ≡ true
-  pub logged : c.asked + fields_in (shown t line.number hs) + field_count (pieces_of (bytes_of t line) line.from) ≤ 512
+  pub logged : log.asked + fields_in (shown t line.number hs) + field_count (pieces_of (bytes_of t line) line.from) ≤ 512
   pub first : line.from ≡ 0
   pub short_template : length t ≤ 65536
   pub short_store : length x.store ≤ 65536
   pub datasource : s.datasource ≤ 35
-  pub room : c.printed ≤ length text
-  pub row : s.row ≤ 61
-  pub number : s.page < 4294967295
+  pub room : m ≤ length text
+  pub row : p.row ≤ 61
+  pub number : p.number < 4294967295
 
-pub record Steps (x : Lent) (s : Scene) (t : List ℕ) (hs : List Heading) (feeds : Bool) (line : Heading) (text log : List ℕ) (c : Counts) (text' log' : List ℕ) (r : Paged) : Type 0 where
-  pub does : Sourced x (λ source. Does source (line_step (machine_of x s source) t line.number feeds hs (bytes_of t line) (page_of s)) (filled_to text log c s.page) (filled_to text' log' r.counts r.page.number) (end_of r.page r.end))
-  pub few : r.counts.asked ≤ c.asked + fields_in (shown t line.number hs) + field_count (pieces_of (bytes_of t line) line.from)
+pub record Steps (x : Lent) (s : Scene) (p : Page) (t : List ℕ) (hs : List Heading) (feeds : Bool) (line : Heading) (text : List ℕ) (m : ℕ) (log : Log) (p' : Page) (text' : List ℕ) (m' : ℕ) (log' : Log) (r : Result (Unit {0}) Stop) : Type 0 where
+  pub does : Sourced x (λ source. Does source (line_step (machine_of x s source) t line.number feeds hs (bytes_of t line) p) (filled_to text m log p.number) (filled_to text' m' log' p'.number) (ended_in (λ _. p') r))
+  pub few : log'.asked ≤ log.asked + fields_in (shown t line.number hs) + field_count (pieces_of (bytes_of t line) line.from)
   pub kept : length text' ≡ length text
-  pub room : r.counts.printed ≤ length text
+  pub room : m' ≤ length text

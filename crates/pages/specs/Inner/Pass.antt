@@ -1,43 +1,38 @@
 -- A text line as the code makes it, in one pass, and what its contracts say.
-use Rattle.std.specs.Prelude.{◌≡◌, Bool, true, false, ◌||◌, List, [], ◌∷◌, ◌++◌, ℕ, ◌+◌, ◌≤◌, ℤ, length, take}
+use Rattle.std.specs.Prelude.{◌≡◌, Bool, true, false, ◌||◌, List, [], ◌∷◌, ◌++◌, ℕ, ◌+◌, ◌≤◌, ℤ, length, take, Option, Some, None, Result, Ok, Err}
 use Rattle.meaning.specs.Answer.{Answer}
 use Rattle.meaning.specs.Tree.{done, bind}
 use Rattle.meaning.specs.Meaning.{Meaning}
-use Rattle.meaning.specs.Number.{end_of}
-use Rattle.meaning.specs.Inner.Place.{Place, at, Does}
-use Rattle.meaning.specs.declared.count.Counts.{Counts}
 use Rattle.meaning.specs.declared.question.Question.{Question}
 use Rattle.cells.specs.Cell.{Cell}
 use Rattle.cells.specs.Inner.Index.{Ready}
 use Rattle.arguments.specs.declared.argument.Argument.{Argument}
 use Rattle.arguments.specs.Inner.Parameter.{parameter_of}
 use Rattle.texts.specs.declared.text.Field.{Field}
-use Rattle.texts.specs.declared.text.FieldRead.TheVariants.{FieldTo, NoField}
-use Rattle.texts.specs.declared.text.Places.{Places}
 use Rattle.texts.specs.Inner.CellField.{field_with}
 use Rattle.texts.specs.declared.text.Piece.{Piece}
 use Rattle.texts.specs.declared.text.Piece.TheVariants.{Byte, Placed}
 use Rattle.texts.specs.Readers.Text.{field_at, text_fits}
 use Rattle.values.specs.declared.scene.Scene.{Scene}
-use Rattle.values.specs.Inner.Word.{questions}
 use Rattle.values.specs.Machine.{Machine}
 use Rattle.values.specs.Source.{answers}
 use Rattle.values.specs.Inner.State.{Held, held, machine}
 use Rattle.values.specs.Inner.Texts.{Sized}
 use Rattle.values.specs.Inner.Hearing.{Askable}
 use Rattle.values.specs.Inner.Yielding.{ArgumentValue}
-use Rattle.values.specs.declared.worth.Valued.{Valued}
 use Rattle.values.specs.declared.worth.Worth as C
 use Rattle.values.specs.declared.worth.Worth.TheVariants as W
 use Rattle.values.specs.Meanings.{argument_meaning}
-use Rattle.pages.specs.declared.text.FieldValue.{FieldValue}
-use Rattle.pages.specs.declared.text.FieldValue.TheVariants.{ValueOf}
-use Rattle.pages.specs.declared.text.FieldValue.TheVariants as R
 use Rattle.pages.specs.declared.text.Made.{Made}
-use Rattle.pages.specs.declared.text.Told.{Told}
 use Rattle.pages.specs.Shown.{field_bytes}
 use Rattle.texts.specs.Pieces.{pieces_of, field_count}
 use Rattle.pages.specs.Text.{is_wrong, text_meaning}
+use Rattle.meaning.specs.Number.{ended_in}
+use Rattle.meaning.specs.Inner.Place.{Does}
+use Rattle.meaning.specs.declared.end.Stop.{Stop}
+use Rattle.values.specs.declared.log.Log.{Log}
+use Rattle.values.specs.Inner.Logged.{filled_to}
+use Rattle.pages.specs.declared.text.FieldValue.{FieldValue}
 
 -- the bytes made so far, and whether a kind was wrong
 pub record Worked : Type 0 where
@@ -79,18 +74,26 @@ Sourced x P = (n : ℕ) (cs : List Cell) → Ready x.store n x.index (length x.i
 
 -- What a field requires: a place in the log for what it asks, and limits that the checks of the template and of the store give.
 pub record FieldReady (d : ℕ) (l : List ℕ) (at : ℕ) (store : List ℕ) (a : ℕ) : Type 0 where
-  pub asks : (f : Field) (next : ℕ) → field_at l at ≡ FieldTo f next → Askable d 1 (parameter_of f.argument.operand) a
+  pub asks : (f : Field) (next : ℕ) → field_at l at ≡ Some (f, next) → Askable d 1 (parameter_of f.argument.operand) a
   pub sized : Sized l store
 
 -- the field at a place of the line, and what its argument came to
-pub record FieldIs (x : Lent) (s : Scene) (l : List ℕ) (at : ℕ) (log : List ℕ) (a p : ℕ) (log' : List ℕ) (v : Valued) (w : ℕ) (shown : Places) (next : ℕ) : Type 0 where
+pub record FieldIs (x : Lent) (s : Scene) (l : List ℕ) (at : ℕ) (log log' : Log) (v : Result C.Worth Stop) (w : ℕ) (shown : Option ℕ) (next : ℕ) : Type 0 where
   pub argument : Argument
-  pub field : field_at l at ≡ FieldTo (field_with argument w shown) next
-  pub value : ArgumentValue l x.store x.index x.vars s argument log a p log' v
+  pub field : field_at l at ≡ Some (field_with argument w shown, next)
+  pub value : ArgumentValue l x.store x.index x.vars s argument log log' v
 
-pub record FieldValued (x : Lent) (s : Scene) (l : List ℕ) (at : ℕ) (log : List ℕ) (a p : ℕ) (log' : List ℕ) (r : FieldValue) : Type 0 where
-  pub some : (v : Valued) (w : ℕ) (shown : Places) (next : ℕ) → r ≡ ValueOf v w shown next → FieldIs x s l at log a p log' v w shown next
-  pub none : r ≡ R.NoField → field_at l at ≡ NoField
+-- a field is there, and its argument stopped the run
+pub record FieldStops (x : Lent) (s : Scene) (l : List ℕ) (at : ℕ) (log log' : Log) (e : Stop) : Type 0 where
+  pub width : ℕ
+  pub shown : Option ℕ
+  pub next : ℕ
+  pub is : FieldIs x s l at log log' (Err e) width shown next
+
+pub record FieldValued (x : Lent) (s : Scene) (l : List ℕ) (at : ℕ) (log log' : Log) (r : Result (Option FieldValue) Stop) : Type 0 where
+  pub some : (v : FieldValue) → r ≡ Ok (Some v) → FieldIs x s l at log log' (Ok v.worth) v.width v.places v.next
+  pub none : r ≡ Ok None → field_at l at ≡ None
+  pub stops : (e : Stop) → r ≡ Err e → FieldStops x s l at log log' e
 
 -- What a line requires: its text has a form and fits, there are places in the log for all its fields, and limits that the
 -- checks of the template and of the store give.
@@ -101,20 +104,20 @@ pub record Sayable (x : Lent) (d : ℕ) (l : List ℕ) (from a : ℕ) : Type 0 w
   pub datasource : d ≤ 35
   pub logged : a + field_count (pieces_of l from) ≤ 512
 
--- the buffers filled so far, on page g
-abbrev pub filled_to : List ℕ → List ℕ → Counts → ℕ → Place Question
-filled_to text log c g = at text c.printed (questions log) c.asked c.places g
+-- what a pass made of a buffer
+abbrev pub made_in : List ℕ → Made → Worked
+made_in b m = worked (take m.filled b) m.wrong
 
--- r and the buffer are what one pass over the text made
-pub record Makes (x : Lent) (s : Scene) (l : List ℕ) (from : ℕ) (log : List ℕ) (c : Counts) (log' b' : List ℕ) (r : Made) : Type 0 where
-  pub does : Sourced x (λ source. (text : List ℕ) (m g : ℕ) → Does source (pass (machine_of x s source) l s.number (pieces_of l from) [] false) (at text m (questions log) c.asked c.places g) (at text m (questions log') r.asked c.places g) (end_of (worked (take r.filled b') r.wrong) r.end))
-  pub few : r.asked ≤ c.asked + field_count (pieces_of l from)
-  pub filled : r.filled ≤ 132
+-- the log and the buffer are what one pass over the text made; where it ends, r says how much of the buffer
+pub record Makes (x : Lent) (s : Scene) (l : List ℕ) (from : ℕ) (log log' : Log) (b' : List ℕ) (r : Result Made Stop) : Type 0 where
+  pub does : Sourced x (λ source. (text : List ℕ) (m g : ℕ) → Does source (pass (machine_of x s source) l s.number (pieces_of l from) [] false) (filled_to text m log g) (filled_to text m log' g) (ended_in (made_in b') r))
+  pub few : log'.asked ≤ log.asked + field_count (pieces_of l from)
+  pub filled : (m : Made) → r ≡ Ok m → m.filled ≤ 132
   pub whole : length b' ≡ 133
 
 -- the line of the scene s was printed, or refused
-pub record Tells (x : Lent) (s : Scene) (l : List ℕ) (from : ℕ) (text log : List ℕ) (c : Counts) (text' log' : List ℕ) (r : Told) : Type 0 where
-  pub does : Sourced x (λ source. (g : ℕ) → Does source (text_meaning (machine_of x s source) l from s.number) (filled_to text log c g) (filled_to text' log' r.counts g) (end_of tt r.end))
-  pub few : r.counts.asked ≤ c.asked + field_count (pieces_of l from)
+pub record Tells (x : Lent) (s : Scene) (l : List ℕ) (from : ℕ) (text : List ℕ) (m : ℕ) (log : Log) (text' : List ℕ) (m' : ℕ) (log' : Log) (r : Result (Unit {0}) Stop) : Type 0 where
+  pub does : Sourced x (λ source. (g : ℕ) → Does source (text_meaning (machine_of x s source) l from s.number) (filled_to text m log g) (filled_to text' m' log' g) (ended_in (λ x. x) r))
+  pub few : log'.asked ≤ log.asked + field_count (pieces_of l from)
   pub kept : length text' ≡ length text
-  pub room : r.counts.printed ≤ length text
+  pub room : m' ≤ length text

@@ -1,7 +1,6 @@
 -- What `begin` hands back: the checks have refused the call, or the run may start.
-use Rattle.std.specs.Prelude.{◌≡◌, true, false, List, [], ℕ, ◌≤◌, length, take}
+use Rattle.std.specs.Prelude.{◌≡◌, true, false, List, [], ℕ, ◌≤◌, length, take, Ok}
 use Rattle.template.specs.declared.Extent.{Extent}
-use Rattle.template.specs.declared.Checked.TheVariants.{Accepted}
 use Rattle.template.specs.Order.{template_checked}
 use Rattle.meaning.specs.Answer.{Answer}
 use Rattle.meaning.specs.declared.question.Question.{Question}
@@ -28,7 +27,7 @@ pub record Untouched (o : Outcome) (r : Report) : Type 0 where
 pub record Begun (t name b : List ℕ) (n places : ℕ) (index : List ℕ) (r : Stretch) : Type 0 where
   pub refused : r.more ≡ false → (room : ℕ) → Untouched (report_of t name b n places room) r.report
   pub run : r.more ≡ true → Extent
-  pub accepted : (m : r.more ≡ true) → template_checked t name ≡ Accepted (run m)
+  pub accepted : (m : r.more ≡ true) → template_checked t name ≡ Ok (run m)
   pub start : (m : r.more ≡ true) (rows : List (List ℕ)) (source : Question → Answer) → state_of source (held_in r.saved rows) r.saved.flow ≡ start_of (run m)
   pub remembered : r.more ≡ true → Remembered t r.saved.words
   pub end : (m : r.more ≡ true) → r.saved.end ≡ (run m).until

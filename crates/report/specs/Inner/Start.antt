@@ -1,17 +1,17 @@
 -- What a run starts from, a call that is refused, and what a stretch hands back.
-use Rattle.std.specs.Prelude.{true, false, List, ℕ, ◌+◌, pos, replicate}
+use Rattle.std.specs.Prelude.{true, false, List, ℕ, ◌+◌, pos, replicate, Result}
 use Rattle.template.specs.declared.Extent.{Extent}
-use Rattle.meaning.specs.Number.{refusal_number, number_of, line_named, end_of}
+use Rattle.meaning.specs.Number.{refusal_number, number_of, line_named, ended_in}
 use Rattle.meaning.specs.declared.refusal.Refusal.{Refusal}
-use Rattle.meaning.specs.declared.end.Ended.{Ended}
 use Rattle.pages.specs.Page.{new_page}
 use Rattle.control.specs.declared.state.Flow.{Flow}
-use Rattle.report.specs.declared.state.Log.{Log}
+use Rattle.report.specs.declared.state.Batch.{Batch}
 use Rattle.report.specs.declared.state.Saved.{Saved}
 use Rattle.report.specs.declared.state.Stretch.{Stretch}
 use Rattle.report.specs.declared.Report.{Report}
+use Rattle.meaning.specs.declared.end.Stop.{Stop}
 
-unfoldable pub no_log : Log
+unfoldable pub no_log : Batch
 no_log = record { at = 0; n = 0; words = replicate 512 0 }
 
 -- the first line of the run, no table open
@@ -56,15 +56,15 @@ unfoldable pub started_at : Extent → ℕ → ℕ → ℕ → Stretch
 started_at r len count places = record { more = true; log = no_log; report = empty_report 0 0; saved = start_saved r len count places }
 
 -- "pages (PAGENUM at the end)"; the questions stand on the read list from a place on
-unfoldable pub over_at : Ended → ℕ → ℕ → ℕ → List ℕ → ℕ → Stretch
+unfoldable pub over_at : Result (Unit {0}) Stop → ℕ → ℕ → ℕ → List ℕ → ℕ → Stretch
 over_at e page printed at words n =
     record {
       more = false;
       log = record { at = at; n = n; words = words };
       report =
           record {
-            number = number_of (end_of (tt {0}) e);
-            line = line_named (end_of (tt {0}) e);
+            number = number_of (ended_in (λ x. x) e);
+            line = line_named (ended_in (λ x. x) e);
             pages = page;
             bytes = printed;
             questions = at + n;

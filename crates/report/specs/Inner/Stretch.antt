@@ -1,14 +1,13 @@
 -- What `run` asks for and hands back: a run goes stretch by stretch, as many lines as the log has places for.
-use Rattle.std.specs.Prelude.{◌≡◌, true, false, cond, List, ℕ, zero, suc, ◌+◌, ◌-◌, ◌≤◌, ◌<◌, ltb, length, take, replicate}
+use Rattle.std.specs.Prelude.{◌≡◌, true, false, cond, List, ℕ, zero, suc, ◌+◌, ◌-◌, ◌≤◌, ◌<◌, ltb, length, take, replicate, Result}
 use Rattle.meaning.specs.Tree.{done, bind, finished}
 use Rattle.meaning.specs.Inner.Place.{Place, at, Does}
-use Rattle.meaning.specs.Number.{number_of, line_named, end_of}
+use Rattle.meaning.specs.Number.{number_of, line_named, ended_in}
 use Rattle.meaning.specs.Meaning.{Meaning}
 use Rattle.meaning.specs.declared.question.Question.{Question}
-use Rattle.meaning.specs.declared.end.Ended.{Ended}
 use Rattle.values.specs.Inner.Word.{questions}
 use Rattle.report.specs.declared.state.Saved.{Saved}
-use Rattle.report.specs.declared.state.Log.{Log}
+use Rattle.report.specs.declared.state.Batch.{Batch}
 use Rattle.report.specs.declared.state.Stretch.{Stretch}
 use Rattle.report.specs.declared.Report.{Report}
 use Rattle.control.specs.Inner.Held.{state_of}
@@ -19,6 +18,7 @@ use Rattle.control.specs.Inner.Executing.{source_of, Kept}
 use Rattle.control.specs.Inner.Remembering.{Remembered}
 use Rattle.report.specs.Report.{run_from}
 use Rattle.report.specs.Inner.Begun.{held_in}
+use Rattle.meaning.specs.declared.end.Stop.{Stop}
 
 -- at most k lines
 unfoldable pub stretch : ℕ → List ℕ → ℕ → State → Meaning State
@@ -55,12 +55,12 @@ abbrev pub fresh : List ℕ → Saved → Place Question
 fresh T v = at T v.printed (questions (replicate 512 0)) 0 (v.places - v.asked) v.flow.page.number
 
 -- what stood before, that the run left where it is over: how it ended, and in which state
-pub record Over (t b T : List ℕ) (rows : List (List ℕ)) (v : Saved) (T' : List ℕ) (log : Log) (r : Report) : Type 0 where
-  pub ended : Ended
+pub record Over (t b T : List ℕ) (rows : List (List ℕ)) (v : Saved) (T' : List ℕ) (log : Batch) (r : Report) : Type 0 where
+  pub ended : Result (Unit {0}) Stop
   pub last : State
-  pub does : Does (source_of (store_of v b)) (run_from v.left t v.end (state_in v rows b)) (fresh T v) (at T' r.bytes (questions log.words) log.n (v.places - v.asked) r.pages) (end_of last ended)
-  pub number : r.number ≡ number_of (end_of (tt {0}) ended)
-  pub line : r.line ≡ line_named (end_of (tt {0}) ended)
+  pub does : Does (source_of (store_of v b)) (run_from v.left t v.end (state_in v rows b)) (fresh T v) (at T' r.bytes (questions log.words) log.n (v.places - v.asked) r.pages) (ended_in (λ _. last) ended)
+  pub number : r.number ≡ number_of (ended_in (λ x. x) ended)
+  pub line : r.line ≡ line_named (ended_in (λ x. x) ended)
   pub questions : r.questions ≡ v.asked + log.n
 
 -- a stretch from s on led to r

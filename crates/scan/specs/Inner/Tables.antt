@@ -1,30 +1,17 @@
--- The tables of words in which the code searches.
-use Rattle.std.specs.Prelude.{cond, List, ℕ, zero, suc, ◌+◌, ◌*◌, ◌/◌, length}
-use Rattle.scan.specs.declared.run.Class.TheVariants.{InName}
-use Rattle.scan.specs.declared.words.WordRead.{WordRead}
-use Rattle.scan.specs.declared.words.WordRead.TheVariants.{Word, NoWord}
-use Rattle.scan.specs.Run.{span}
-use Rattle.scan.specs.Line.{window}
+-- The words among which the code searches, each with what it is for.
+use Rattle.std.specs.Prelude.{cond, List, [], ◌∷◌, ℕ, ◌+◌, length, Option, Some, None}
 use Rattle.scan.specs.Words.{stands_at}
 
--- the k-th word of a table, which has one in each row of eight bytes, filled with spaces
-unfoldable pub word_in : List ℕ → ℕ → List ℕ
-word_in table k = span InName (window table (k * 8) 8)
+-- a word with what it is for and the place behind it, or what another search gave
+abbrev pub word_else : {A : Type 0} → List ℕ → List ℕ → ℕ → A → Option (A × ℕ) → Option (A × ℕ)
+word_else w l at kind other = cond (stands_at w l at) (Some (kind, at + length w)) other
 
--- the first of n words of a table, from the k-th on, that a line has at a place: its number and the place behind it
-unfoldable pub word_from : List ℕ → List ℕ → ℕ → ℕ → ℕ → WordRead
-word_from table l at zero k = NoWord
-word_from table l at (suc n) k =
-    cond (stands_at (word_in table k) l at) (Word k (at + length (word_in table k))) (word_from table l at n (k + 1))
+-- the first of some words that a line has at a place
+unfoldable pub word_at : {A : Type 0} → List (List ℕ × A) → List ℕ → ℕ → Option (A × ℕ)
+word_at [] l at = None
+word_at (e ∷ es) l at = word_else e.0 l at e.1 (word_at es l at)
 
--- one word with its number, or what another search gave
-abbrev pub word_else : List ℕ → List ℕ → ℕ → ℕ → WordRead → WordRead
-word_else w l at k other = cond (stands_at w l at) (Word k (at + length w)) other
-
-unfoldable pub word_at : List ℕ → List ℕ → ℕ → WordRead
-word_at table l at = word_from table l at (length table / 8) 0
-
--- what a word that was found begins, by its number and the place behind it
-abbrev pub word_or : {A : Type 0} → A → WordRead → (ℕ → ℕ → A) → A
-word_or none (Word k next) found = found k next
-word_or none NoWord found = none
+-- what a word that was found begins, by what it is for and the place behind it
+abbrev pub word_or : {A B : Type 0} → B → Option (A × ℕ) → (A → ℕ → B) → B
+word_or none (Some (k, next)) found = found k next
+word_or none None found = none

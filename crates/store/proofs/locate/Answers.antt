@@ -7,7 +7,7 @@ returns-then-count-i c = slot_past _ _ _ _ _ _ c.position-i.ensures c.if-count-i
 
 pub returns-then-has_key : goal.returns-then-has_key
 returns-then-has_key c =
-    slot_found _ _ _ _ _ _ c.position-i.ensures c.if-count-i.false _ _ c.place_of-at.ensures c.has_key.ensures c.if-has_key.true _ c.size_at.ensures
+    slot_found _ _ _ _ _ _ c.position-i.ensures c.if-count-i.false _ _ c.place_of-at.ensures c.has_key.ensures c.if-has_key.true _ c.size_at-size.ensures
 
 pub returns : goal.returns
 returns c =

@@ -1,6 +1,6 @@
 -- Where an edit takes place in the bytes of a store.
-use Rattle.std.specs.Prelude.{◌≡◌, List, ◌++◌, ℕ, ◌+◌, ◌-◌, ◌≤◌, length, take, drop, replicate}
-use Rattle.std.proofs.Math.Option.{none, some}
+use Rattle.std.specs.Prelude.{◌≡◌, List, ◌++◌, ℕ, ◌+◌, ◌-◌, ◌≤◌, length, take, drop, replicate, Some, None}
+use Rattle.std.specs.Option.{unwrap_or}
 use Rattle.std.proofs.lemmas.List.Edits.{sets}
 use Rattle.cells.specs.Cell.{Cell}
 use Rattle.cells.specs.Store.{encode}
@@ -19,8 +19,9 @@ pub record Stretch (b : List ℕ) (n : ℕ) (cs : List Cell) (k at size : ℕ) :
   pub left : take at b ≡ encode (lower k cs)
   pub right : take (n - (at + size)) (drop (at + size) b) ≡ encode (higher k cs)
   pub inside : at + size ≤ n
-  pub missing : size ≡ 0 → lookup k cs ≡ none
-  pub found : 1 ≤ size → (c : Cell) × (lookup k cs ≡ some c)
+  pub missing : size ≡ 0 → lookup k cs ≡ None
+  pub found : 1 ≤ size → (c : Cell) × (lookup k cs ≡ Some c)
 
 pub record SlotOf (b : List ℕ) (n : ℕ) (starts : List ℕ) (count k : ℕ) (r : Slot) : Type 0 where
-  pub stretch : (cs : List Cell) → Ready b n starts count cs → Stretch b n cs k r.at r.size
+  pub stretch : (cs : List Cell) → Ready b n starts count cs → Stretch b n cs k r.at (unwrap_or r.size 0)
+  pub sized : (cs : List Cell) → Ready b n starts count cs → (size : ℕ) → r.size ≡ Some size → 1 ≤ size

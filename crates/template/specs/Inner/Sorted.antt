@@ -33,11 +33,6 @@ pub record Position (t places : List ℕ) (count : ℕ) (name : List ℕ) (r : �
 unfoldable pub stands_in : List ℕ → List ℕ → ℕ → ℕ → List ℕ → Bool
 stands_in t places count i name = cond (ltb i count) (same_bytes name (name_in t places i)) false
 
--- a row whose first places have moved up by one
-pub record MovedUp (before : List ℕ) (count : ℕ) (places : List ℕ) : Type 0 where
-  pub size : length places ≡ length before
-  pub moved : (i : ℕ) → i < count → get_or places (i + 1) 0 ≡ get_or before i 0
-
 -- a row with a place more, at a position
 pub record Inserted (before : List ℕ) (count r at : ℕ) (places : List ℕ) : Type 0 where
   pub size : length places ≡ length before

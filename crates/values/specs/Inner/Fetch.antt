@@ -1,10 +1,11 @@
 -- What the calls of $REC and $TBL, and of their elements, require and say.
-use Rattle.std.specs.Prelude.{◌≡◌, Bool, cond, ◌&&◌, List, ℕ, ◌+◌, ◌≤◌, leb, ℤ, pos, negsuc, length}
+use Rattle.std.specs.Prelude.{◌≡◌, Bool, cond, ◌&&◌, List, ℕ, ◌+◌, ◌≤◌, leb, ℤ, pos, negsuc, length, Result}
 use Rattle.meaning.specs.Answer.{Answer}
 use Rattle.meaning.specs.Tree.{stop}
 use Rattle.meaning.specs.Meaning.{Meaning, asks_each}
-use Rattle.meaning.specs.Number.{end_of}
-use Rattle.meaning.specs.Inner.Place.{at, Does}
+use Rattle.meaning.specs.Number.{ended_in}
+use Rattle.meaning.specs.Inner.Place.{Does}
+use Rattle.meaning.specs.declared.end.Stop.{Stop}
 use Rattle.meaning.specs.declared.question.Question.{Question}
 use Rattle.meaning.specs.declared.refusal.Refusal.TheVariants.{BadIndex}
 use Rattle.cells.specs.declared.Answered.{Answered}
@@ -13,9 +14,9 @@ use Rattle.cells.specs.Cell.{Cell}
 use Rattle.cells.specs.Inner.Index.{Ready}
 use Rattle.lines.specs.declared.command.Fetch.{Fetch}
 use Rattle.values.specs.declared.fetch.Along.{Along}
-use Rattle.values.specs.declared.fetch.Fetched.{Fetched}
+use Rattle.values.specs.declared.log.Log.{Log}
 use Rattle.values.specs.declared.scene.Scene.{Scene}
-use Rattle.values.specs.Inner.Word.{questions}
+use Rattle.values.specs.Inner.Logged.{filled_to}
 use Rattle.values.specs.Inner.State.{fetched, held, machine}
 use Rattle.values.specs.Source.{answers}
 use Rattle.values.specs.Fetching.{element_question, element_questions, first_along, fetch_meaning, element}
@@ -29,17 +30,17 @@ unfoldable pub fetch_at : ℕ → Along → Question → ℕ → Meaning (List A
 fetch_at line along q n =
     cond (fetch_allowed along q.«record» q.entry n) (asks_each line (element_questions (element_question q.datasource along q.parameter q.«record» q.entry) 0 n)) (stop BadIndex line)
 
--- What a call that fetches says, of any source of answers, since it looks none up: from a log filled up to a, with p places in
--- all, t led to log', and the number that r keeps stands for the answers.
-pub record Fetches (t : (Question → Answer) → Meaning (List Answer)) (along : Along) (log : List ℕ) (a p : ℕ) (log' : List ℕ) (r : Fetched) : Type 0 where
-  pub does : (source : Question → Answer) (text : List ℕ) (m g : ℕ) → Does source (t source) (at text m (questions log) a p g) (at text m (questions log') r.asked p g) (end_of (fetched source along r.fetched) r.end)
-  pub few : r.asked ≤ a + 64
+-- What a call that fetches says, of any source of answers, since it looks none up: from a log t led to log', and the number that
+-- it keeps stands for the answers.
+pub record Fetches (t : (Question → Answer) → Meaning (List Answer)) (along : Along) (log log' : Log) (r : Result ℕ Stop) : Type 0 where
+  pub does : (source : Question → Answer) (text : List ℕ) (m g : ℕ) → Does source (t source) (filled_to text m log g) (filled_to text m log' g) (ended_in (fetched source along) r)
+  pub few : log'.asked ≤ log.asked + 64
 
-pub record FetchAt (line : ℕ) (along : Along) (q : Question) (n : ℕ) (log : List ℕ) (a p : ℕ) (log' : List ℕ) (v : Fetched) : Type 0 where
-  pub fetches : Fetches (λ source. fetch_at line along q n) along log a p log' v
+pub record FetchAt (line : ℕ) (along : Along) (q : Question) (n : ℕ) (log log' : Log) (v : Result ℕ Stop) : Type 0 where
+  pub fetches : Fetches (λ source. fetch_at line along q n) along log log' v
 
-pub record FetchValue (numbers : List ℤ) (scene : Scene) (along : Along) (f : Fetch) (log : List ℕ) (a p : ℕ) (log' : List ℕ) (v : Fetched) : Type 0 where
-  pub fetches : (rows : List (List ℕ)) (words : List ℕ) → Fetches (λ source. fetch_meaning (machine source (held numbers rows words) scene) scene.number along f.parameter f.«record» f.entry f.count) along log a p log' v
+pub record FetchValue (numbers : List ℤ) (scene : Scene) (along : Along) (f : Fetch) (log log' : Log) (v : Result ℕ Stop) : Type 0 where
+  pub fetches : (rows : List (List ℕ)) (words : List ℕ) → Fetches (λ source. fetch_meaning (machine source (held numbers rows words) scene) scene.number along f.parameter f.«record» f.entry f.count) along log log' v
 
 -- What such a call requires: a datasource and a parameter within their limits, and 64 places in the log.
 pub record Fetchable (d c a : ℕ) : Type 0 where

@@ -1,25 +1,13 @@
 -- The key at the hint, and the one on its other side.
 use Rattle.std.proofs.Common.{arith}
-use Rattle.cells.proofs.Halving.{no_room, near_start, near_end, near_between}
+use Rattle.cells.proofs.Halving.{near_start, near_end, near_between}
 use Rattle.cells.proofs.find.near.Goals as goal
-
-pub returns-then-starts-count : goal.returns-then-starts-count
-returns-then-starts-count c = no_room _ _ _ _ c.if-starts-count.true
-
-pub overflow_add-i : goal.overflow_add-i
-overflow_add-i c = omega (arith, c.lower_at-lower.ensures.most)
 
 pub returns-then-i-lt1 : goal.returns-then-i-lt1
 returns-then-i-lt1 c = near_start _ _ _ _ _ _ _ c.bound_of-bound.ensures (omega arith) c.lower_at-lower.ensures c.if-i-lt1.true
 
-pub overflow_add-other : goal.overflow_add-other
-overflow_add-other c = omega (arith, c.lower_at-lower.ensures.most)
-
 pub returns-then-count-other : goal.returns-then-count-other
 returns-then-count-other c = near_end _ _ _ _ _ _ _ c.bound_of-bound.ensures (omega arith) c.lower_at-lower.ensures c.if-count-other.true
-
-pub overflow_add-lower_at : goal.overflow_add-lower_at
-overflow_add-lower_at c = omega (arith, c.lower_at.ensures.most, c.lower_at-lower.ensures.most)
 
 pub returns-then-lower_at-lower-eq1 : goal.returns-then-lower_at-lower-eq1
 returns-then-lower_at-lower-eq1 c =

@@ -1,9 +1,11 @@
 -- The kind says how many bytes the cell has.
-use Rattle.cells.proofs.Values.{size_in, size_past}
+use Rattle.std.proofs.Common.{sym, ◌∙◌}
+use Rattle.cells.proofs.CellForm.{kind_some}
+use Rattle.cells.proofs.Values.{size_in, size_none}
 use Rattle.cells.proofs.find.size_at.Goals as goal
 
-pub returns-then-at-store : goal.returns-then-at-store
-returns-then-at-store c = size_in _ _ _ c.size_of.ensures
+pub returns-in-Some : goal.returns-in-Some
+returns-in-Some c = size_in _ _ _ (c.size.ensures ∙ sym (kind_some _ _ (sym c.at.ensures.told ∙ c.in-Some.is)))
 
-pub returns : goal.returns
-returns c = size_past _ _ c.if-at-store.false
+pub returns-in-None : goal.returns-in-None
+returns-in-None c = size_none _ _ (sym c.at.ensures.told ∙ c.in-None.is)

@@ -1,23 +1,35 @@
 -- The kind picks the test, as in the definition.
-use Rattle.std.proofs.Common.{arith}
-use Rattle.cells.proofs.CellForm.{size_integer, size_decimal, size_string}
+use Rattle.std.proofs.Common.{ℤ, Some, ap, ◌∙◌, arith}
+use Rattle.numbers.specs.Range.{within}
+use Rattle.cells.specs.Inner.Tests.{kind_size}
+use Rattle.cells.proofs.CellForm.{kind_integer, kind_decimal, kind_string}
+use Rattle.cells.proofs.Values.{bits_back}
 use Rattle.cells.proofs.Laws.{value_of_integer, value_of_decimal, value_of_string}
 use Rattle.cells.proofs.form.value_allowed.Goals as goal
 
 pub quad-requires : goal.quad-requires
-quad-requires c = omega (arith, size_integer _ c.if-kind-eq-INTEGER.true)
-
-pub returns-then-kind-eq-INTEGER : goal.returns-then-kind-eq-INTEGER
-returns-then-kind-eq-INTEGER c = value_of_integer _ _ c.if-kind-eq-INTEGER.true _ c.quad.ensures.0 c.number_allowed.ensures
+unfolding kind_size
+quad-requires c = let e = ap kind_size c.in-Integer.is in omega arith
 
 pub octet-requires : goal.octet-requires
-octet-requires c = omega (arith, size_decimal _ c.if-kind-eq-DECIMAL.true)
-
-pub returns-then-kind-eq-DECIMAL : goal.returns-then-kind-eq-DECIMAL
-returns-then-kind-eq-DECIMAL c = value_of_decimal _ _ c.if-kind-eq-INTEGER.false c.if-kind-eq-DECIMAL.true _ c.octet.ensures.0 c.number_allowed-then-kind-eq-DECIMAL.ensures
+unfolding kind_size
+octet-requires c = let e = ap kind_size c.in-Decimal.is in omega arith
 
 pub string_allowed-requires : goal.string_allowed-requires
-string_allowed-requires c = omega (arith, size_string _ c.if-kind-eq-INTEGER.false c.if-kind-eq-DECIMAL.false c.requires.0)
+unfolding kind_size
+string_allowed-requires c = let e = ap kind_size c.in-String.is in omega arith
 
-pub returns : goal.returns
-returns c = value_of_string _ _ c.if-kind-eq-INTEGER.false c.if-kind-eq-DECIMAL.false c.string_allowed.ensures
+pub returns-in-Integer : goal.returns-in-Integer
+returns-in-Integer c =
+    let k = kind_integer _ (c.requires.0 ∙ ap Some c.in-Integer.is) in
+    value_of_integer _ _ k _ c.quad.ensures.0 (c.number_allowed.ensures ∙ ap (λ (z : ℤ). within 2000000000 z) (bits_back 4294967295 _ _ c.signed_quad.ensures (omega arith) (omega arith)))
+
+pub returns-in-Decimal : goal.returns-in-Decimal
+returns-in-Decimal c =
+    let k = kind_decimal _ (c.requires.0 ∙ ap Some c.in-Decimal.is) in
+    value_of_decimal _ _ k.0 k.1 _ c.octet.ensures.0 (c.number_allowed-in-Decimal.ensures ∙ ap (λ (z : ℤ). within 2000000000000000 z) (bits_back 18446744073709551615 _ _ c.signed_octet.ensures (omega arith) (omega arith)))
+
+pub returns-in-String : goal.returns-in-String
+returns-in-String c =
+    let k = kind_string _ (c.requires.0 ∙ ap Some c.in-String.is) in
+    value_of_string _ _ k.0 k.1 c.string_allowed.ensures

@@ -1,12 +1,11 @@
--- The number goes up by half of the width, wraps, and comes down again.
-use Rattle.std.proofs.Common.{◌+◌, ◌%◌, arith, w64}
-use mir.ValLaws.{to_z_pos, to_z-of_z}
-use Rattle.cells.specs.Bytes.{from_complement}
-use Rattle.cells.proofs.Values.{signed_around, signed_fits}
+-- The bits of a number of 32 bits are read in two's complement.
+use Rattle.std.proofs.Common.{ℤ, ap, ◌∙◌, arith, w32, to_z, of_z}
+use Rattle.std.proofs.lemmas.Int.{of_z-to_z}
+use Rattle.cells.proofs.Values.{complement_quad, bits_back}
 use Rattle.cells.proofs.value.signed_quad.Goals as goal
 
-pub overflow_sub-result : goal.overflow_sub-result
-overflow_sub-result c = rw (to_z_pos w64 ((c.args.n + 2147483648) % 4294967296) (omega arith), signed_around c.args.n c.requires) (signed_fits 4294967295 c.args.n (omega (arith, c.requires)) (omega arith))
-
 pub returns : goal.returns
-returns c = rw (to_z_pos w64 ((c.args.n + 2147483648) % 4294967296) (omega arith), signed_around c.args.n c.requires) (to_z-of_z w64 (from_complement 4294967296 c.args.n) (signed_fits 4294967295 c.args.n (omega (arith, c.requires)) (omega arith)))
+returns c =
+    let n = c.args.n in
+    let back = ap (λ (z : ℤ). to_z w32 (of_z w32 z)) c.cast_signed.ensures ∙ ap (to_z w32) (of_z-to_z w32 n (omega arith)) in
+    bits_back 4294967295 n _ (c.from.ensures ∙ back ∙ complement_quad n (omega arith)) (omega arith) (omega arith)

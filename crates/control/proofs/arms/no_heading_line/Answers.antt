@@ -5,4 +5,4 @@ use Rattle.control.proofs.arms.no_heading_line.Goals as goal
 
 pub returns : goal.returns
 unfolding heading_in
-returns c = heads _ _ _ 0 _ _ _ _ _ refl c.put_word.ensures c.went.ensures
+returns c = heads _ _ _ 0 _ refl c.put.ensures

@@ -15,7 +15,7 @@ returns-in-Wrong c = let a = c.args in
 pub returns-in-Number : goal.returns-in-Number
 returns-in-Number c = let a = c.args in
     let s = strings a.line.now a.store.now a.rows.now in
-    number_put s a.worth _ _ _ _ _ _ _ c.requires _ _ c.in-Number.is c.places_in.ensures c.number-put.ensures c.stars-in-Number.ensures
+    number_put s a.worth _ _ _ _ _ _ _ c.requires _ c.in-Number.is c.number-put.ensures c.stars-in-Number.ensures
 
 pub returns-in-Text : goal.returns-in-Text
 returns-in-Text c = let a = c.args in

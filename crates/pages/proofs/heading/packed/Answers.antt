@@ -1,6 +1,7 @@
 -- Each part is in its place, and the parts are small enough that no sum wraps.
+use mathlib.Core.Path.{refl}
 use Rattle.pages.proofs.Heads.{read_back}
 use Rattle.pages.proofs.heading.packed.Goals as goal
 
 pub returns : goal.returns
-returns c = read_back _ _ c.requires (rw (← c.wide.ensures, ← c.wide-2.ensures, ← c.wide-3.ensures))
+returns c = read_back _ _ c.requires refl

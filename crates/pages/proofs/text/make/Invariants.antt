@@ -6,7 +6,7 @@ use Rattle.pages.proofs.text.make.Given as goal
 
 abbrev pub invariant-loop-at : goal.invariant-loop-at
 invariant-loop-at l =
-    InText (lent l.store l.index l.numbers l.strings l.words) l.scene l.line l.from l.initial.log l.counts l.at l.filled l.heard l.wrong l.log l.buffer
+    InText (lent l.store l.index l.numbers l.strings l.words) l.scene l.line l.from l.initial.log l.at l.filled l.wrong l.log l.buffer
 
 abbrev pub decreases-loop-at : goal.decreases-loop-at
 decreases-loop-at l =

@@ -1,29 +1,20 @@
-use mir.Val.{Fits}
-use mir.Syntax.{w64}
-use lib.ListN.{length}
-use Rattle.pages.proofs.Telling.{front_fits, front_length, tells_over, tells_wrong, front_room, tells_line, tells_full}
-use native.Mathlib.Omega.{arith}
+use Rattle.std.proofs.Common.{◌≡◌, Err, rules}
+use Rattle.pages.proofs.Telling.{front_length, tells_over, tells_wrong, tells_line, tells_full}
 use Rattle.pages.proofs.text.text_line.Goals as goal
 
-pub returns-in_default : goal.returns-in_default
-returns-in_default c = tells_over c.make-made.ensures _ c.requires.room _ _ c.in_default.is
+pub returns-in_err-made : goal.returns-in_err-made
+returns-in_err-made c =
+    let e : c.from_residual.result ≡ Err c.in_err-made.field-0.0 = search rules in
+    rw e (tells_over _ _ c.requires.room c.in_err-made.ensures)
 
-pub returns-then-wrong : goal.returns-then-wrong
-returns-then-wrong c = tells_wrong c.make-made.ensures _ c.requires.room c.in-Finished.is c.if-wrong.true
-
-pub slice_bounds-buffer-end : goal.slice_bounds-buffer-end
-slice_bounds-buffer-end c = front_fits c.make-made.ensures
+pub returns-then-made : goal.returns-then-made
+returns-then-made c = tells_wrong c.in_ok-made.ensures _ _ c.requires.room _ c.refused.ensures c.if-made.true
 
 pub slice_bounds-write-end : goal.slice_bounds-write-end
-slice_bounds-write-end c = front_length c.make-made.ensures
+slice_bounds-write-end c = front_length c.in_ok-made.ensures
 
-pub overflow_add-result : goal.overflow_add-result
-overflow_add-result c =
-    let long : Fits w64 (length c.args.text.now) = omega arith in
-    let h = front_room c.make-made.ensures _ c.requires.room c.in-Finished.is c.if-wrong.false _ _ c.write.ensures c.if-write.true in omega (arith, h, long)
-
-pub returns-then-write : goal.returns-then-write
-returns-then-write c = tells_line c.make-made.ensures _ c.requires.room c.in-Finished.is c.if-wrong.false _ _ c.write.ensures c.if-write.true
+pub returns-then-not-write : goal.returns-then-not-write
+returns-then-not-write c = tells_full c.in_ok-made.ensures _ _ c.requires.room c.if-made.false _ _ c.write.ensures _ c.cut.ensures c.if-not-write.true
 
 pub returns : goal.returns
-returns c = tells_full c.make-made.ensures _ c.requires.room c.in-Finished.is c.if-wrong.false _ _ c.write.ensures c.if-write.false
+returns c = tells_line c.in_ok-made.ensures _ _ c.requires.room c.if-made.false _ _ c.write.ensures c.if-not-write.false

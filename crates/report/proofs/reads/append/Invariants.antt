@@ -1,9 +1,5 @@
-use Prim.Native.Nat.{◌-◌}
 use Rattle.report.proofs.Appending.{Added}
 use Rattle.report.proofs.reads.append.Given as goal
 
 abbrev pub invariant-loop-i : goal.invariant-loop-i
 invariant-loop-i l = Added l.initial.reads l.log l.i l.reads
-
-abbrev pub decreases-loop-i : goal.decreases-loop-i
-decreases-loop-i l = l.log.n - l.i

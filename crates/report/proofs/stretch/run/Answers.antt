@@ -12,8 +12,8 @@ slice_bounds-part-count c = omega arith
 pub slice_bounds-part-end : goal.slice_bounds-part-end
 slice_bounds-part-end c = c.requires.stored
 
-pub overflow_sub-places : goal.overflow_sub-places
-overflow_sub-places c = c.requires.asked
+pub overflow_sub-log : goal.overflow_sub-log
+overflow_sub-log c = c.requires.asked
 
 pub loop-left-init : goal.loop-left-init
 loop-left-init c = let e : length c.args.s.saved.words ≡ 212 = search (rules, c.well_formed.1.1.1.1.1.0.1.1.1.1.1.0.1.1) in going_start _ _ _ _ _ c.args.s c.requires e
@@ -25,7 +25,7 @@ pub shape_of-text-then-end-at : goal.shape_of-text-then-end-at
 shape_of-text-then-end-at c = c.loop-left.invariant.text_same
 
 pub returns-then-end-at : goal.returns-then-end-at
-returns-then-end-at c = (run_ends _ _ _ _ _ c.args.s c.requires _ _ _ _ _ _ _ c.loop-left.invariant _ c.if-end-at.true c.over.ensures, refl)
+returns-then-end-at c = (run_ends _ _ _ _ _ c.args.s c.requires _ _ _ _ _ _ c.loop-left.invariant _ c.if-end-at.true c.over.ensures, refl)
 
 pub overflow_add-next : goal.overflow_add-next
 overflow_add-next c = search (rules, asked_fit)
@@ -33,23 +33,23 @@ overflow_add-next c = search (rules, asked_fit)
 pub full-requires : goal.full-requires
 full-requires c = tt
 
-pub shape_of-text-then-logged-gt180 : goal.shape_of-text-then-logged-gt180
-shape_of-text-then-logged-gt180 c = c.loop-left.invariant.text_same
+pub shape_of-text-then-log-gt180 : goal.shape_of-text-then-log-gt180
+shape_of-text-then-log-gt180 c = c.loop-left.invariant.text_same
 
-pub returns-then-logged-gt180 : goal.returns-then-logged-gt180
-returns-then-logged-gt180 c = (run_full _ _ _ _ _ c.args.s c.requires _ _ _ _ _ _ _ c.loop-left.invariant _ _ _ refl c.if-logged-gt180.true c.full.ensures, refl)
+pub returns-then-log-gt180 : goal.returns-then-log-gt180
+returns-then-log-gt180 c = (run_full _ _ _ _ _ c.args.s c.requires _ _ _ _ _ _ c.loop-left.invariant _ _ _ refl c.if-log-gt180.true c.full.ensures, refl)
 
-pub line-lined-requires : goal.line-lined-requires
-line-lined-requires c = line_ready _ _ _ _ _ c.args.s c.requires _ _ _ _ _ _ _ c.loop-left.invariant c.loop-left-test.true c.if-end-at.false c.if-logged-gt180.false
+pub line-ended-requires : goal.line-ended-requires
+line-ended-requires c = line_ready _ _ _ _ _ c.args.s c.requires _ _ _ _ _ _ c.loop-left.invariant c.loop-left-test.true c.if-end-at.false c.if-log-gt180.false
 
-pub over-requires-in_default : goal.over-requires-in_default
-over-requires-in_default c = let h = asked_next _ _ _ _ _ c.args.s c.requires _ _ _ _ _ _ _ c.loop-left.invariant c.loop-left-test.true c.if-end-at.false c.if-logged-gt180.false _ _ _ _ c.line-lined.ensures in omega (arith, h, c.struct_known-1.given)
+pub over-requires-in-Err : goal.over-requires-in-Err
+over-requires-in-Err c = let h = asked_next _ _ _ _ _ c.args.s c.requires _ _ _ _ _ _ c.loop-left.invariant c.loop-left-test.true c.if-end-at.false c.if-log-gt180.false _ _ _ _ _ _ c.in-Err.ensures in search (rules, h)
 
-pub shape_of-text-in_default : goal.shape_of-text-in_default
-shape_of-text-in_default c = text_next _ _ _ _ _ c.args.s c.requires _ _ _ _ _ _ _ c.loop-left.invariant c.loop-left-test.true c.if-end-at.false c.if-logged-gt180.false _ _ _ _ c.line-lined.ensures
+pub shape_of-text-in-Err : goal.shape_of-text-in-Err
+shape_of-text-in-Err c = text_next _ _ _ _ _ c.args.s c.requires _ _ _ _ _ _ c.loop-left.invariant c.loop-left-test.true c.if-end-at.false c.if-log-gt180.false _ _ _ _ _ _ c.in-Err.ensures
 
-pub returns-in_default : goal.returns-in_default
-returns-in_default c = (run_halts _ _ _ _ _ c.args.s c.requires _ _ _ _ _ _ _ c.loop-left.invariant c.loop-left-test.true c.if-end-at.false c.if-logged-gt180.false _ _ _ _ c.line-lined.ensures _ _ c.in_default.is _ c.over-in_default.ensures, refl)
+pub returns-in-Err : goal.returns-in-Err
+returns-in-Err c = (run_halts _ _ _ _ _ c.args.s c.requires _ _ _ _ _ _ c.loop-left.invariant c.loop-left-test.true c.if-end-at.false c.if-log-gt180.false _ _ _ _ _ _ c.in-Err.ensures _ c.over-in-Err.ensures, refl)
 
 pub overflow_sub-left : goal.overflow_sub-left
 overflow_sub-left c = c.loop-left-test.true
@@ -58,7 +58,7 @@ pub loop-left-smaller : goal.loop-left-smaller
 loop-left-smaller c = omega (arith, c.loop-left-test.true)
 
 pub loop-left-preserved : goal.loop-left-preserved
-loop-left-preserved c = going_next _ _ _ _ _ c.args.s c.requires _ _ _ _ _ _ _ c.loop-left.invariant c.loop-left-test.true c.if-end-at.false c.if-logged-gt180.false _ _ _ _ c.line-lined.ensures c.in-Finished.is
+loop-left-preserved c = going_next _ _ _ _ _ c.args.s c.requires _ _ _ _ _ _ c.loop-left.invariant c.loop-left-test.true c.if-end-at.false c.if-log-gt180.false _ _ _ _ _ _ c.in-Ok.ensures
 
 pub over-requires-then-due-end : goal.over-requires-then-due-end
 over-requires-then-due-end c = search (rules, asked_fit)
@@ -67,7 +67,7 @@ pub shape_of-text-then-due-end : goal.shape_of-text-then-due-end
 shape_of-text-then-due-end c = c.loop-left.invariant.text_same
 
 pub returns-then-due-end : goal.returns-then-due-end
-returns-then-due-end c = (run_exceeds _ _ _ _ _ c.args.s c.requires _ _ _ _ _ _ _ c.loop-left.invariant _ c.loop-left-test.false c.if-due-end.true c.over-then-due-end.ensures, refl)
+returns-then-due-end c = (run_exceeds _ _ _ _ _ c.args.s c.requires _ _ _ _ _ _ c.loop-left.invariant _ _ c.refused-stop.ensures c.loop-left-test.false c.if-due-end.true c.over-then-due-end.ensures, refl)
 
 pub over-requires-2 : goal.over-requires-2
 over-requires-2 c = search (rules, asked_fit)
@@ -76,7 +76,7 @@ pub shape_of-text : goal.shape_of-text
 shape_of-text c = c.loop-left.invariant.text_same
 
 pub returns : goal.returns
-returns c = (run_ends _ _ _ _ _ c.args.s c.requires _ _ _ _ _ _ _ c.loop-left.invariant _ c.if-due-end.false c.over-2.ensures, refl)
+returns c = (run_ends _ _ _ _ _ c.args.s c.requires _ _ _ _ _ _ c.loop-left.invariant _ c.if-due-end.false c.over-2.ensures, refl)
 
 pub slice_bounds-cells-count : goal.slice_bounds-cells-count
 slice_bounds-cells-count c = omega arith

@@ -1,20 +1,18 @@
--- The definition makes the code's test; a part is no longer than it may be.
+-- What is read is what the definition reads; its laws say the rest.
+use mathlib.Core.Path.{◌≡◌}
 use native.Mathlib.Omega.{arith}
-use borrow.Author.Tests.{le-ltb, lt-ltb}
-use lib.ListN.{length-take, drop}
+use Rattle.std.proofs.lemmas.Grind.{common_steps}
 use Rattle.scan.specs.Readers.Digits.{digits_at}
+use Rattle.scan.proofs.DigitLaws.{digits_within, digits_count, digits_below}
 use Rattle.scan.proofs.digits.digits_at.Goals as goal
-
-pub digits_of-requires : goal.digits_of-requires
-digits_of-requires c = rw c.part.ensures (omega (arith, length-take 10 (drop c.args.at c.args.line.now)))
-
-pub returns-then-most-gt10 : goal.returns-then-most-gt10
-unfolding digits_at
-returns-then-most-gt10 c = rw (lt-ltb _ _ c.if-most-gt10.true, ← c.part.ensures) c.digits_of.ensures
-
-pub digits_of-requires-2 : goal.digits_of-requires-2
-digits_of-requires-2 c = rw c.part-2.ensures (omega (arith, length-take c.args.most (drop c.args.at c.args.line.now)))
 
 pub returns : goal.returns
 unfolding digits_at
-returns c = rw (le-ltb _ _ c.if-most-gt10.false, ← c.part-2.ensures) c.digits_of-2.ensures
+returns c =
+    let e : c.digits_of.result ≡ digits_at c.args.line.now c.args.at c.args.most = grind (arith, common_steps) in
+    record {
+      value = e;
+      inside = λ h. digits_within c.args.line.now c.args.at c.args.most _ e (λ z. omega arith);
+      few = digits_count c.args.line.now c.args.at c.args.most _ e;
+      small = digits_below c.args.line.now c.args.at c.args.most _ e;
+    }

@@ -1,17 +1,13 @@
--- The loop keeps: the bytes passed and the run of the rest are the run of the whole.
-use mathlib.Core.Path.{sym, ◌∙◌}
-use Rattle.scan.proofs.RunLaws.{counted_end, counted_stop, counted_more}
+-- The place of the first byte outside the class is the length of the run.
+use Rattle.std.proofs.Common.{rules, ◌∙◌}
+use borrow.Author.Tests.{tests}
+use Rattle.std.proofs.lemmas.Iterator.{YieldsList-from_slice}
+use Rattle.std.proofs.lemmas.Iterator.Search.{position_from_yields_List}
+use Rattle.scan.proofs.RunLaws.{refuses, counted}
 use Rattle.scan.proofs.run.count.Goals as goal
 
-pub returns-then-not-belongs_to : goal.returns-then-not-belongs_to
-returns-then-not-belongs_to c =
-    let l = c.loop-i in
-    counted_stop _ _ l.i l.invariant c.loop-i-test.true (sym c.belongs_to.ensures ∙ c.if-not-belongs_to.true)
-
-pub loop-i-preserved : goal.loop-i-preserved
-loop-i-preserved c =
-    let l = c.loop-i in
-    counted_more _ _ l.i l.invariant c.loop-i-test.true (sym c.belongs_to.ensures ∙ c.if-not-belongs_to.false)
-
-pub returns : goal.returns
-returns c = counted_end _ _ c.loop-i.i c.loop-i.invariant c.loop-i-test.false
+pub returns-clause-value : goal.returns-clause-value
+returns-clause-value c =
+    let s = c.args.s.now in
+    let e = position_from_yields_List (refuses c.args.class) _ _ c.position.result c.position.ensures.ran (YieldsList-from_slice s cc) (λ x b q k. search (rules, tests)) in
+    c.unwrap_or.ensures ∙ counted _ s _ e

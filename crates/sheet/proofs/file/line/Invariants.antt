@@ -1,9 +1,6 @@
--- The loop keeps n within the buffer.
-use Rattle.std.proofs.Common.{length, ◌-◌, ◌≤◌}
+-- Of the bytes read so far each is kept.
+use Rattle.std.proofs.Common.{◌≤◌}
 use Rattle.sheet.proofs.file.line.Given as goal
 
-abbrev pub invariant-loop-n : goal.invariant-loop-n
-invariant-loop-n g l = l.n ≤ length l.buf
-
-abbrev pub decreases-loop-n : goal.decreases-loop-n
-decreases-loop-n g l = length l.initial.buf - l.n
+abbrev pub invariant-loop-slot : goal.invariant-loop-slot
+invariant-loop-slot g l = l.n ≤ l.slot-index

@@ -1,14 +1,9 @@
 -- The loop keeps: the search from its place on finds what the search from the start finds.
-use mathlib.Core.Path.{refl}
 use native.Mathlib.Omega.{arith}
 use Rattle.template.specs.Inner.Within.{Within}
 use Rattle.template.proofs.LineLaws.{part_line}
 use Rattle.template.proofs.SectionLaws.{section_none, section_here, section_later}
-use borrow.Author.Rules.{rules}
 use Rattle.template.proofs.sections.section_from.Goals as goal
-
-pub loop-at-init : goal.loop-at-init
-loop-at-init c = (refl, search rules)
 
 pub returns-then-selects_line : goal.returns-then-selects_line
 unfolding Within

@@ -23,19 +23,19 @@ returns-in_default c =
 pub returns-then-width-w : goal.returns-then-width-w
 returns-then-width-w c =
     let l = c.loop-at in
-    let e = sym c.piece_at.ensures ∙ c.in-PieceTo.is in
+    let e = sym c.piece_at.ensures ∙ c.in-Some.is in
     sym (fits_more _ l.at l.width _ _ c.loop-at-test.true e ∙ too_wide _ _ (omega (arith, c.width_of-w.ensures, c.if-width-w.true))) ∙ l.invariant.0
 
 pub loop-at-smaller : goal.loop-at-smaller
 loop-at-smaller c =
     let l = c.loop-at in
-    let e = sym c.piece_at.ensures ∙ c.in-PieceTo.is in
+    let e = sym c.piece_at.ensures ∙ c.in-Some.is in
     omega (arith, piece_ends _ l.at _ _ e)
 
 pub loop-at-preserved : goal.loop-at-preserved
 loop-at-preserved c =
     let l = c.loop-at in
-    let e = sym c.piece_at.ensures ∙ c.in-PieceTo.is in
+    let e = sym c.piece_at.ensures ∙ c.in-Some.is in
     (rw c.width_of-w.ensures (sym (fits_more _ l.at l.width _ _ c.loop-at-test.true e) ∙ l.invariant.0), search rules)
 
 pub returns : goal.returns

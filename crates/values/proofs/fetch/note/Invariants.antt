@@ -1,10 +1,8 @@
-use Rattle.values.proofs.Fetches.{Noted}
-use Rattle.values.specs.Inner.State.{step_of}
-use Prim.Native.Nat.{◌-◌}
+-- The first k words are in the log.
+use Rattle.values.specs.Inner.State.{step_of, words_from}
+use Rattle.values.specs.Inner.Logged.{with_words}
+use Rattle.std.proofs.Common.{◌≡◌}
 use Rattle.values.proofs.fetch.note.Given as goal
 
 abbrev pub invariant-loop-k : goal.invariant-loop-k
-invariant-loop-k l = Noted l.initial.log l.at (step_of l.along) l.word l.n l.log l.k
-
-abbrev pub decreases-loop-k : goal.decreases-loop-k
-decreases-loop-k l = l.n - l.k
+invariant-loop-k l = l.log ≡ with_words l.initial.log (words_from (step_of l.along) l.word l.k) l.k

@@ -1,14 +1,13 @@
--- The loop keeps: what lies before j is 0.
-use Rattle.values.proofs.Clearing.{clear_start, clear_next, clear_end}
-use mathlib.Core.Path.{refl}
+-- The row has 198 numbers, and all are filled.
+use mathlib.Core.Path.{◌≡◌, ap, ◌∙◌}
+use mathlib.Core.List.{[], append-nil}
+use Prim.Native.Nat.{ℕ}
 use native.Mathlib.Omega.{arith}
+use lib.IntN.{pos}
+use lib.ListN.{drop, replicate, drop_of_length-le}
 use Rattle.values.proofs.registers.clear_numbers.Goals as goal
 
-pub loop-j-init : goal.loop-j-init
-loop-j-init c = (clear_start _ _, omega arith)
-
-pub loop-j-preserved : goal.loop-j-preserved
-loop-j-preserved c = (clear_next _ _ _ _ c.loop-j.invariant.0 (omega (arith, c.requires, c.loop-j.invariant.0.same)) _ refl, omega arith)
-
 pub returns : goal.returns
-returns c = clear_end _ _ _ _ c.loop-j.invariant.0 198 c.loop-j-test.false c.loop-j.invariant.1
+returns c =
+    let e : drop 198 c.args.row.now ≡ [] = drop_of_length-le c.args.row.now {i = 198} (omega arith) in
+    rw (e, append-nil (replicate 198 (pos 0))) (c.fill.ensures.after (λ y e. e) ∙ ap (λ (n : ℕ). replicate n (pos 0)) c.told-row)

@@ -12,7 +12,7 @@ returns c =
     let a = c.args in
     let h = c.requires in
     let s = strings a.line.now a.store.now a.strings.now in
-    let e = c.bytes_of-bytes.ensures in
+    let e = c.bytes_of.ensures in
     let sixteen : length c.row_for-row.result ≡ 16 = search rules in
     let k = chosen_short a.line.now a.store.now c.row_for-row.result a.text.source h.short_line h.short_store (omega (arith, sixteen)) in
     (text_length s a.text _ _ c.row_for-row.ensures e, part_short _ (chosen a.line.now a.store.now c.row_for-row.result a.text.source) a.text.count a.text.at e k)

@@ -1,27 +1,40 @@
 -- No argument, a number, one or two: one law for each way that they end.
-use Rattle.values.proofs.Inputs.{askable_one, askable_first, askable_second, works_none, works_literal, works_one, works_over, works_two}
+use Rattle.std.proofs.Common.{◌≡◌, Err, rules}
+use Rattle.values.proofs.Inputs.{askable_one, askable_first, askable_second, works_none, works_literal, works_one, one_over, first_over, works_two, second_over}
 use Rattle.values.proofs.working.work_out.Goals as goal
 
-pub returns-in-Number : goal.returns-in-Number
-returns-in-Number c = works_literal _ _ _ _ _ _ _ _ _ _ _ _ _ _ c.literal_of-literal.ensures c.in-Number.is c.in-One.is
-
-pub argument_value-v-requires : goal.argument_value-v-requires
-argument_value-v-requires c = (askable_one _ _ _ c.requires.0 _ c.in-One.is, c.requires.1)
-
-pub argument_value-v-requires-in-Two : goal.argument_value-v-requires-in-Two
-argument_value-v-requires-in-Two c = (askable_first _ _ _ c.requires.0 _ _ c.in-Two.is, c.requires.1)
-
-pub returns-in_default-end : goal.returns-in_default-end
-returns-in_default-end c = works_over _ _ _ _ _ _ _ _ _ _ _ _ c.argument_value-v-in-Two.ensures _ c.in-Two.is _ _ c.in_default-end.is
-
-pub argument_value-w-requires : goal.argument_value-w-requires
-argument_value-w-requires c = (askable_second _ _ _ c.requires.0 _ _ _ c.in-Two.is c.argument_value-v-in-Two.ensures.yields.few, c.requires.1)
-
 pub returns-in-None : goal.returns-in-None
-returns-in-None c = works_none _ _ _ _ _ _ _ _ _ c.in-None.is
+returns-in-None c = works_none _ _ _ _ _ _ _ c.in-None.is
 
-pub returns-in_default : goal.returns-in_default
-returns-in_default c = works_one _ _ _ _ _ _ _ _ _ _ _ _ c.argument_value-v.ensures c.in-One.is
+pub returns-in-Some : goal.returns-in-Some
+returns-in-Some c = works_literal _ _ _ _ _ _ _ _ _ _ _ _ c.literal_of.ensures c.in-Some.is c.in-One.is
 
-pub returns-in-Finished : goal.returns-in-Finished
-returns-in-Finished c = works_two _ _ _ _ _ _ _ _ _ _ _ _ c.argument_value-v-in-Two.ensures _ c.in-Two.is _ _ c.argument_value-w.ensures c.in-Finished.is
+pub argument_value-requires : goal.argument_value-requires
+argument_value-requires c = (askable_one _ _ _ c.requires.0 _ c.in-One.is, c.requires.1)
+
+pub returns-in_err-v-in-One : goal.returns-in_err-v-in-One
+returns-in_err-v-in-One c =
+    let e : c.from_residual.result ≡ Err c.in_err-v-in-One.field-0.0 = search rules in
+    rw e (one_over _ _ _ _ _ _ _ _ _ _ c.in_err-v-in-One.ensures c.in-One.is)
+
+pub returns-in_ok-v-in-One : goal.returns-in_ok-v-in-One
+returns-in_ok-v-in-One c = works_one _ _ _ _ _ _ _ _ _ _ c.in_ok-v-in-One.ensures c.in-One.is
+
+pub argument_value-requires-in-Two : goal.argument_value-requires-in-Two
+argument_value-requires-in-Two c = (askable_first _ _ _ c.requires.0 _ _ c.in-Two.is, c.requires.1)
+
+pub returns-in_err-v-in-Two : goal.returns-in_err-v-in-Two
+returns-in_err-v-in-Two c =
+    let e : c.from_residual-in_err-v-in-Two.result ≡ Err c.in_err-v-in-Two.field-0.0 = search rules in
+    rw e (first_over _ _ _ _ _ _ _ _ _ _ c.in-Two.is _ c.in_err-v-in-Two.ensures)
+
+pub argument_value-requires-in-Two-2 : goal.argument_value-requires-in-Two-2
+argument_value-requires-in-Two-2 c = (askable_second _ _ _ c.requires.0 _ _ _ c.in-Two.is c.in_ok-v-in-Two.ensures.yields.few, c.requires.1)
+
+pub returns-in_err-w-in-Two : goal.returns-in_err-w-in-Two
+returns-in_err-w-in-Two c =
+    let e : c.from_residual-in_err-w-in-Two.result ≡ Err c.in_err-w-in-Two.field-0.0 = search rules in
+    rw e (second_over _ _ _ _ _ _ _ _ _ _ c.in-Two.is _ c.in_ok-v-in-Two.ensures _ _ c.in_err-w-in-Two.ensures)
+
+pub returns-in_ok-w-in-Two : goal.returns-in_ok-w-in-Two
+returns-in_ok-w-in-Two c = works_two _ _ _ _ _ _ _ _ _ _ c.in-Two.is _ c.in_ok-v-in-Two.ensures _ _ c.in_ok-w-in-Two.ensures

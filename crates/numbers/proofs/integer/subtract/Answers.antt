@@ -1,8 +1,0 @@
--- `integer::subtract` meets its contract.
-use Rattle.numbers.specs.Range.{integer_limit}
-use Rattle.numbers.specs.Arithmetic.{difference_of}
-use Rattle.numbers.proofs.Machine.{read₂}
-use Rattle.numbers.proofs.integer.subtract.Goals as goal
-
-pub returns : goal.returns
-returns c = read₂ (difference_of integer_limit) c.ranges.a c.ranges.b c.difference.ensures
