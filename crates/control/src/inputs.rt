@@ -1,6 +1,6 @@
 // The arguments of a line that are worked out before its command.
 ghost use Rattle.std.specs.Prelude.{◌≡◌};
-ghost use Rattle.control.specs.Inner.Forms.{optional_input, inputs_of};
+ghost use Rattle.control.specs.Inner.Forms.{optional_input, parsed_inputs};
 
 use arguments::argument::Argument;
 use lines::command::Line;
@@ -16,10 +16,14 @@ fn optional_input(optional: Option<Argument>) -> Inputs
     }
 }
 
-#[tactic(auto, unfolding(crate::specs::Inner::Forms::inputs_of))]
-pub fn inputs_of(form: Line) -> Inputs
-    ensures { result ≡ inputs_of form }
+// A line without a form has none.
+#[tactic(auto, unfolding(crate::specs::Inner::Forms::inputs_of, crate::specs::Inner::Forms::parsed_inputs))]
+pub fn inputs_of(parsed: Option<Line>) -> Inputs
+    ensures { result ≡ parsed_inputs parsed }
 {
+    let Some(form) = parsed else {
+        return Inputs::None;
+    };
     match form {
         Line::Set(_, _, a) | Line::IfNot(a) | Line::If(a) | Line::BeginTable(a) => Inputs::One(a),
         Line::Compare(_, a, b) => Inputs::Two(a, b),

@@ -36,7 +36,7 @@ pub fn line<'a>(
     let form = command::form_of(body).unwrap();
     let scene = flow::scene_of(words, *flow, flow.line);
     *flow = flow::past(*flow, body.len());
-    let arguments = inputs::inputs_of(form);
+    let arguments = inputs::inputs_of(Some(form));
     let (first, second) = working::work_out(
         body, store, index, numbers, strings, words, scene, arguments, log,
     )?;

@@ -51,6 +51,27 @@ by_letter {A} j b (e ∷ es) l at q = go (letter_fits e.0 j b) refl (stands_at e
     go false p true x r = absurd (false≢true (sym p ∙ stands_fits e.0 l at j b q x))
     go false p false x r = r
 
+-- what is known of the line behind a place: its j-th byte is b
+pub record Letter : Type 0 where
+  pub place : ℕ
+  pub byte : ℕ
+
+infixr 5 ◌and◌
+pub data Known (l : List ℕ) (at : ℕ) : List Letter → Type 0 where
+  none : Known l at []
+  ◌and◌ : {j b : ℕ} {xs : List Letter} → byte_at l (at + j) ≡ b → Known l at xs → Known l at (record { place = j; byte = b } ∷ xs)
+
+-- the words that may stand where the letters are known
+unfoldable pub fitting_all : {A : Type 0} → List Letter → List (List ℕ × A) → List (List ℕ × A)
+fitting_all [] es = es
+fitting_all (x ∷ xs) es = fitting_all xs (fitting x.place x.byte es)
+
+-- Only words with the letters that are known can be found.
+pub by_letters : {A : Type 0} (xs : List Letter) (es : List (List ℕ × A)) (l : List ℕ) (at : ℕ) → Known l at xs → word_at es l at ≡ word_at (fitting_all xs es) l at
+unfolding fitting_all
+by_letters [] es l at none = refl
+by_letters (x ∷ xs) es l at (q and k) = by_letter x.place x.byte es l at q ∙ by_letters xs (fitting x.place x.byte es) l at k
+
 -- by the byte that the code read there
 pub by_first : {A : Type 0} (b : ℕ) (es : List (List ℕ × A)) (l : List ℕ) (at : ℕ) {r : ℕ} → r ≡ byte_at l at → r ≡ b → word_at (fitting 0 b es) l at ≡ word_at es l at
 by_first b es l at e q = let k : byte_at l (at + 0) ≡ b = rw add-zero (sym e ∙ q) in sym (by_letter 0 b es l at k)

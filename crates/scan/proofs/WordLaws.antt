@@ -1,15 +1,19 @@
 -- Laws of fixed byte strings, and of the loop that compares them.
-use Rattle.std.specs.Prelude.{Option, Some}
-use mathlib.Core.Path.{◌≡◌, refl}
-use mathlib.Core.Bool.{Bool, true, false, cond}
+use Rattle.std.specs.Prelude.{Option, Some, None, map}
+use Rattle.std.specs.Option.{is_some}
+use mathlib.Core.Path.{◌≡◌, refl, sym, ap, ◌∙◌}
+use mathlib.Core.Bool.{Bool, true, false, cond, false≢true}
 use mathlib.Core.List.{List, [], ◌∷◌}
-use Prim.Native.Nat.{ℕ, ◌+◌}
+use Prim.Native.Nat.{ℕ, suc, ◌+◌, ◌<◌, ◌≤◌}
 use lib.Dec.{eqb}
-use lib.ListN.{length}
+use lib.ListN.{length, get_or, drop}
+use lib.Seq.{drop-cons}
+use native.Mathlib.Numerals.{add-one}
+use Rattle.std.proofs.Common.{drop_of_length-le}
 use Rattle.std.specs.Prelude.{nat_eq, ◌&&◌}
 use Rattle.std.specs.List.{starts_with}
 use Rattle.scan.specs.Words.{begins, stands_at, Spelled, first_of}
-use Rattle.scan.specs.Inner.Tables.{word_at, word_or}
+use Rattle.scan.specs.Inner.Tables.{word_at, word_else, word_or}
 use Rattle.scan.proofs.TestLaws.{picked}
 
 -- the front of a list is compared with the word
@@ -52,3 +56,29 @@ unfolding first_of
 found_form P none [] l at x all = x
 found_form P none (e ∷ es) l at x (h besides hs) =
     picked P (stands_at e.word l at) (h (at + length e.word)) (found_form P none es l at x hs)
+
+-- ---- a search among some words, from one to the next
+
+module _ {A B : Type 0} (f : B → List ℕ × A) (ws : List B) (l : List ℕ) (at i : ℕ) {w : Option (A × ℕ)} (left : word_at (map f (drop i ws)) l at ≡ w) where
+  pub search_end : length ws ≤ i → None ≡ w
+  unfolding word_at
+  search_end h = ap (λ (s : List B). word_at (map f s) l at) (sym (drop_of_length-le ws h)) ∙ left
+
+  module _ (x : B) (same : x ≡ get_or ws i x) (inside : i < length ws) {r : Option (A × ℕ)} (e : r ≡ word_else (f x).0 l at (f x).1 None) where
+    here : word_else (f x).0 l at (f x).1 (word_at (map f (drop (i + 1) ws)) l at) ≡ w
+    unfolding word_at
+    here = rw (add-one i) (ap (λ (y : B). word_at (map f (y ∷ drop (suc i) ws)) l at) same ∙ ap (λ (s : List B). word_at (map f s) l at) (sym (drop-cons ws i x inside)) ∙ left)
+
+    pub search_found : is_some r ≡ true → r ≡ w
+    search_found = go (stands_at (f x).0 l at) e here
+      where
+        go : (b : Bool) → r ≡ cond b (Some ((f x).1, at + length (f x).0)) None → cond b (Some ((f x).1, at + length (f x).0)) (word_at (map f (drop (i + 1) ws)) l at) ≡ w → is_some r ≡ true → r ≡ w
+        go true q k t = q ∙ k
+        go false q k t = absurd (false≢true (sym (ap is_some q) ∙ t))
+
+    pub search_more : is_some r ≡ false → word_at (map f (drop (i + 1) ws)) l at ≡ w
+    search_more = go (stands_at (f x).0 l at) e here
+      where
+        go : (b : Bool) → r ≡ cond b (Some ((f x).1, at + length (f x).0)) None → cond b (Some ((f x).1, at + length (f x).0)) (word_at (map f (drop (i + 1) ws)) l at) ≡ w → is_some r ≡ false → word_at (map f (drop (i + 1) ws)) l at ≡ w
+        go true q k t = absurd (false≢true (sym t ∙ ap is_some q))
+        go false q k t = k

@@ -7,6 +7,7 @@
 // digits::digits_at, number_at   a run of digits and its value; a number without leading zeros
 // words::begins_with             whether a line has a fixed byte string at a place
 // words::word_or                 what a fixed byte string is for, or what else was found
+// words::word_at                 the first of some fixed byte strings, with what it is for
 #![tactic(auto)]
 
 pub mod run; // run.rt: classes of bytes and runs of them

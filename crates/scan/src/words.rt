@@ -1,7 +1,7 @@
 // Fixed byte strings in a line.
-ghost use Rattle.std.specs.Prelude.{◌≡◌, ◌≤◌, ◌-◌, IsTrue, length};
+ghost use Rattle.std.specs.Prelude.{◌≡◌, ◌≤◌, ◌-◌, IsTrue, length, map};
 ghost use Rattle.scan.specs.Words.{stands_at};
-ghost use Rattle.scan.specs.Inner.Tables.{word_else};
+ghost use Rattle.scan.specs.Inner.Tables.{word_at, word_else};
 
 use crate::bytes;
 
@@ -28,4 +28,17 @@ pub fn word_or<T: Copy>(
         return Some((kind, at + word.len()));
     }
     other
+}
+
+// The first of some words that stands in the line at a place: what it is for, and the place behind it.
+pub fn word_at<T: Copy>(line: &[u8], at: usize, words: &[(&[u8], T)]) -> Option<(T, usize)>
+    ensures { result ≡ word_at (map (λ e. (e.0.now, e.1)) words.now) line.now at }
+{
+    for entry in words {
+        let found = word_or(line, at, entry.0, entry.1, None);
+        if found.is_some() {
+            return found;
+        }
+    }
+    None
 }

@@ -28,7 +28,7 @@ fn print<'a>(
     store: &'a [u8],
 ) -> io::Result<()> {
     let mut text = [0u8; 65536];
-    let made = printing::sheet(template, section, store, &mut text);
+    let made = printing::sheet(template, section, store, store.len(), &mut text);
     let n = made.bytes;
     rt.write_all(&text[..n])?;
     close(rt, made)

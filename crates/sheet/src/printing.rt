@@ -7,17 +7,29 @@ use meaning::question::Question;
 use report::{Report, reporting};
 
 // "its read list 4,096 places"
-fn printed<'a>(template: &'a [u8], section: &'a [u8], store: &'a [u8], text: &mut [u8]) -> Report
-    ensures { Printed template.now section.now store.now (length store.now) text.old text.new result }
+fn printed<'a>(
+    template: &'a [u8],
+    section: &'a [u8],
+    store: &'a [u8],
+    len: usize,
+    text: &mut [u8],
+) -> Report
+    ensures { Printed template.now section.now store.now len text.old text.new result }
 {
     let mut reads = [Question::default(); 4096];
-    reporting::report(template, section, store, store.len(), text, &mut reads)
+    reporting::report(template, section, store, len, text, &mut reads)
 }
 
 // "Its text buffer has 65,536 bytes"
-pub fn sheet<'a>(template: &'a [u8], section: &'a [u8], store: &'a [u8], text: &mut [u8]) -> Report
+pub fn sheet<'a>(
+    template: &'a [u8],
+    section: &'a [u8],
+    store: &'a [u8],
+    len: usize,
+    text: &mut [u8],
+) -> Report
     requires { length text.old ≡ 65536 }
-    ensures { (Sheet template.now section.now store.now (length store.now) text.old text.new result) × (Fits text.new result) }
+    ensures { (Sheet template.now section.now store.now len text.old text.new result) × (Fits text.new result) }
 {
-    printed(template, section, store, text)
+    printed(template, section, store, len, text)
 }

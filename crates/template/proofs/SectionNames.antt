@@ -2,19 +2,18 @@
 use mathlib.Core.Path.{◌≡◌, refl, sym, ap, ◌∙◌}
 use mathlib.Core.Bool.{Bool, true, false, cond, ◌&&◌, false≢true}
 use mathlib.Core.List.{List, [], ◌∷◌}
-use Prim.Native.Nat.{ℕ, zero, suc, ◌+◌, ◌≤◌}
+use Prim.Native.Nat.{ℕ, zero, suc, ◌+◌, ◌<◌, ◌≤◌}
+use native.Mathlib.Numerals.{add-one}
 use native.Mathlib.Omega.{arith}
 use borrow.Author.Tests.{eqb-true, eqb-false, eq-eqb, ne_eqb, ltb-true, ltb-false, le-ltb}
-use lib.Dec.{eqb}
-use lib.ListN.{length, take, drop, length-take, length-drop}
-use lib.Seq.{drop-drop}
+use lib.Dec.{eqb, ltb}
+use lib.ListN.{length, get_or, take, drop, length-take, length-drop}
+use lib.Seq.{drop-cons, drop-drop}
+use Rattle.scan.proofs.RunLaws.{span_end, span_stop, span_more}
 use Rattle.scan.specs.declared.run.Class.{Class}
 use Rattle.scan.specs.declared.run.Class.TheVariants.{InLine}
-use Rattle.std.specs.Prelude.{Some}
-use Rattle.std.specs.Ordering.{is_lt, is_some_and, nat_cmp}
-use Rattle.std.specs.Cmp.Lexicographic.{slice_partial_cmp, pointwise}
-use Rattle.std.proofs.lemmas.Cmp.{same_from_slice_cmp_tested}
-use Rattle.std.proofs.lemmas.Bool.Decides.{nat_tests}
+use Rattle.std.specs.Cmp.Lexicographic.{pointwise}
+use Rattle.std.proofs.Common.{drop_of_length-le}
 use Rattle.scan.specs.Run.{belongs, span}
 use Rattle.scan.specs.Line.{line_of, line_at, window}
 use Rattle.scan.specs.Words.{begins}
@@ -83,10 +82,40 @@ name_in_place t line name at e o n = go (begins section_word line) refl
 
 -- ---- the order, byte by byte
 
--- `<` of two slices is the order of names
-pub below_law : (a b : List ℕ) (r : Bool) → r ≡ is_some_and is_lt (slice_partial_cmp (λ x y. Some (nat_cmp x y)) a b) → r ≡ is_below a b
-unfolding is_below
-below_law = same_from_slice_cmp_tested nat_cmp is_lt is_below refl (λ _ _. refl) (λ _ _. refl) (λ x y xs ys o h. grind (arith, nat_tests))
+in_line : (b : ℕ) → (b ≡ 10 → ⊥) → belongs InLine b ≡ true
+unfolding belongs
+in_line b n = rw (ne_eqb b 10 n)
+
+a_line_end : (b : ℕ) → b ≡ 10 → belongs InLine b ≡ false
+unfolding belongs
+a_line_end b e = rw (eq-eqb b 10 e)
+
+module _ (rest name : List ℕ) (i : ℕ) {w : Bool} (inv : is_below (line_of (drop i rest)) (drop i name) ≡ w) where
+  pub below_end : length name ≤ i → false ≡ w
+  unfolding is_below
+  below_end h = sym (rw (drop_of_length-le name h) (never (line_of (drop i rest)))) ∙ inv
+    where
+      never : (s : List ℕ) → is_below s [] ≡ false
+      never [] = refl
+      never (x ∷ s) = refl
+
+  module _ (h : i < length name) where
+    pub below_short : length rest ≤ i → true ≡ w
+    unfolding is_below
+    below_short k = sym (rw (span_end InLine rest i k, drop-cons name i 0 h)) ∙ inv
+
+    pub below_line_end : i < length rest → get_or rest i 0 ≡ 10 → true ≡ w
+    unfolding is_below
+    below_line_end k e = sym (rw (span_stop InLine rest i k (a_line_end _ e), drop-cons name i 0 h)) ∙ inv
+
+    module _ (k : i < length rest) (n : get_or rest i 0 ≡ 10 → ⊥) where
+      pub below_here : (get_or rest i 0 ≡ get_or name i 0 → ⊥) → ltb (get_or rest i 0) (get_or name i 0) ≡ w
+      unfolding is_below
+      below_here d = sym (rw (span_more InLine rest i k (in_line _ n), drop-cons name i 0 h, ne_eqb _ _ d)) ∙ inv
+
+      pub below_more : get_or rest i 0 ≡ get_or name i 0 → is_below (line_of (drop (i + 1) rest)) (drop (i + 1) name) ≡ w
+      unfolding is_below
+      below_more e = rw (add-one i) (sym (rw (span_more InLine rest i k (in_line _ n), add-one i, drop-cons name i 0 h, eq-eqb _ _ e)) ∙ inv)
 
 -- `==` of two slices is that they are as long and the one begins the other
 suc_eqb : (m n : ℕ) → eqb (suc m) (suc n) ≡ eqb m n

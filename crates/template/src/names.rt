@@ -27,9 +27,20 @@ pub fn same_bytes(a: &[u8], b: &[u8]) -> bool
 }
 
 // Whether some bytes up to their line end come before a name, by the first byte in which they differ.
-#[tactic(auto, using(crate::proofs::SectionNames::below_law))]
+// Byte by byte: with the line end sought first and then `<` of slices, check 5 took half as long again.
 pub fn is_below(rest: &[u8], name: &[u8]) -> bool
     ensures { result ≡ is_below (line_of rest.now) name.now }
 {
-    scan::bytes::line_of(rest) < name
+    for (i, &b) in name.iter().enumerate() {
+        let Some(&a) = rest.get(i) else {
+            return true;
+        };
+        if a == b'\n' {
+            return true;
+        }
+        if a != b {
+            return a < b;
+        }
+    }
+    false
 }

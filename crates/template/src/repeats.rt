@@ -39,12 +39,13 @@ fn stands_in(template: &[u8], places: &[u16], count: usize, i: usize, name: &[u8
     i < count && names::same_bytes(name, scan::bytes::line_of(eight_at(template, places[i])))
 }
 
-// A place more in the row, at a position.
+// A place more in the row, at a position. What stands from there on is moved as a row of its own: the
+// compiler makes one memmove of a move from a row's start on.
 fn insert(places: &mut [u16], count: usize, i: usize, at: usize)
     requires { (count < length places.old) × (i ≤ count) × (at < 65536) }
     ensures { Inserted places.old count i at places.new }
 {
-    places.copy_within(i..count, i + 1);
+    places[i..].copy_within(..count - i, 1);
     places[i] = at as u16;
 }
 

@@ -61,6 +61,8 @@ pub fn field_at(line: &[u8], at: usize) -> Option<(Field, usize)>
     ))
 }
 
+// Its answer goes through memory where it isn't inlined, once for every byte of a text.
+#[inline(always)]
 #[tactic(auto, unfolding(crate::specs::Readers::Text::piece_at, crate::specs::Readers::Text::placed))]
 pub fn piece_at(line: &[u8], at: usize) -> Option<(Piece, usize)>
     ensures { result ≡ piece_at line.now at }

@@ -42,6 +42,11 @@ inputs_of (form.Heading n from) = inputs.None
 inputs_of (form.NoHeading n) = inputs.None
 inputs_of form.Remark = inputs.None
 
+-- a line without a form has none
+unfoldable pub parsed_inputs : Option Line → Inputs
+parsed_inputs None = inputs.None
+parsed_inputs (Some x) = inputs_of x
+
 -- refused, or the state that follows from a result
 abbrev pub settling : {A : Type 0} → ℕ → Settled A → (A → State) → Meaning State
 settling l x g = bind (concluded l x) (λ y. done (g y))
